@@ -1,7 +1,7 @@
 //! Texts by the words of a dictionary: a tokenizer that cuts lines, and a filter that searches them for keywords.
 
 use crate::digest::Digest;
-use crate::made::{Scale, placed};
+use crate::made::{Scale, pairs_of};
 use crate::words::{chinese, keywords, log_lines, prose, western};
 use anyhow::Result;
 use cedar_words::{cheapest, cheapest_by_characters, leftmost_longest, matches, segment};
@@ -32,7 +32,7 @@ fn cut_lines(alloc: Global, scale: Scale, digest: &mut Digest) -> Result<()> {
         &names.all(alloc)?,
         scale.of(60_000),
     )?;
-    let file = saved(alloc, &words)?;
+    let file = save_words(alloc, &words)?;
     let cedar = Cedar::load_from_reader(alloc, &mut file.as_slice())?;
     let mut turn: usize = 0;
     for line in lines.all(alloc)? {
@@ -59,8 +59,8 @@ fn cut_lines(alloc: Global, scale: Scale, digest: &mut Digest) -> Result<()> {
 }
 
 /// Returns the bytes of a file of words, whose values are their places in a list.
-fn saved(alloc: Global, words: &[&[u8]]) -> Result<Vec<u8>> {
-    let pairs = placed(alloc, words)?;
+fn save_words(alloc: Global, words: &[&[u8]]) -> Result<Vec<u8>> {
+    let pairs = pairs_of(alloc, words)?;
     let cedar = Cedar::from_pairs_bytes(alloc, &pairs)?;
     let mut writer = Watched::new(Vec::new(alloc));
     cedar.save_to_writer(&mut writer)?;
@@ -93,7 +93,7 @@ fn filter_lines(alloc: Global, scale: Scale, digest: &mut Digest) -> Result<()> 
         scale.of(90_000),
     )?;
     let mut cedar = Cedar::new(alloc)?;
-    cedar.update_batch(&placed(alloc, &words)?)?;
+    cedar.update_batch(&pairs_of(alloc, &words)?)?;
     let mut turn: usize = 0;
     for line in lines.all(alloc)? {
         turn = turn.wrapping_add(1);

@@ -1,6 +1,6 @@
 -- The words of clauses, from one place.
 pub use Rattle.cedar_bulk.specs.Asked.{IsUnfilled, WantsBase, WantsChain, WantsLabel, WantsLabels, WantsNumber, WantsSlots}
-pub use Rattle.cedar_bulk.specs.Packed.{crowded_forest, IsPacked, PacksSpan, PacksTail, PacksTurn}
+pub use Rattle.cedar_bulk.specs.Packed.{count_crowded_forest, IsPacked, PacksSpan, PacksTail, PacksTurn}
 pub use Rattle.cedar_bulk.specs.Sorted.{entries_by, Fills, GetsBase, GetsLabels, GetsNumber, GoesLast, run, slot_labels}
 pub use Rattle.cedar_bulk.specs.SortedMarks.{KeepsOwn, SortedMarks}
 pub use Rattle.cedar_bulk.specs.Spans.{Filling, first_label, first_number, GoesOnAlike, IsDeeper, IsTreeOfSpan, Lists, Part, part_of, parts_of}

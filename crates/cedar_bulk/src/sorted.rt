@@ -1,7 +1,7 @@
 //! A table made from sorted pairs: each node gets all of its slots at once, the last child's subtree first.
 
 ghost use Rattle.std.specs.Prelude.{◌*◌, ◌++◌, ◌+◌, ◌<◌, ◌∷◌, ◌≡◌, ◌≢◌, ◌≤ℤ◌, ◌≤◌, [], IfErr, IfOk, length, List, None, OnErr, OnOk, option_to_list, pos, true, ℕ};
-ghost use Rattle.cedar_bulk.specs.Words.{AddsChildren, AllByRecursion, ArePathsAscending, ArePathsKeys, asc, AtBase, cells, CoversChildren, crowded_forest, empty_tree, EndsFilling, entries_by, fields, Filling, FillsSpan, FillsTail, Forest, GoesOnAlike, HasBlocksFor, HoldsTree, is_value, IsPacked, IsSlotLimit, IsTable, IsTreeOfSpan, IsUnfilled, IsWellFormed, KeepsOwnOf, labels, LacksMemoryOr, MakesBlocks, marks, MayRefuse, none, OfTree, Packs, PacksSpan, PacksTail, PacksTurn, Part, part_of, parts_of, prefixes, prefixes_forest, SameModes, SameSettings, size_of, SlotLimit, SortedMarks, TakesOne, TakesTurn, Tree, tree_of, WantsMore, WantsMoreThan};
+ghost use Rattle.cedar_bulk.specs.Words.{AddsChildren, AllByRecursion, ArePathsAscending, ArePathsKeys, asc, AtBase, cells, count_crowded_forest, CoversChildren, empty_tree, EndsFilling, entries_by, fields, Filling, FillsSpan, FillsTail, Forest, GoesOnAlike, HasBlocksFor, HoldsTree, is_value, IsPacked, IsSlotLimit, IsTable, IsTreeOfSpan, IsUnfilled, IsWellFormed, KeepsOwnOf, labels, LacksMemoryOr, MakesBlocks, marks, MayRefuse, none, OfTree, Packs, PacksSpan, PacksTail, PacksTurn, Part, part_of, parts_of, prefixes, prefixes_forest, SameModes, SameSettings, size_of, SlotLimit, SortedMarks, TakesOne, TakesTurn, Tree, tree_of, WantsMore, WantsMoreThan};
 
 use crate::fill::{fill_node, name_alone};
 use crate::spans::{
@@ -190,7 +190,7 @@ fn fill<L: Layout, const SLOTS: usize, A: Allocator, K: AsSlice<u8>>(
     ensures filled { OnOk result (OfTree (entries_by K.items pairs.now) (λ f. Filling SLOTS (fields table.new) [] f (1 + length (prefixes_forest f)))) }
     ensures refused { IfErr result (LacksMemoryOr (OfTree (entries_by K.items pairs.now) (λ f. SLOTS ≤ 256 * length (prefixes_forest f)))) }
     ensures blocks { (n : ℕ) × MakesBlocks n (fields table.old) (fields table.new) }
-    ensures packs { OnOk result (OfTree (entries_by K.items pairs.now) (λ f. Packs (length (labels f)) (256 * crowded_forest f) (fields table.new))) }
+    ensures packs { OnOk result (OfTree (entries_by K.items pairs.now) (λ f. Packs (length (labels f)) (256 * count_crowded_forest f) (fields table.new))) }
     ensures root_check { (cells table.new).check 0 ≡ (cells table.old).check 0 }
     ensures settings { SameSettings (fields table.old) (fields table.new) }
 {

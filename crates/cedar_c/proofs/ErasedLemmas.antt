@@ -3,7 +3,7 @@ use Rattle.std.proofs.Common.{◌≡◌, ◌∙◌, ◌↔◌, ℕ, ◌+◌, ◌
 use Rattle.std.proofs.lemmas.List.{get_or-map, length-map, length-take-le, take_more}
 use Rattle.std.proofs.lemmas.List.Sums.{fold-append}
 use Rattle.cedar_tree.specs.Queries.{walk}
-use Rattle.cedar_tree.specs.State.{State, erased}
+use Rattle.cedar_tree.specs.State.{State, after_erase}
 use Rattle.cedar_tree.specs.Tree.{cut, number_at}
 use Rattle.cedar_tree.proofs.EntryLemmas.Counts.{length-walk-cut}
 use Rattle.cedarwood.specs.Batches.{held_in_turn, keys_erased}
@@ -15,7 +15,7 @@ pub erased_fewer : (s : State) (ks : List (List ℕ)) → length (walk (keys_era
 erased_fewer s [] = omega arith
 erased_fewer s (k ∷ ks) =
     let one : length (walk (cut s.tree k)) + cond (is_some (number_at s.tree k)) 1 0 ≡ length (walk s.tree) = length-walk-cut s.tree k in
-    let later : length (walk (keys_erased (erased s k) ks).tree) ≤ length (walk (cut s.tree k)) = erased_fewer (erased s k) ks in
+    let later : length (walk (keys_erased (after_erase s k) ks).tree) ≤ length (walk (cut s.tree k)) = erased_fewer (after_erase s k) ks in
     omega (arith, one, later)
 
 held_as : {X : Type 0} (b : Bool) (o : Option X) → IsTrue b ↔ IsSome o → b ≡ is_some o
@@ -27,11 +27,11 @@ held_as false None h = refl
 -- one key more is answered
 held_more : (s : State) (ks : List (List ℕ)) (k : List ℕ) → held_in_turn s (ks ++ k ∷ []) ≡ held_in_turn s ks ++ is_some (number_at (keys_erased s ks).tree k) ∷ []
 held_more s [] k = refl
-held_more s (x ∷ xs) k = ap (λ (bs : List Bool). is_some (number_at s.tree x) ∷ bs) (held_more (erased s x) xs k)
+held_more s (x ∷ xs) k = ap (λ (bs : List Bool). is_some (number_at s.tree x) ∷ bs) (held_more (after_erase s x) xs k)
 
 held_count : (s : State) (ks : List (List ℕ)) → length (held_in_turn s ks) ≡ length ks
 held_count s [] = refl
-held_count s (x ∷ xs) = ap (λ n. suc n) (held_count (erased s x) xs)
+held_count s (x ∷ xs) = ap (λ n. suc n) (held_count (after_erase s x) xs)
 
 -- an answer more is written, if there is room for it
 written : (answers old : List Bool) (b : Bool)
@@ -54,11 +54,11 @@ module _ (s t : State) (keys : List Key) (i : ℕ) (inside : i < length keys) wh
       take_more ks i [] within ∙ ap (λ (k : List ℕ). take i ks ++ k ∷ []) (get_or-map (λ (k : Key). k.key.now) keys i d [] inside)
 
   -- it is erased too
-  pub erased_more : (u : State) (d : Key) → t ≡ keys_erased s (take i (named_keys keys)) → u ≡ erased t (get_or keys i d).key.now → u ≡ keys_erased s (take (i + 1) (named_keys keys))
+  pub erased_more : (u : State) (d : Key) → t ≡ keys_erased s (take i (named_keys keys)) → u ≡ after_erase t (get_or keys i d).key.now → u ≡ keys_erased s (take (i + 1) (named_keys keys))
   erased_more u d so_far last =
       let ks : List (List ℕ) = take i (named_keys keys) in
       let k : List ℕ = (get_or keys i d).key.now in
-      last ∙ ap (λ (x : State). erased x k) so_far ∙ sym (fold-append erased s ks (k ∷ [])) ∙ ap (keys_erased s) (sym (more d))
+      last ∙ ap (λ (x : State). after_erase x k) so_far ∙ sym (fold-append after_erase s ks (k ∷ [])) ∙ ap (keys_erased s) (sym (more d))
 
   -- and told
   pub told_more : (d : Key) (old held after : List Bool) (b : Bool) → t ≡ keys_erased s (take i (named_keys keys)) → IsTrue b ↔ IsSome (number_at t.tree (get_or keys i d).key.now)

@@ -9,8 +9,8 @@ use Rattle.cedar_c.specs.declared.walks.Match.{Match}
 abbrev pub longer : ℕ → ℤ × ℕ → ℤ × ℕ
 longer more found = (found.0, found.1 + more)
 
-abbrev pub lengthened : ℕ → List (ℤ × ℕ) → List (ℤ × ℕ)
-lengthened more found = map (longer more) found
+abbrev pub all_longer : ℕ → List (ℤ × ℕ) → List (ℤ × ℕ)
+all_longer more found = map (longer more) found
 
 -- these lengths are numbers of 64 bits
 abbrev pub Fit : ℕ → List (ℤ × ℕ) → Type 0
@@ -19,7 +19,7 @@ Fit more (f ∷ fs) = (f.1 + more < 2 ^ 64) × Fit more fs
 
 -- the keys that a text begins with, the shortest first: number and length
 abbrev pub front_keys : Tree → List ℕ → List (ℤ × ℕ)
-front_keys t text = lengthened 1 (front t text)
+front_keys t text = all_longer 1 (front t text)
 
 -- the keys that begin with a text, in the order of the walk: number and length
 abbrev pub predicted_keys : Tree → List ℕ → List (ℤ × ℕ)

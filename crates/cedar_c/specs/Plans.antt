@@ -5,7 +5,7 @@ use Rattle.cedar_journal.specs.declared.format.Format.TheVariants.{Plain, Summed
 use Rattle.cedar_journal.specs.declared.records.Extent.{Extent}
 use Rattle.cedar_journal.specs.Files.{HasExtent}
 use Rattle.cedar_journal.specs.Formats.{overhead}
-use Rattle.cedar_disk.specs.Calls.{Call, opened, seen_after}
+use Rattle.cedar_disk.specs.Calls.{Call, open_call, seen_after}
 use Rattle.cedar_plan.specs.Safety.{CrashLeaves, IsAtRest}
 use Rattle.cedar_plan.specs.Works.{AreCarriedOut, Work, all_done}
 use Rattle.cedar_salvage.specs.Whole.{cuts_records, TakesLong}
@@ -13,7 +13,7 @@ use Rattle.cedar_store.specs.Causes.{LoadCause}
 use Rattle.cedar_store.specs.Files.{IsEither, state_of}
 use Rattle.cedar_store.specs.declared.error.DurableError.{DurableError}
 use Rattle.cedar_store.specs.declared.error.DurableError.TheVariants as error
-use Rattle.cedarwood.specs.State.{erased, State, stored}
+use Rattle.cedarwood.specs.State.{after_erase, after_put, State}
 use Rattle.cedar_c.specs.Status.{status_of}
 use Rattle.cedar_c.specs.declared.status.TheConstants.{OK, MEMORY, SLOT_LIMIT, NO_ROOM, OTHER, STORE_CORRUPT, STORE_DAMAGED, STORE_FOREIGN, STORE_FULL, STORE_TOO_LONG}
 
@@ -35,16 +35,16 @@ pub record IsChangePlan (works : List Work) (format : Format) (from to : ℕ) (b
 
 -- so those of a pair that is put, and of a key that is erased
 abbrev pub IsPutPlan : List Work → Format → ℕ → ℕ → State → List ℕ → ℤ → Type 0
-IsPutPlan works format from to s key value = IsChangePlan works format from to s (stored s key value)
+IsPutPlan works format from to s key value = IsChangePlan works format from to s (after_put s key value)
 
 abbrev pub IsErasurePlan : List Work → Format → ℕ → ℕ → State → List ℕ → Type 0
-IsErasurePlan works format from to s key = IsChangePlan works format from to s (erased s key)
+IsErasurePlan works format from to s key = IsChangePlan works format from to s (after_erase s key)
 
 -- Works that make a file of these bytes ready for changes, which was synced and then read: its records are of this format then, and end
 -- here. A crash at any moment, also where one of them fails, leaves a file that stands for the same state.
 pub record IsOpening (bytes : List ℕ) (works : List Work) (format : Format) (end : ℕ) (s : State) : Type 0 where
-  pub kept : IsKept (all_done works (opened bytes ∷ [])) format end s
-  pub any_moment : (later : List Call) → AreCarriedOut works (opened bytes ∷ []) later → CrashLeaves (opened bytes ∷ []) later (λ c. state_of c ≡ Some s)
+  pub kept : IsKept (all_done works (open_call bytes ∷ [])) format end s
+  pub any_moment : (later : List Call) → AreCarriedOut works (open_call bytes ∷ []) later → CrashLeaves (open_call bytes ∷ []) later (λ c. state_of c ≡ Some s)
 
 -- the number of why a file wasn't read as a dictionary
 abbrev pub store_status : DurableError → ℕ

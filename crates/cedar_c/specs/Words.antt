@@ -10,7 +10,7 @@ pub use Rattle.cedar_c.specs.Files.{layout_named, minor_of, TellsHeader, TellsJu
 pub use Rattle.cedar_c.specs.Groups.{AddsChange, group_head, IsGroup, LacksGroup}
 pub use Rattle.cedar_c.specs.Layouts.{dictionary_in, HasToGrow, layout_if, layout_of}
 pub use Rattle.cedar_c.specs.Lending.{as_shown, LendsCedar, LendsSeen}
-pub use Rattle.cedar_c.specs.Matches.{filled_from, filled_matches, Fit, front_keys, lengthened, longer, match_of, predicted_keys}
+pub use Rattle.cedar_c.specs.Matches.{all_longer, filled_from, filled_matches, Fit, front_keys, longer, match_of, predicted_keys}
 pub use Rattle.cedar_c.specs.Opens.{OpensBuilt, OpensLoaded, OpensNew}
 pub use Rattle.cedar_c.specs.Pairs.{build_fault, entries_in, keys_in, MayWantSlots, named_keys, StoresFront, StoresPart, taken_pair}
 pub use Rattle.cedar_c.specs.Plans.{damage_of, format_if, IsChangePlan, IsErasurePlan, IsOpening, IsPutPlan, LacksChange, LacksRecord, MayCut, TellsWhy, store_status}
@@ -36,7 +36,7 @@ pub use Rattle.cedar_salvage.specs.Whole.{CutsNone}
 pub use Rattle.cedar_store.specs.Causes.{LoadCause}
 pub use Rattle.cedar_store.specs.Changes.{erase_at, put_at}
 pub use Rattle.cedar_store.specs.Files.{state_of}
-pub use Rattle.cedar_tree.specs.Queries.{asc, prefixes, used, walk}
+pub use Rattle.cedar_tree.specs.Queries.{asc, prefixes, slots_of_tree, walk}
 pub use Rattle.cedar_tree.specs.Tree.{Tree}
 pub use Rattle.cedar_walk.specs.Visits.{ComesToFirst, IsNumberedBelow}
 pub use Rattle.cedarwood.specs.Batches.{held_in_turn, keys_erased}
@@ -45,11 +45,11 @@ pub use Rattle.cedarwood.specs.Dictionary.{capacity_after}
 pub use Rattle.cedarwood.specs.Fault.{fault, IsShortage}
 pub use Rattle.cedarwood.specs.OnTable.{IsOnTable}
 pub use Rattle.cedarwood.specs.Queries.{front, predict}
-pub use Rattle.cedarwood.specs.RangeWalks.{IsRangePlace, ranged}
+pub use Rattle.cedarwood.specs.RangeWalks.{entries_left, IsRangePlace}
 pub use Rattle.cedarwood.specs.Ranges.{longest_front}
 pub use Rattle.cedarwood.specs.Room.{LacksRoom}
 pub use Rattle.cedarwood.specs.Shrinking.{IsShrunk}
-pub use Rattle.cedarwood.specs.State.{erased, stored}
+pub use Rattle.cedarwood.specs.State.{after_erase, after_put}
 pub use Rattle.cedarwood.specs.Tree.{number_at}
 pub use Rattle.cedarwood.specs.Updates.{IsUpdate}
 pub use Rattle.cedarwood.specs.Words.{IsCleared, IsEmpty, IsErasedUnder, IsSlotLimit, IsSorted, most_slots}

@@ -1,7 +1,7 @@
 //! The calls that make, copy, change and query a dictionary.
 
 ghost use Rattle.std.specs.Prelude.{◌*◌, ◌-◌, ◌<◌, ◌↔◌, ◌≡◌, ◌≤◌, ◌⊎◌, IfSome, IsSome, IsTrue, length, None, option_map, pos, Some, true};
-ghost use Rattle.cedar_c.specs.Words.{AnyCedar, capacity_in, ChangesBy, content, default_layout, dictionary_in, erased, ErasesUnder, fault, IsCleared, IsEmpty, IsErasedUnder, LacksOnlyNew, layout_if, layout_in, layout_of, longest_front, match_of, most_slots, number_at, OpensNew, position_of, reduced_layout, shown_in, shown_tree, size_in, state_in, status_of, stored, TellsPosition, tree_in, trials_in};
+ghost use Rattle.cedar_c.specs.Words.{after_erase, after_put, AnyCedar, capacity_in, ChangesBy, content, default_layout, dictionary_in, ErasesUnder, fault, IsCleared, IsEmpty, IsErasedUnder, LacksOnlyNew, layout_if, layout_in, layout_of, longest_front, match_of, most_slots, number_at, OpensNew, position_of, reduced_layout, shown_in, shown_tree, size_in, state_in, status_of, TellsPosition, tree_in, trials_in};
 
 use crate::any::AnyCedar;
 use crate::handle::Handle;
@@ -128,7 +128,7 @@ pub extern "C" fn cedar_update(
 
     //= It returns the number of the pair's first fault, with the position of a byte 0, or stores the value. [with faulty; also
     //  cedar_insert]
-    ensures ok { result ≡ OK → state_in handle.new ≡ option_map (λ s. stored s key.now value) (state_in handle.old) }
+    ensures ok { result ≡ OK → state_in handle.new ≡ option_map (λ s. after_put s key.now value) (state_in handle.old) }
 
     //= After any error the tree is as it was, and after a pair's fault the whole dictionary. [with unchanged; also cedar_insert]
     ensures err { (result ≡ OK) ⊎ (state_in handle.new ≡ state_in handle.old) }
@@ -179,7 +179,7 @@ pub extern "C" fn cedar_insert(
     position: &mut usize,
 ) -> u32
     ensures closed { (result ≡ CLOSED) ↔ (content handle.old ≡ None) }
-    ensures ok { result ≡ OK → state_in handle.new ≡ option_map (λ s. stored s key.now value) (state_in handle.old) }
+    ensures ok { result ≡ OK → state_in handle.new ≡ option_map (λ s. after_put s key.now value) (state_in handle.old) }
     ensures err { (result ≡ OK) ⊎ (state_in handle.new ≡ state_in handle.old) }
     ensures unchanged { IsSome (fault key.now value) → content handle.new ≡ content handle.old }
     ensures layout { layout_in handle.new ≡ layout_in handle.old }
@@ -218,7 +218,7 @@ pub extern "C" fn cedar_insert(
 pub extern "C" fn cedar_erase(handle: &mut Handle, key: &[u8]) -> bool
     //= An erasure returns whether the key was held. The tree is then `cut`, and there are as many slots as before. [with after, size]
     ensures answer { IsTrue result ↔ IsSome (number_at (tree_in handle.old) key.now) }
-    ensures after { state_in handle.new ≡ option_map (λ s. erased s key.now) (state_in handle.old) }
+    ensures after { state_in handle.new ≡ option_map (λ s. after_erase s key.now) (state_in handle.old) }
     ensures size { (size_in handle.new ≡ size_in handle.old) × (capacity_in handle.new ≡ capacity_in handle.old) }
     ensures layout { layout_in handle.new ≡ layout_in handle.old }
     ensures trials { trials_in handle.new ≡ trials_in handle.old }

@@ -1,7 +1,7 @@
 //! Entries with their keys, a page of them a call.
 
 ghost use Rattle.std.specs.Prelude.{◌++◌, ◌+◌, ◌-◌, ◌↔◌, ◌≡◌, ◌≤◌, [], IfSome, IsSome, IsTrue, length, nat_eq, None, take, true};
-ghost use Rattle.cedar_c.specs.Words.{bytes_lacking, ComesToFirst, EndsPage, entries_behind_key, IsNumberedBelow, IsRangePlace, IsWellFormed, number_at, PageOf, ranged, shown_in, starts_with, TellsEntries, TellsPage, tree_of, visited_key, WritesNothing, WritesPage};
+ghost use Rattle.cedar_c.specs.Words.{bytes_lacking, ComesToFirst, EndsPage, entries_behind_key, entries_left, IsNumberedBelow, IsRangePlace, IsWellFormed, number_at, PageOf, shown_in, starts_with, TellsEntries, TellsPage, tree_of, visited_key, WritesNothing, WritesPage};
 
 use crate::any::AnyCedar;
 use crate::reading::Reading;
@@ -76,7 +76,7 @@ fn write_page<T: Walked>(
 ) -> usize
     requires well_formed { IsWellFormed T.slots (T.shown trie.now) }
     requires place { IsRangePlace (T.shown trie.now) start.now first }
-    ensures { WritesPage prefix.now (ranged (T.shown trie.now) start.now first) found.old found.new bytes.old bytes.new result }
+    ensures { WritesPage prefix.now (entries_left (T.shown trie.now) start.now first) found.old found.new bytes.old bytes.new result }
 {
     let mut next = first;
     let mut used = 0;
@@ -110,7 +110,7 @@ fn lack<T: Walked>(
 ) -> Option<usize>
     requires well_formed { IsWellFormed T.slots (T.shown trie.now) }
     requires place { IsRangePlace (T.shown trie.now) start.now first }
-    ensures { result ≡ bytes_lacking places room (ranged (T.shown trie.now) start.now first) }
+    ensures { result ≡ bytes_lacking places room (entries_left (T.shown trie.now) start.now first) }
 {
     let at = first?;
     let len = key_length(trie, start, at);
@@ -134,7 +134,7 @@ fn tell_page<T: Walked>(
 ) -> u32
     requires well_formed { IsWellFormed T.slots (T.shown trie.now) }
     requires place { IsRangePlace (T.shown trie.now) start.now first }
-    ensures { TellsPage prefix.now (ranged (T.shown trie.now) start.now first) found.old found.new keys.old keys.new count.old count.new need.old need.new result }
+    ensures { TellsPage prefix.now (entries_left (T.shown trie.now) start.now first) found.old found.new keys.old keys.new count.old count.new need.old need.new result }
 {
     match lack(trie, start, first, found.len(), keys.len()) {
         Some(len) => {

@@ -1,7 +1,7 @@
 //! Walks of a dictionary in pieces: a call goes on where the one before it ended.
 
 ghost use Rattle.std.specs.Prelude.{◌+◌, ◌<◌, ◌^◌, ◌≡◌, [], drop, false, IsTrue, length, take};
-ghost use Rattle.cedar_c.specs.Words.{dictionary_in, filled_matches, Fit, front, front_keys, lengthened, predict, predicted_keys, shown_tree};
+ghost use Rattle.cedar_c.specs.Words.{all_longer, dictionary_in, filled_matches, Fit, front, front_keys, predict, predicted_keys, shown_tree};
 
 use crate::any::AnyCedar;
 use crate::reading::Reading;
@@ -29,7 +29,7 @@ fn pass<F: Finds>(walk: &mut F, count: usize) -> bool
 fn fill_page<F: Finds>(walk: &mut F, more: usize, matches: &mut [Match]) -> usize
     requires { Fit more (F.left walk.old) }
     ensures count { result ≡ length (take (length matches.old) (F.left walk.old)) }
-    ensures filled { matches.new ≡ filled_matches matches.old (lengthened more (F.left walk.old)) }
+    ensures filled { matches.new ≡ filled_matches matches.old (all_longer more (F.left walk.old)) }
 {
     let mut count = 0;
     while count < matches.len() {
@@ -47,7 +47,7 @@ fn go_on<F: Finds>(walk: &mut F, more: usize, next: &mut usize, matches: &mut [M
     requires count { length (F.left walk.old) < 2 ^ 64 }
     requires fit { Fit more (F.left walk.old) }
     ensures count { result ≡ length (take (length matches.old) (drop next.old (F.left walk.old))) }
-    ensures filled { matches.new ≡ filled_matches matches.old (lengthened more (drop next.old (F.left walk.old))) }
+    ensures filled { matches.new ≡ filled_matches matches.old (all_longer more (drop next.old (F.left walk.old))) }
     ensures next { next.new ≡ next.old + result }
 {
     if !pass(walk, *next) {

@@ -2,7 +2,7 @@
 //! the change. These exports are the library's own, and no program sees them.
 
 ghost use Rattle.std.specs.Prelude.{◌≡◌, ◌≢◌, ◌⊎◌, ◌↔◌, ◌+◌, ◌<◌, ◌≤◌, ◌^◌, ◌++◌, ◌∷◌, ℕ, List, false, IfErr, IfOk, IfSome, IsFalse, IsSome, IsTrue, None, Some, length, option_map, take, true};
-ghost use Rattle.cedar_c.specs.Words.{AddsChange, append_works, content, CutsNone, damage_of, dictionary_in, end_of, erase_at, erased, fault, Format, format_if, format_in, frame_of, HasExtent, IsChangePlan, IsErasurePlan, IsOpening, IsPutPlan, LacksChange, LacksRecord, layout_if, layout_in, layout_of, LoadCause, MayCut, number_at, opening, overhead, Plain, position_of, put_at, state_in, state_of, status_of, store_status, stored, TellsWhy, tree_in, works_of};
+ghost use Rattle.cedar_c.specs.Words.{AddsChange, after_erase, after_put, append_works, content, CutsNone, damage_of, dictionary_in, end_of, erase_at, fault, Format, format_if, format_in, frame_of, HasExtent, IsChangePlan, IsErasurePlan, IsOpening, IsPutPlan, LacksChange, LacksRecord, layout_if, layout_in, layout_of, LoadCause, MayCut, number_at, opening, overhead, Plain, position_of, put_at, state_in, state_of, status_of, store_status, TellsWhy, tree_in, works_of};
 
 use crate::any::AnyCedar;
 use crate::handle::Handle;
@@ -109,7 +109,7 @@ pub extern "C" fn cedar_plan_put(
 
     //= A put that returns `OK` has stored the value, and writes whether the key was held, and with which value. After an error the tree is
     //  as it was, and nothing is reported. [with kept, held, before, untold, layout]
-    ensures stored { result ≡ OK → state_in handle.new ≡ option_map (λ s. stored s key.now value) (state_in handle.old) }
+    ensures stored { result ≡ OK → state_in handle.new ≡ option_map (λ s. after_put s key.now value) (state_in handle.old) }
     ensures kept { (result ≡ OK) ⊎ (state_in handle.new ≡ state_in handle.old) }
     ensures held { result ≡ OK → IsTrue held.new ↔ IsSome (number_at (tree_in handle.old) key.now) }
     ensures before { result ≡ OK → IfSome (number_at (tree_in handle.old) key.now) (λ v. before.new ≡ v) }
@@ -118,7 +118,7 @@ pub extern "C" fn cedar_plan_put(
 
     //= Once the plan of a put is carried out, a file that stood for the dictionary from before it stands for the one with it, on the disk.
     //  A crash at any moment, even if a step fails, leaves the one or the other. [by IsChangePlan]
-    ensures planned { result ≡ OK → IfSome (state_in handle.old) (λ s. IsChangePlan (works_of buffer.new plan.new) (format_if is_summed) end.old end.new s (stored s key.now value)) }
+    ensures planned { result ≡ OK → IfSome (state_in handle.old) (λ s. IsChangePlan (works_of buffer.new plan.new) (format_if is_summed) end.old end.new s (after_put s key.now value)) }
 
     //= What a put without a sum that returns `OK` has written is the record of its change, which may follow those of a group without its
     //  last byte. The same holds of an erasure of a key that was held. [also cedar_plan_erase]
@@ -167,7 +167,7 @@ pub extern "C" fn cedar_plan_erase(
 
     //= An erasure that returns `OK` writes whether the key was held, and has removed it. After an error, and if the key wasn't held, the
     //  tree is as it was. [with missed, kept, held, untold, layout]
-    ensures erased { result ≡ OK → IsTrue held.new → state_in handle.new ≡ option_map (λ s. erased s key.now) (state_in handle.old) }
+    ensures erased { result ≡ OK → IsTrue held.new → state_in handle.new ≡ option_map (λ s. after_erase s key.now) (state_in handle.old) }
     ensures missed { result ≡ OK → IsFalse held.new → (state_in handle.new ≡ state_in handle.old) × (end.new ≡ end.old) × (plan.new ≡ plan.old) }
     ensures kept { (result ≡ OK) ⊎ (state_in handle.new ≡ state_in handle.old) }
     ensures held { result ≡ OK → IsTrue held.new ↔ IsSome (number_at (tree_in handle.old) key.now) }
@@ -177,7 +177,7 @@ pub extern "C" fn cedar_plan_erase(
     //= Once the plan of an erasure is carried out, a file that stood for the dictionary from before it stands for the one without the key,
     //  on the disk. A crash at any moment, even if a step fails, leaves the one or the other. [by IsChangePlan]
     ensures planned { result ≡ OK → IsTrue held.new
-        → IfSome (state_in handle.old) (λ s. IsChangePlan (works_of buffer.new plan.new) (format_if is_summed) end.old end.new s (erased s key.now)) }
+        → IfSome (state_in handle.old) (λ s. IsChangePlan (works_of buffer.new plan.new) (format_if is_summed) end.old end.new s (after_erase s key.now)) }
 
     ensures recorded { result ≡ OK → IsTrue held.new → IsFalse is_summed → AddsChange (erase_at key.now) (take (length key.now + 6) buffer.new) }
 
@@ -294,7 +294,7 @@ impl AnyCedar {
         position: &mut usize,
     ) -> u32
         ensures open { result ≢ CLOSED }
-        ensures stored { result ≡ OK → (dictionary_in self.new).state ≡ stored (dictionary_in self.old).state key.now value }
+        ensures stored { result ≡ OK → (dictionary_in self.new).state ≡ after_put (dictionary_in self.old).state key.now value }
         ensures kept { (result ≡ OK) ⊎ ((dictionary_in self.new).state ≡ (dictionary_in self.old).state) }
         ensures held { result ≡ OK → IsTrue held.new ↔ IsSome (number_at (dictionary_in self.old).state.tree key.now) }
         ensures before { result ≡ OK → IfSome (number_at (dictionary_in self.old).state.tree key.now) (λ v. before.new ≡ v) }
@@ -337,7 +337,7 @@ impl AnyCedar {
         held: &mut bool,
     ) -> u32
         ensures open { result ≢ CLOSED }
-        ensures erased { result ≡ OK → IsTrue held.new → (dictionary_in self.new).state ≡ erased (dictionary_in self.old).state key.now }
+        ensures erased { result ≡ OK → IsTrue held.new → (dictionary_in self.new).state ≡ after_erase (dictionary_in self.old).state key.now }
         ensures missed { result ≡ OK → IsFalse held.new → ((dictionary_in self.new).state ≡ (dictionary_in self.old).state) × (end.new ≡ end.old) × (plan.new ≡ plan.old) }
         ensures kept { (result ≡ OK) ⊎ ((dictionary_in self.new).state ≡ (dictionary_in self.old).state) }
         ensures held { result ≡ OK → IsTrue held.new ↔ IsSome (number_at (dictionary_in self.old).state.tree key.now) }

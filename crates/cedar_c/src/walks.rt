@@ -1,7 +1,7 @@
 //! Walks of a dictionary, written into a buffer of the caller's.
 
 ghost use Rattle.std.specs.Prelude.{◌+◌, ◌<◌, ◌^◌, ◌∷◌, ◌≡◌, [], length, List, MatchOption, ℕ, ℤ};
-ghost use Rattle.cedar_c.specs.Words.{dictionary_in, filled_from, filled_matches, Fit, front, front_keys, lengthened, longer, predict, predicted_keys, shown_tree};
+ghost use Rattle.cedar_c.specs.Words.{all_longer, dictionary_in, filled_from, filled_matches, Fit, front, front_keys, longer, predict, predicted_keys, shown_tree};
 
 use crate::any::AnyCedar;
 use crate::reading::Reading;
@@ -50,7 +50,7 @@ fn fill<F: Finds>(walk: &mut F, more: usize, matches: &mut [Match]) -> usize
     requires count { length (F.left walk.old) < 2 ^ 64 }
     requires fit { Fit more (F.left walk.old) }
     ensures count { result ≡ length (F.left walk.old) }
-    ensures filled { matches.new ≡ filled_matches matches.old (lengthened more (F.left walk.old)) }
+    ensures filled { matches.new ≡ filled_matches matches.old (all_longer more (F.left walk.old)) }
 {
     let mut count = 0;
     while let Some(found) = walk.next_found() {

@@ -2,7 +2,7 @@
 use Rattle.std.proofs.Common.{◌≡◌, ◌<◌, ℕ, suc, List, [], ◌∷◌, ◌++◌, drop, length, map, take, Err, ap, sym, refl, ◌∙◌, append-nil, arith}
 use Rattle.std.proofs.lemmas.List.{drop_all, length-map}
 use Rattle.std.proofs.Math.Seq.{take-length}
-use Rattle.cedar_tree.specs.State.{State, erased}
+use Rattle.cedar_tree.specs.State.{State, after_erase}
 use Rattle.cedarwood.specs.Batches.{held_in_turn}
 use Rattle.cedarwood.specs.Dictionary.{Dictionary}
 use Rattle.cedarwood.specs.declared.error.CedarError.TheVariants.{Memory}
@@ -32,7 +32,7 @@ all_filled f keys n before after held count room size h =
 -- there is a result for each key
 pub length-held_in_turn : (s : State) (keys : List (List ℕ)) → length (held_in_turn s keys) ≡ length keys
 length-held_in_turn s [] = refl
-length-held_in_turn s (key ∷ keys) = ap suc (length-held_in_turn (erased s key) keys)
+length-held_in_turn s (key ∷ keys) = ap suc (length-held_in_turn (after_erase s key) keys)
 
 -- nothing changes if there is no memory to say what was held
 pub none_erased : {A : Type 0} (d : Dictionary) (keys : List (List ℕ)) → 0 < length keys → IsErasedBatch {A = A} d d keys (Err Memory)

@@ -4,7 +4,7 @@ use Rattle.std.specs.List.{AllByRecursion}
 use Rattle.cedarwood.specs.Words.{entries_of, keys_of}
 use Rattle.cedar_model.specs.Table.Layouts.{LayoutKind, default_layout}
 use Rattle.cedarwood.specs.Dictionary.{Dictionary}
-use Rattle.cedar_calls.specs.Plain.{all_said, states_of, IsLoadless, IsMet}
+use Rattle.cedar_calls.specs.Plain.{plain_answers, states_of, IsLoadless, IsMet}
 use Rattle.cedar_calls.specs.Runs.{IsRun}
 use Rattle.cedar_calls.specs.declared.call.Call.{Call}
 use Rattle.cedar_calls.specs.declared.call.Call.TheVariants as call
@@ -81,5 +81,5 @@ RunsAgree calls answers others replies =
     → AreSameCalls calls others → states_of before ≡ states_of start
     → AllByRecursion IsLoadless calls ⊎ ((layout ≡ other) × (slots ≡ most))
     → (by_default ≡ true → (layout ≡ default_layout) × (other ≡ default_layout))
-    → AllByRecursion IsMet (all_said by_default calls answers) → AllByRecursion IsMet (all_said by_default others replies)
-    → (all_said by_default calls answers ≡ all_said by_default others replies) × (states_of after ≡ states_of end)
+    → AllByRecursion IsMet (plain_answers by_default calls answers) → AllByRecursion IsMet (plain_answers by_default others replies)
+    → (plain_answers by_default calls answers ≡ plain_answers by_default others replies) × (states_of after ≡ states_of end)

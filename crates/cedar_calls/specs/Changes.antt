@@ -2,7 +2,7 @@
 use Rattle.std.specs.Prelude.{◌≡◌, ℕ, ℤ, ◌+◌, ◌-◌, ◌*◌, ◌<◌, ◌≤◌, Bool, List, length, IfErr, IfOk, IfSome, IsOk, IsSome, IsTrue, ◌↔◌, None, OnErr, OnOk, Option, Result, Err, take, Vec}
 use Rattle.cedar_tree.specs.Tree.{number_at}
 use Rattle.cedar_tree.specs.Queries.{Entry}
-use Rattle.cedar_tree.specs.State.{erased}
+use Rattle.cedar_tree.specs.State.{after_erase}
 use Rattle.cedarwood.specs.declared.error.CedarError.{CedarError}
 use Rattle.cedarwood.specs.declared.batches.RefusedPair.{RefusedPair}
 use Rattle.cedarwood.specs.declared.error.CedarError.TheVariants.{Memory, SlotLimit}
@@ -24,7 +24,7 @@ use Rattle.cedar_calls.specs.declared.answer.Changed.TheVariants as changed
 
 -- the key is no longer held, and all else is as it was
 pub record IsErased (before after : Dictionary) (key : List ℕ) : Type 0 where
-  pub state : after.state ≡ erased before.state key
+  pub state : after.state ≡ after_erase before.state key
   pub marks : MarksCut before.marked after.marked key
   pub size : (after.size ≡ before.size) × (after.capacity ≡ before.capacity)
   pub max_trial : after.max_trial ≡ before.max_trial

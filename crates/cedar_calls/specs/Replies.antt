@@ -2,7 +2,7 @@
 use Rattle.std.specs.Prelude.{◌≡◌, Bool, true, false, ℕ, ℤ, ◌+◌, ◌-◌, ◌*◌, ◌/◌, ◌<◌, List, [], ◌∷◌, length, map, Option, option_map, Some, None, is_some, IsTrue, ◌↔◌, MatchResult, Result, string_bytes}
 use Rattle.std.specs.Str.{IsUtf8}
 use Rattle.cedar_tree.specs.Tree.{number_at}
-use Rattle.cedar_tree.specs.Queries.{Entry, exact, front, predict, prefixes, used, walk}
+use Rattle.cedar_tree.specs.Queries.{Entry, exact, front, predict, prefixes, slots_of_tree, walk}
 use Rattle.cedarwood.specs.declared.error.CedarError.{CedarError}
 use Rattle.cedarwood.specs.declared.error.CedarError.TheVariants.{Memory}
 use Rattle.cedar_model.specs.Table.Layouts.{LayoutKind, default_layout}
@@ -54,7 +54,7 @@ bytes_of capacity = 10 * capacity + 20 * (capacity / 256) + 514
 
 -- a figure. By default each number has a slot of its own, so that the tree alone says how many slots are held
 abbrev pub IsFigure : LayoutKind → Dictionary → Figure → ℕ → Type 0
-IsFigure layout d UsedSlots n = (n ≡ held_slots d) × (layout ≡ default_layout → n ≡ used d.state.tree)
+IsFigure layout d UsedSlots n = (n ≡ held_slots d) × (layout ≡ default_layout → n ≡ slots_of_tree d.state.tree)
 IsFigure layout d Capacity n = n ≡ d.capacity
 IsFigure layout d AllocatedBytes n = n ≡ bytes_of d.capacity
 IsFigure layout d SpareBlocks n = n ≡ (d.capacity - d.size) / 256

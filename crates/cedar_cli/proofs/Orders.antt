@@ -4,7 +4,7 @@ use Rattle.std.proofs.lemmas.Bool.{false≢true}
 use Rattle.std.specs.Prelude.{codes, Bool, false, ◌&&◌, int_le, pos, if◌then◌else◌, Result, Ok, Err, OnOk, OnErr, IfErr, IfSome, IsSome, is_err, MatchOption, option_map, position}
 use Rattle.std.specs.Prelude.{decimal}
 use Rattle.std.specs.Fmt.{signed_decimal}
-use Rattle.cedar_tree.specs.State.{State, stored, erased}
+use Rattle.cedar_tree.specs.State.{State, after_put, after_erase}
 use Rattle.cedar_tree.specs.Tree.{Tree, number_at, IsSound}
 use Rattle.cedar_tree.specs.Queries.{exact}
 use Rattle.cedar_tree.proofs.TreeLemmas.{cut-put, put-put, put_held, number_at-put_same}
@@ -43,7 +43,7 @@ pub found_reply : (t : Tree) (key : List ℕ) (v : ℤ) (n : ℕ) → ◌≡◌ 
 found_reply t key v n h = let p = exact_found t key v n h in rw (p.0, p.1) refl
 
 -- the answer to an erasure, where the key is held and where it isn't
-pub erased_reply : (s : View) (key : List ℕ) (v : ℤ) → number_at s.state.tree key ≡ Some v → codes "erased" ≡ reply s (Some (Erase, key))
+pub erased_reply : (s : View) (key : List ℕ) (v : ℤ) → number_at s.state.tree key ≡ Some v → codes "after_erase" ≡ reply s (Some (Erase, key))
 erased_reply s key v h = rw h refl
 
 pub absent_reply : (s : View) (key : List ℕ) → number_at s.state.tree key ≡ None → codes "absent" ≡ reply s (Some (Erase, key))
@@ -104,14 +104,14 @@ pair_kind (b ∷ key) v e h = at_nul (position (λ c. c == 0) (b ∷ key)) h whe
 -- a value that was stored is taken back
 pub taken_back : (before : Option ℤ) (old mid new : State) (key : List ℕ) (v : ℤ)
     → before ≡ number_at old.tree key → IsSound old.tree → IfSome before (λ w. value_fault w ≡ None) → fault key v ≡ None
-    → mid ≡ stored old key v
-    → MatchOption before (new ≡ erased mid key) (λ w. fault key w ≡ None → IsSome (number_at mid.tree key) → new ≡ stored mid key w)
+    → mid ≡ after_put old key v
+    → MatchOption before (new ≡ after_erase mid key) (λ w. fault key w ≡ None → IsSome (number_at mid.tree key) → new ≡ after_put mid key w)
     → new ≡ old
 taken_back None old mid new key v answer sound range none done back =
-    back ∙ ap (λ s. erased s key) done ∙ ap (λ t. record { tree = t; ordered = old.ordered }) (cut-put old.tree old.ordered key v sound.1 (sym answer))
+    back ∙ ap (λ s. after_erase s key) done ∙ ap (λ t. record { tree = t; ordered = old.ordered }) (cut-put old.tree old.ordered key v sound.1 (sym answer))
 taken_back (Some w) old mid new key v answer sound range none done back =
     back (fault_other key v w none range) held
-    ∙ ap (λ s. stored s key w) done
+    ∙ ap (λ s. after_put s key w) done
     ∙ ap (λ t. record { tree = t; ordered = old.ordered })
     (put-put old.tree old.ordered key v w
     ∙ put_held old.tree old.ordered key w (sym answer)) where
@@ -125,8 +125,8 @@ Disobeys-unanswered fault order old new held same =
 
 -- a value is put back over the one that its key holds
 pub put_back : (r : Result (Unit {0}) CedarError) (old new : State) (key : List ℕ) (v : ℤ)
-    → OnOk r (new ≡ stored old key v) → (fault key v ≡ None → IfErr r (λ e. IsShortage e × (number_at old.tree key ≡ None)))
-    → fault key v ≡ None → IsSome (number_at old.tree key) → new ≡ stored old key v
+    → OnOk r (new ≡ after_put old key v) → (fault key v ≡ None → IfErr r (λ e. IsShortage e × (number_at old.tree key ≡ None)))
+    → fault key v ≡ None → IsSome (number_at old.tree key) → new ≡ after_put old key v
 put_back (Ok x) old new key v done refused fine held = done
 put_back (Err e) old new key v done refused fine held = absurd (not_held (number_at old.tree key) held (refused fine).1) where
   not_held : (n : Option ℤ) → IsSome n → n ≡ None → ⊥
@@ -183,7 +183,7 @@ none_reply t key h = rw (exact_missed t key h) refl
 
 -- what an erasure answers was written
 pub erased_written : (s : View) (key : List ℕ) (v : ℤ) (held holds : Option (List ℕ)) → number_at s.state.tree key ≡ Some v
-    → Appends held holds (codes "erased" ++ 10 ∷ []) → Appends held holds (reply s (Some (Erase, key)) ++ 10 ∷ [])
+    → Appends held holds (codes "after_erase" ++ 10 ∷ []) → Appends held holds (reply s (Some (Erase, key)) ++ 10 ∷ [])
 erased_written s key v held holds h p = subst (λ (l : List ℕ). Appends held holds (l ++ 10 ∷ [])) (erased_reply s key v h) p
 
 -- an answer that changes nothing was written whole, or not

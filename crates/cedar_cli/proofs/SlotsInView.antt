@@ -3,9 +3,9 @@ use Rattle.std.proofs.Common.{◌≡◌, ◌+◌, ◌++◌, ℕ, zero, suc, ℤ,
 use Rattle.std.specs.Prelude.{is_some}
 use Rattle.std.proofs.lemmas.Bool.{eqb-true, false≢true}
 use Rattle.std.proofs.lemmas.Bool.Decides.{eqb_tells}
-use Rattle.cedar_tree.specs.State.{State, stored, erased}
+use Rattle.cedar_tree.specs.State.{State, after_put, after_erase}
 use Rattle.cedar_tree.specs.Tree.{IsSound, Tree, is_bare, number_at}
-use Rattle.cedar_tree.specs.Queries.{IsFront, is_path, node_at, prefixes, used, walk}
+use Rattle.cedar_tree.specs.Queries.{IsFront, is_path, node_at, prefixes, slots_of_tree, walk}
 use Rattle.cedar_tree.proofs.EntryLemmas.Built.{is_path_itself, same_path}
 use Rattle.cedar_tree.proofs.EntryLemmas.Prefixes.{front_of_node, node_of_held}
 use Rattle.cedarwood.specs.declared.error.CedarError.{CedarError}
@@ -144,13 +144,13 @@ some_bytes [] v h = let no : ◌≡◌ {A = Option CedarError} (fault [] v) None
 some_bytes (b ∷ key) v h = omega arith
 
 -- a put without a fault
-pub put_obeyed : (layout : LayoutKind) (old new : Dictionary) (key : List ℕ) (v : ℤ) → fault key v ≡ None → IsSound old.state.tree → new.state ≡ stored old.state key v → IsMarked new
+pub put_obeyed : (layout : LayoutKind) (old new : Dictionary) (key : List ℕ) (v : ℤ) → fault key v ≡ None → IsSound old.state.tree → new.state ≡ after_put old.state key v → IsMarked new
     → (layout ≡ reduced_layout → MarksPut old.state.tree old.marked new.marked key) → view_of layout new ≡ view_after_order (view_of layout old) (Some (Put v, key))
 put_obeyed layout old new key v clean sound done marked marks = rw clean (by_layout layout marks) where
   by_layout : (l : LayoutKind) → (l ≡ reduced_layout → MarksPut old.state.tree old.marked new.marked key) → view_of l new ≡ put_in (view_of l old) key v
   by_layout default_layout k = ap (λ (s : State). record { layout = default_layout; state = s; marked = s.tree }) done
   by_layout reduced_layout k =
-      by_marks new (stored old.state key v) (has_slot_beside (view_of reduced_layout old) key) done marked
+      by_marks new (after_put old.state key v) (has_slot_beside (view_of reduced_layout old) key) done marked
       (put_marks old.state.tree old.marked new.marked key sound (some_bytes key v clean) (k refl))
 
 -- one with a fault changes nothing
@@ -158,13 +158,13 @@ pub put_refused : (s : View) (key : List ℕ) (v : ℤ) (e : CedarError) → fau
 put_refused s key v e why = rw why refl
 
 -- an erasure
-pub cut_obeyed : (layout : LayoutKind) (old new : Dictionary) (key : List ℕ) → new.state ≡ erased old.state key → IsMarked new → MarksCut old.marked new.marked key
+pub cut_obeyed : (layout : LayoutKind) (old new : Dictionary) (key : List ℕ) → new.state ≡ after_erase old.state key → IsMarked new → MarksCut old.marked new.marked key
     → view_of layout new ≡ view_after_order (view_of layout old) (Some (Erase, key))
 cut_obeyed layout old new key done marked marks = by_layout layout where
   by_layout : (l : LayoutKind) → view_of l new ≡ cut_in (view_of l old) key
   by_layout default_layout = ap (λ (s : State). record { layout = default_layout; state = s; marked = s.tree }) done
   by_layout reduced_layout =
-      by_marks new (erased old.state key) (λ w. not (is_path w key) && has_slot (view_of reduced_layout old) w) done marked
+      by_marks new (after_erase old.state key) (λ w. not (is_path w key) && has_slot (view_of reduced_layout old) w) done marked
       (cut_marks old.marked new.marked key marks)
 
 -- a refused update is seen as nothing
@@ -177,10 +177,10 @@ seen_same layout old new same marks = by_layout layout where
       ∙ ap (λ (s : State). record { layout = reduced_layout; state = s; marked = old.marked }) same
 
 -- the line of the figures
-pub figures_seen : (layout : LayoutKind) (d : Dictionary) (key : List ℕ) (keys slots : ℕ) → keys ≡ length (walk d.state.tree) → (layout ≡ default_layout → slots ≡ used d.state.tree)
+pub figures_seen : (layout : LayoutKind) (d : Dictionary) (key : List ℕ) (keys slots : ℕ) → keys ≡ length (walk d.state.tree) → (layout ≡ default_layout → slots ≡ slots_of_tree d.state.tree)
     → slots ≡ 1 + length (prefixes d.state.tree) + length (walk d.marked)
     → figures_text keys slots ++ 10 ∷ [] ≡ reply (view_of layout d) (Some (Figures, key)) ++ 10 ∷ []
 figures_seen layout d key keys slots e by_default marked = ap (λ n. figures_text n slots ++ 10 ∷ []) e ∙ ap (λ n. figures_text (length (walk d.state.tree)) n ++ 10 ∷ []) (by_layout layout by_default) where
-  by_layout : (l : LayoutKind) → (l ≡ default_layout → slots ≡ used d.state.tree) → slots ≡ slots_held (view_of l d)
+  by_layout : (l : LayoutKind) → (l ≡ default_layout → slots ≡ slots_of_tree d.state.tree) → slots ≡ slots_held (view_of l d)
   by_layout default_layout k = k refl
   by_layout reduced_layout k = marked

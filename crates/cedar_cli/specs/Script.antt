@@ -5,7 +5,7 @@ use Rattle.std.specs.Fmt.{signed_decimal}
 use Rattle.std.specs.Io.KnownBytes.{Appends}
 use Rattle.cedar_tree.specs.Tree.{number_at}
 use Rattle.cedar_tree.specs.Queries.{Entry, front, predict, walk}
-use Rattle.cedar_tree.specs.State.{erased, stored}
+use Rattle.cedar_tree.specs.State.{after_erase, after_put}
 use Rattle.cedar_model.specs.Table.Layouts.{LayoutKind}
 use Rattle.cedar_cli.specs.declared.command.Verb.TheVariants.{Put, Erase, Exact, Segment, Prefixes, Predict, Entries, Figures}
 use Rattle.cedar_cli.specs.declared.script.ScriptError.{ScriptError}
@@ -93,7 +93,7 @@ figures_text keys slots = decimal keys ++ 32 ∷ decimal slots
 abbrev pub reply : View → Option Order → List ℕ
 reply s None = codes "bad line"
 reply s (Some (Put v, key)) = put_text (fault key v)
-reply s (Some (Erase, key)) = if holds_path s key then codes "erased" else codes "absent"
+reply s (Some (Erase, key)) = if holds_path s key then codes "after_erase" else codes "absent"
 reply s (Some (Exact, key)) = found_text (number_at s.state.tree key) (length key)
 reply s (Some (Segment, key)) = tokens_text (segments s.state.tree key)
 reply s (Some (Prefixes, key)) = pairs_text (front s.state.tree key)
@@ -114,7 +114,7 @@ view_after_order s (Some (verb, key)) = s
 -- what the key held before is put back: it is taken away again, or holds that value
 abbrev pub IsTakenBack : Option ℤ → List ℕ → Dictionary → Dictionary → Type 0
 IsTakenBack held key before after =
-    MatchOption held (after.state ≡ erased before.state key) (λ v. fault key v ≡ None → IsSome (number_at before.state.tree key) → after.state ≡ stored before.state key v)
+    MatchOption held (after.state ≡ after_erase before.state key) (λ v. fault key v ≡ None → IsSome (number_at before.state.tree key) → after.state ≡ after_put before.state key v)
 
 -- an order was obeyed, and its answer written whole
 abbrev pub Obeys : Option Order → View → View → Option (List ℕ) → Option (List ℕ) → Type 0

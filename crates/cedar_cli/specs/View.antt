@@ -1,8 +1,8 @@
 -- What a script sees of a dictionary, and how storing and removing a key change that.
 use Rattle.std.specs.Prelude.{ℕ, ◌+◌, ℤ, Bool, true, false, not, ◌&&◌, ◌||◌, ◌==◌, if◌then◌else◌, List, [], ◌∷◌, length, is_some}
 use Rattle.cedar_tree.specs.Tree.{Tree, is_bare, number_at}
-use Rattle.cedar_tree.specs.Queries.{is_path, node_at, prefixes, used, walk}
-use Rattle.cedar_tree.specs.State.{State, stored, erased}
+use Rattle.cedar_tree.specs.Queries.{is_path, node_at, prefixes, slots_of_tree, walk}
+use Rattle.cedar_tree.specs.State.{State, after_put, after_erase}
 use Rattle.cedar_model.specs.Table.Layouts.{LayoutKind, default_layout, reduced_layout}
 use Rattle.cedarwood.specs.Dictionary.{Dictionary, some_numbers}
 
@@ -23,7 +23,7 @@ view_of layout d = record { layout = layout; state = d.state; marked = marked_in
 -- how many slots are held: one for the root, one for each nonempty front of a key, and one for each number that has a slot of
 -- its own, which by default is each
 abbrev pub slots_in : LayoutKind → View → ℕ
-slots_in default_layout s = used s.state.tree
+slots_in default_layout s = slots_of_tree s.state.tree
 slots_in reduced_layout s = 1 + length (prefixes s.state.tree) + length (walk s.marked)
 
 abbrev pub slots_held : View → ℕ
@@ -64,8 +64,8 @@ has_slot_beside s key path =
 
 -- what is seen once a key is stored
 abbrev pub put_in : View → List ℕ → ℤ → View
-put_in s key v = with_state s (has_slot_beside s key) (stored s.state key v)
+put_in s key v = with_state s (has_slot_beside s key) (after_put s.state key v)
 
 -- what is seen once a key is removed
 abbrev pub cut_in : View → List ℕ → View
-cut_in s key = with_state s (λ path. not (is_path path key) && has_slot s path) (erased s.state key)
+cut_in s key = with_state s (λ path. not (is_path path key) && has_slot s path) (after_erase s.state key)

@@ -14,7 +14,7 @@ pub use Rattle.cedar_cli.specs.Statuses.{AsksForFile, EndsBy, fault_text, IsRepo
 pub use Rattle.cedar_cli.specs.View.{View, view_of}
 pub use Rattle.cedar_model.specs.Table.Layouts.{layout_byte}
 pub use Rattle.cedarwood.specs.Words.{IsSlotLimit}
-pub use Rattle.cedar_tree.specs.State.{erased, stored}
+pub use Rattle.cedar_tree.specs.State.{after_erase, after_put}
 pub use Rattle.cedar_tree.specs.Tree.{number_at}
 pub use Rattle.cedarwood.specs.Dictionary.{Grows}
 pub use Rattle.cedarwood.specs.Fault.{fault}

@@ -56,7 +56,7 @@ pub fn run_script<L: Layout, const SLOTS: usize, A: Allocator + Copy, R: Read, W
 ) -> Result<(), ScriptError>
     //= `Ok`: the answers of all lines of the input were written, nothing else was, and the dictionary's state and marks are those of all
     //  lines.
-    //= Among the answers: that of `#` has how many keys are held and how many slots. By default these are `used` of the tree, and in the
+    //= Among the answers: that of `#` has how many keys are held and how many slots. By default these are `slots_of_tree`, and in the
     //  reduced layout one, plus its prefixes, plus the numbers that have slots of their own. [by answers, reply, slots_held]
     //= Which numbers have slots of their own is given line by line, by the keys that were stored and erased (`put_in`, `cut_in`). [by
     //  view_after_order]

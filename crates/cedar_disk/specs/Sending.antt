@@ -13,8 +13,8 @@ abbrev pub found_at : List ℕ → Call
 found_at path = (9, 0, true, path)
 
 -- it took these bytes
-abbrev pub sent : List ℕ → Call
-sent bytes = (10, 0, true, bytes)
+abbrev pub send_call : List ℕ → Call
+send_call bytes = (10, 0, true, bytes)
 
 -- a path behind its length, so that where it ends is known whatever follows
 abbrev pub address : List ℕ → List ℕ

@@ -29,7 +29,7 @@ pub(crate) fn name_beside(path: &str, number: usize) -> Option<ArrayString<PATH_
 {
     let mark = mark_for(number);
     let (folder, slash, name) = split_name(path);
-    joined(
+    join_parts(
         folder,
         slash,
         kept_front(name, mark.len() + SUFFIX.len()),
@@ -105,7 +105,7 @@ fn kept_front(name: &str, more: usize) -> &str
 }
 
 /// The pieces of a path, and the suffix.
-fn joined(folder: &str, slash: &str, kept: &str, mark: &str) -> Option<ArrayString<PATH_LEN>>
+fn join_parts(folder: &str, slash: &str, kept: &str, mark: &str) -> Option<ArrayString<PATH_LEN>>
     requires slash { length slash.now ≤ 1 }
     requires kept { length kept.now ≤ 255 }
     requires mark { length mark.now ≤ 3 }

@@ -45,7 +45,7 @@ impl Sent {
     }
 
     /// Returns what the system said of it once it was open: it isn't a file.
-    pub fn found(&self) -> &Metadata
+    pub fn found_metadata(&self) -> &Metadata
         //= What is written to as it is isn't a file, by what the system says of it once it is open.
         ensures { IsNoFile result.now }
     {

@@ -1,7 +1,7 @@
 //! Files that are written beside the one at a path and take its place once they are whole.
 
 ghost use Rattle.std.specs.Prelude.{◌≡◌, ◌∷◌, [], false, IfErr, IfOk, IsTrue, length, OnOk, Some, true};
-ghost use Rattle.cedar_disk.specs.Words.{asked_after, Keeps, LiesBeside, is_usable_after, IsPlaced, IsWholeBeside, IsUnplacedAt, opened, seen_after, WriteAppends, WritesAtMost};
+ghost use Rattle.cedar_disk.specs.Words.{asked_after, Keeps, LiesBeside, is_usable_after, IsPlaced, IsWholeBeside, IsUnplacedAt, open_call, seen_after, WriteAppends, WritesAtMost};
 ghost use Rattle.cedar_disk.specs.NotedFiles.{is_beside, noted_calls};
 
 use crate::names::{NAMES, PATH_LEN, name_beside};
@@ -214,7 +214,7 @@ pub(crate) fn make_named<F: Files>(
     mode: u32,
 ) -> io::Result<(ArrayString<PATH_LEN>, Noted<F::File>)>
     ensures named { IfOk result (λ made. LiesBeside path.now made.0.bytes) }
-    ensures noted { IfOk result (λ made. noted_calls made.1 ≡ opened [] ∷ []) }
+    ensures noted { IfOk result (λ made. noted_calls made.1 ≡ open_call [] ∷ []) }
     ensures beside { IfOk result (λ made. is_beside made.1 ≡ true) }
 {
     for number in 0..NAMES {

@@ -191,11 +191,11 @@ pub fn decode<S: Source, A: Allocator + Copy>(
     //  read_i16, read_i32, read_u64, read_usize; by TellsBreaks]
     ensures told { TellsBreaks (S.broken reader.old) (S.broken reader.new) result }
 {
-    uncounted::<Brand, S, A>(alloc, reader, layout, slots, memory_limit, Blank::new(1))
+    decode_uncounted::<Brand, S, A>(alloc, reader, layout, slots, memory_limit, Blank::new(1))
 }
 
 /// Decodes with a count of its own, which nothing reads.
-fn uncounted<C: Ledger, S: Source, A: Allocator + Copy>(
+fn decode_uncounted<C: Ledger, S: Source, A: Allocator + Copy>(
     alloc: A,
     reader: &mut S,
     layout: u8,

@@ -8,7 +8,7 @@ use Rattle.std.proofs.lemmas.List.{append-nil}
 use Rattle.cedar_journal.specs.declared.format.Format.{Format}
 use Rattle.cedar_journal.specs.declared.format.Format.TheVariants.{Plain, Summed}
 use Rattle.cedar_journal.specs.Formats.{ArePieces, read_behind, records_read, stands}
-use Rattle.cedar_journal.specs.Files.{IsFileFront, IsNewFile, IsWholeFront, added, file_reading, format_of, header_frame, journal_header, is_begun, read_by, recovered, recovered_by}
+use Rattle.cedar_journal.specs.Files.{IsFileFront, IsNewFile, IsWholeFront, with_payload, file_reading, format_of, header_frame, journal_header, is_begun, read_by, file_payloads, recovered_by}
 use Rattle.cedar_journal.proofs.Readings.{behind_behind, few_end, nothing_read}
 
 -- ---- by the header
@@ -97,23 +97,23 @@ front_and f a b ps qs first second rest =
     ∙ ap (λ n. Some (read_behind n (ps ++ qs) (records_read f rest))) (sym (length-append a b))
 
 module _ (f : Format) (front : List ℕ) (ps : List (List ℕ)) (is_front : IsFileFront f front ps) where
-  pub front_stands : (rest : List ℕ) (qs : List (List ℕ)) → records_read f rest ≡ stands qs → recovered (front ++ rest) ≡ Some (ps ++ qs)
-  unfolding recovered
+  pub front_stands : (rest : List ℕ) (qs : List (List ℕ)) → records_read f rest ≡ stands qs → file_payloads (front ++ rest) ≡ Some (ps ++ qs)
+  unfolding file_payloads
   front_stands rest qs is = ap recovered_by (is_front rest ∙ ap (λ r. Some (read_behind (length front) ps r)) is)
 
-  pub front_ends : (rest : List ℕ) → records_read f rest ≡ stands [] → recovered (front ++ rest) ≡ Some ps
+  pub front_ends : (rest : List ℕ) → records_read f rest ≡ stands [] → file_payloads (front ++ rest) ≡ Some ps
   front_ends rest is = front_stands rest [] is ∙ ap Some (append-nil ps)
 
-  pub front_alone : recovered front ≡ Some ps
-  front_alone = ap recovered (sym (append-nil front)) ∙ front_ends [] (nothing_read f)
+  pub front_alone : file_payloads front ≡ Some ps
+  front_alone = ap file_payloads (sym (append-nil front)) ∙ front_ends [] (nothing_read f)
 
-pub one_more : (file c payload : List ℕ) (ps : List (List ℕ)) → recovered file ≡ Some ps → recovered c ≡ Some (ps ++ payload ∷ []) → recovered c ≡ added payload (recovered file)
-one_more file c payload ps was is = is ∙ sym (ap (added payload) was)
+pub one_more : (file c payload : List ℕ) (ps : List (List ℕ)) → file_payloads file ≡ Some ps → file_payloads c ≡ Some (ps ++ payload ∷ []) → file_payloads c ≡ with_payload payload (file_payloads file)
+one_more file c payload ps was is = is ∙ sym (ap (with_payload payload) was)
 
 -- ---- no header
 
-pub begun_stands : (file : List ℕ) → format_of file ≡ None → is_begun file ≡ true → recovered file ≡ Some []
-unfolding recovered file_reading
+pub begun_stands : (file : List ℕ) → format_of file ≡ None → is_begun file ≡ true → file_payloads file ≡ Some []
+unfolding file_payloads file_reading
 begun_stands file unnamed begun = ap recovered_by (ap (λ (o : Option Format). read_by o file) unnamed ∙ cond-true (is_begun file) _ _ begun)
 
 pub is_new : (file : List ℕ) → format_of file ≡ None → is_begun file ≡ true → IsNewFile file
@@ -220,7 +220,7 @@ none_from : (o : Option Format) → ((f : Format) → o ≡ Some f → ⊥) → 
 none_from None not = refl
 none_from (Some f) not = absurd (not f refl)
 
-pub cut_stands : (n : ℕ) (file : List ℕ) → IsNewFile file → recovered (take n file) ≡ Some []
+pub cut_stands : (n : ℕ) (file : List ℕ) → IsNewFile file → file_payloads (take n file) ≡ Some []
 cut_stands n file new =
     begun_stands (take n file)
     (none_from _ (λ f named. none_is f (sym new.unnamed ∙ ap format_of (sym (take-append-drop n file)) ∙ header_stays (take n file) (drop n file) f named)))
@@ -237,21 +237,21 @@ shut_unnamed gate rest shut = none_from _ (λ f named. shut (first_gate f (named
 few_unnamed : (file : List ℕ) → length file < 13 → format_of file ≡ None
 few_unnamed file few = none_from _ (λ f named. let long = named_long file f named in absurd (omega (arith, few, long)))
 
-pub empty_stands : recovered [] ≡ Some []
+pub empty_stands : file_payloads [] ≡ Some []
 empty_stands = begun_stands [] (few_unnamed [] (omega arith)) empty_begun
 
-pub byte_stands : (gate : ℕ) → recovered (gate ∷ []) ≡ Some []
+pub byte_stands : (gate : ℕ) → file_payloads (gate ∷ []) ≡ Some []
 byte_stands gate = begun_stands (gate ∷ []) (few_unnamed (gate ∷ []) (omega arith)) (byte_begun gate)
 
-pub closed_stands : (rest : List ℕ) → length rest ≤ 13 → recovered (0 ∷ rest) ≡ Some []
+pub closed_stands : (rest : List ℕ) → length rest ≤ 13 → file_payloads (0 ∷ rest) ≡ Some []
 closed_stands rest few = begun_stands (0 ∷ rest) (shut_unnamed 0 rest (omega arith)) (closed_begun rest few)
 
 -- the whole header, and the closed gate behind it
-pub header_stands : recovered (1 ∷ header_frame Summed) ≡ Some []
+pub header_stands : file_payloads (1 ∷ header_frame Summed) ≡ Some []
 header_stands = front_ends Summed (journal_header Summed) [] (header_is_front Summed) (0 ∷ []) (few_end Summed (0 ∷ []) (omega arith))
 
-pub gate_stands : (gate : ℕ) → recovered (gate ∷ header_frame Summed) ≡ Some []
+pub gate_stands : (gate : ℕ) → file_payloads (gate ∷ header_frame Summed) ≡ Some []
 gate_stands gate = elim (cases_eq gate 1) [
-  | inl is_open ↦ ap (λ g. recovered (g ∷ header_frame Summed)) is_open ∙ header_stands
+  | inl is_open ↦ ap (λ g. file_payloads (g ∷ header_frame Summed)) is_open ∙ header_stands
   | inr shut ↦ begun_stands (gate ∷ header_frame Summed) (shut_unnamed gate (header_frame Summed) shut) (framed_begun gate)
 ]

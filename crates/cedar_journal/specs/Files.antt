@@ -10,7 +10,7 @@ use Rattle.cedar_journal.specs.declared.records.FileFault.TheVariants as fault
 use Rattle.cedar_journal.specs.declared.records.Next.{Next}
 use Rattle.cedar_journal.specs.declared.records.Next.TheVariants as next
 use Rattle.cedar_journal.specs.Formats.{ArePieces, AreUndamaged, Reading, read_behind, damaged, payloads_read, records_read, stands}
-use Rattle.cedar_journal.specs.Records.{framed}
+use Rattle.cedar_journal.specs.Records.{frame_body}
 
 -- the payload of a header: "CEDARJ" and two bytes that name the version
 abbrev pub magic_of : Format → List ℕ
@@ -19,7 +19,7 @@ magic_of Summed = 67 ∷ 69 ∷ 68 ∷ 65 ∷ 82 ∷ 74 ∷ 2 ∷ 253 ∷ []
 
 -- what stands behind a header's gate, and the closed gate behind it
 abbrev pub header_frame : Format → List ℕ
-header_frame format = framed (magic_of format)
+header_frame format = frame_body (magic_of format)
 
 -- a header: its gate is open
 abbrev pub journal_header : Format → List ℕ
@@ -53,13 +53,13 @@ recovered_by (Some (damaged at)) = None
 recovered_by (Some (stands payloads)) = Some payloads
 
 -- The payloads that a file stands for, whatever a crash made of it. None: it is refused.
-unfoldable pub recovered : List ℕ → Option (List (List ℕ))
-recovered file = recovered_by (file_reading file)
+unfoldable pub file_payloads : List ℕ → Option (List (List ℕ))
+file_payloads file = recovered_by (file_reading file)
 
 -- and one more
-abbrev pub added : List ℕ → Option (List (List ℕ)) → Option (List (List ℕ))
-added payload None = None
-added payload (Some payloads) = Some (payloads ++ payload ∷ [])
+abbrev pub with_payload : List ℕ → Option (List (List ℕ)) → Option (List (List ℕ))
+with_payload payload None = None
+with_payload payload (Some payloads) = Some (payloads ++ payload ∷ [])
 
 -- a file's header and whole records with these payloads, and no more: what follows is read as if it stood alone
 abbrev pub IsFileFront : Format → List ℕ → List (List ℕ) → Type 0
@@ -80,13 +80,13 @@ pub record HasRecords (file : List ℕ) (format : Format) (end : ℕ) : Type 0 w
   pub front : IsWholeFront format (take end file)
   pub no_more : EndsThere format (drop end file)
   pub sound : AreUndamaged format (drop 13 file)
-  pub stands : recovered file ≡ Some (payloads_read (records_read format (drop 13 file)))
+  pub stands : file_payloads file ≡ Some (payloads_read (records_read format (drop 13 file)))
 
 -- the file is a journal's that has no whole header yet
 pub record IsNewFile (file : List ℕ) : Type 0 where
   pub unnamed : format_of file ≡ None
   pub begun : is_begun file ≡ true
-  pub stands : recovered file ≡ Some []
+  pub stands : file_payloads file ≡ Some []
 
 -- how far it goes
 abbrev pub HasExtent : List ℕ → Extent → Type 0

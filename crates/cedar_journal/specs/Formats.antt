@@ -81,5 +81,5 @@ abbrev pub frame_of : Format → List ℕ → List ℕ
 frame_of format payload = record_head format payload ++ (payload ++ 0 ∷ [])
 
 -- the payload that a frame of version 2 with these bytes has
-abbrev pub unframed : List ℕ → List ℕ
-unframed bytes = take (length bytes - 9) (drop 8 bytes)
+abbrev pub payload_of_frame : List ℕ → List ℕ
+payload_of_frame bytes = take (length bytes - 9) (drop 8 bytes)

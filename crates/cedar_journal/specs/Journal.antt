@@ -2,7 +2,7 @@
 use Rattle.std.specs.Prelude.{◌≡◌, ◌⊎◌, ℕ, ◌+◌, ◌<◌, List, ◌∷◌, ◌++◌, length, take, drop, Option, Some}
 use Rattle.cedar_journal.specs.declared.format.Format.{Format}
 use Rattle.cedar_journal.specs.Device.{Only}
-use Rattle.cedar_journal.specs.Files.{IsWholeFront, added, recovered}
+use Rattle.cedar_journal.specs.Files.{IsWholeFront, with_payload, file_payloads}
 use Rattle.cedar_journal.specs.Formats.{frame_of}
 
 -- The file is a header that names this format, whole records, a closed gate and whatever is behind that, all of it on the disk. The records
@@ -22,8 +22,8 @@ pub record IsStaged {D : Type 0} (seen : D → List ℕ) (may_leave : D → List
 
 -- the file stands for what another stands for, with one more payload or without it
 abbrev pub IsBeforeOrAfter : Option (List (List ℕ)) → List ℕ → List ℕ → Type 0
-IsBeforeOrAfter before payload file = (recovered file ≡ before) ⊎ (recovered file ≡ added payload before)
+IsBeforeOrAfter before payload file = (file_payloads file ≡ before) ⊎ (file_payloads file ≡ with_payload payload before)
 
 -- the file stands for what another stands for, or for these payloads
 abbrev pub StandsForEither : Option (List (List ℕ)) → List (List ℕ) → List ℕ → Type 0
-StandsForEither before payloads file = (recovered file ≡ before) ⊎ (recovered file ≡ Some payloads)
+StandsForEither before payloads file = (file_payloads file ≡ before) ⊎ (file_payloads file ≡ Some payloads)

@@ -36,5 +36,5 @@ abbrev pub length_bytes : ℕ → List ℕ
 length_bytes n = n % 256 ∷ n / 256 % 256 ∷ n / 65536 % 256 ∷ n / 16777216 % 256 ∷ []
 
 -- what stands behind a record's gate, and the closed gate behind it
-abbrev pub framed : List ℕ → List ℕ
-framed payload = length_bytes (length payload) ++ (payload ++ 0 ∷ [])
+abbrev pub frame_body : List ℕ → List ℕ
+frame_body payload = length_bytes (length payload) ++ (payload ++ 0 ∷ [])

@@ -1,7 +1,7 @@
 //! Records as bytes: what is at the start of some bytes, where whole records end, and how far the file of a journal goes.
 
 ghost use Rattle.std.specs.Prelude.{◌*◌, ◌+◌, ◌∷◌, ◌≡◌, ◌≤◌, ◌↔◌, [], drop, false, get_or, IfErr, IfNone, IfOk, IfSome, IsErr, length, None, Some, true};
-ghost use Rattle.cedar_journal.specs.Words.{read_behind, behind_record, damaged, ends_closed, file_reading, format_of, HasExtent, HasRecords, has_record, is_begun, IsFault, IsFoundThere, AreUndamaged, opening, overhead, payload, records_read, recovered, stands};
+ghost use Rattle.cedar_journal.specs.Words.{read_behind, behind_record, damaged, ends_closed, file_reading, format_of, HasExtent, HasRecords, has_record, is_begun, IsFault, IsFoundThere, AreUndamaged, opening, overhead, payload, records_read, file_payloads, stands};
 
 use crate::Format;
 use crc32c::crc32c;
@@ -192,7 +192,7 @@ pub fn extent_of(bytes: &[u8]) -> Result<Extent, FileFault>
     //  kind, and as damaged one with a record that counts and isn't whole or has another sum, at the place of the first such record. [with
     //  refused, cause]
     ensures extent { IfOk result (λ extent. HasExtent bytes.now extent) }
-    ensures refused { IsErr result ↔ (recovered bytes.now ≡ None) }
+    ensures refused { IsErr result ↔ (file_payloads bytes.now ≡ None) }
     ensures cause { IfErr result (λ fault. IsFault bytes.now fault) }
 {
     match format_of(bytes) {

@@ -7,6 +7,6 @@ pub use Rattle.cedar_model.specs.Table.Layouts.{default_layout, layout_byte, Lay
 pub use Rattle.cedar_model.specs.Table.TableFields.{Fields, size_of}
 pub use Rattle.cedar_model.specs.declared.layout.Stored.TheVariants.{AtBase, Nothing}
 pub use Rattle.cedar_slots.specs.Ring.{occurs}
-pub use Rattle.cedar_tree.specs.Queries.{prefixes, used, walk}
+pub use Rattle.cedar_tree.specs.Queries.{prefixes, slots_of_tree, walk}
 pub use Rattle.cedar_tree.specs.Tree.{Forest}
 pub use Rattle.std.specs.List.{range_with_len}

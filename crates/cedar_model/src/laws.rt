@@ -1,7 +1,7 @@
 //! Laws of what a table stands for.
 
 ghost use Rattle.std.specs.Prelude.{if◌then◌else◌, ◌+◌, ◌↔◌, ◌≡◌, count_by, length, List, None, true, ℕ};
-ghost use Rattle.cedar_model.specs.Words.{Cells, cells_in, default_layout, Fields, Forest, HasMark, HoldsTree, is_held, IsWellFormed, KeepsMarks, labels, Leads, MarkedAt, marks, NoPlace, occurs, prefixes, range_with_len, size_of, slot_at, slots_named, tree_of, used, walk};
+ghost use Rattle.cedar_model.specs.Words.{Cells, cells_in, default_layout, Fields, Forest, HasMark, HoldsTree, is_held, IsWellFormed, KeepsMarks, labels, Leads, MarkedAt, marks, NoPlace, occurs, prefixes, range_with_len, size_of, slot_at, slots_named, slots_of_tree, tree_of, walk};
 
 /// Slots stand for one tree at most, and those of a table for the one that is read from it.
 pub fn one_tree()
@@ -29,7 +29,7 @@ pub fn held_slots_are_counted()
     ensures named { (limit : ℕ) (table : Fields) → IsWellFormed limit table → count_by (is_held (cells_in table)) (range_with_len 0 (size_of table)) ≡ length (slots_named (cells_in table) (tree_of table)) }
 
     //= In the default layout that is one, plus the prefixes, plus the entries.
-    ensures by_default { (limit : ℕ) (table : Fields) → IsWellFormed limit table → table.layout ≡ default_layout → count_by (is_held (cells_in table)) (range_with_len 0 (size_of table)) ≡ used (tree_of table) }
+    ensures by_default { (limit : ℕ) (table : Fields) → IsWellFormed limit table → table.layout ≡ default_layout → count_by (is_held (cells_in table)) (range_with_len 0 (size_of table)) ≡ slots_of_tree (tree_of table) }
 
     //= In either layout it is one, plus the distinct nonempty prefixes, plus the numbers that have slots of their own.
     ensures marked { (limit : ℕ) (table : Fields) → IsWellFormed limit table → count_by (is_held (cells_in table)) (range_with_len 0 (size_of table)) ≡ 1 + length (prefixes (tree_of table)) + length (walk (marks table)) }
@@ -54,5 +54,5 @@ pub fn marks_are_read()
 pub fn full_blocks_are_counted()
     //= In the default layout, if no slot outside block 0 is free, the slots in use and the root's children are together as many as the
     //  tree's slots and 255.
-    ensures { (limit : ℕ) (table : Fields) → IsWellFormed limit table → table.layout ≡ default_layout → NoPlace (size_of table) (cells_in table) → size_of table + length (labels (tree_of table).children) ≡ used (tree_of table) + 255 }
+    ensures { (limit : ℕ) (table : Fields) → IsWellFormed limit table → table.layout ≡ default_layout → NoPlace (size_of table) (cells_in table) → size_of table + length (labels (tree_of table).children) ≡ slots_of_tree (tree_of table) + 255 }
 {}

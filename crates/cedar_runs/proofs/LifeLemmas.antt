@@ -3,7 +3,7 @@ use Rattle.std.specs.Prelude.{Bool, Option, None, Some}
 use Rattle.std.proofs.Common.{◌≡◌, inl, ⊎_elim, ℕ, suc, true, false, List, [], ◌∷◌, length, refl, sym, ◌∙◌, ap, subst}
 use Rattle.cedar_tree.specs.State.{State}
 use Rattle.cedar_store.specs.Files.{IsEither, state_of}
-use Rattle.cedar_runs.specs.Lives.{CrashesIn, IsLife, IsSession, Session, after_session, calling, lived, while_opening, with_last}
+use Rattle.cedar_runs.specs.Lives.{CrashesIn, IsLife, IsSession, Session, after_session, calling, after_life, while_opening, with_last}
 use Rattle.cedar_runs.specs.Runs.{IsStoreRun, failed_after_all, sure_after_all}
 use Rattle.cedar_runs.specs.Steps.{IsKnown, Point, called, under_way}
 use Rattle.cedar_runs.specs.declared.call.StoreCall.{StoreCall}
@@ -47,7 +47,7 @@ module _ {D : Type 0} (seen : D → List ℕ) (moment : D → ℕ) (left_since :
       subst (λ t. Ends t (calling calls outcomes last) after) same (either_end first.held calls outcomes last after (crashed first end calls outcomes last after begins.usable h.5 later h.6))
 
   pub lives_on : (sessions : List Session) (before after : List ℕ) (s : State) → state_of before ≡ Some s → IsLife seen moment left_since may_leave sessions before after
-      → (ends : List Bool) × (length ends ≡ length sessions) × (state_of after ≡ Some (lived s sessions ends))
+      → (ends : List Bool) × (length ends ≡ length sessions) × (state_of after ≡ Some (after_life s sessions ends))
   lives_on [] before after s is h = ([], refl, ap state_of h ∙ is)
   lives_on (session ∷ sessions) before after s is h =
       let one = session_ends session before h.0 s is h.1 in

@@ -56,13 +56,13 @@ after_session s while_opening has_last = s
 after_session s (calling calls outcomes last) has_last = cond has_last (with_last s calls outcomes last) (sure_after_all s s calls outcomes)
 
 -- what a life makes of it
-abbrev pub lived : State → List Session → List Bool → State
-lived s [] ends = s
-lived s (session ∷ sessions) [] = s
-lived s (session ∷ sessions) (has_last ∷ ends) = lived (after_session s session has_last) sessions ends
+abbrev pub after_life : State → List Session → List Bool → State
+after_life s [] ends = s
+after_life s (session ∷ sessions) [] = s
+after_life s (session ∷ sessions) (has_last ∷ ends) = after_life (after_session s session has_last) sessions ends
 
 -- The file at the end of a life stands for what the life made of the dictionary that the first file stood for.
 abbrev pub AcknowledgedCallsStay : {D : Type 0} → (D → List ℕ) → (D → ℕ) → (D → ℕ → List ℕ → Type 0) → (D → List ℕ → Type 0) → Type 0
 AcknowledgedCallsStay seen moment left_since may_leave = (sessions : List Session) (before after : List ℕ) (s : State) → state_of before ≡ Some s
     → IsLife seen moment left_since may_leave sessions before after
-    → (ends : List Bool) × (length ends ≡ length sessions) × (state_of after ≡ Some (lived s sessions ends))
+    → (ends : List Bool) × (length ends ≡ length sessions) × (state_of after ≡ Some (after_life s sessions ends))

@@ -1,6 +1,6 @@
 -- What a call of a store does to its dictionary, and to what a crash may leave.
 use Rattle.std.specs.Prelude.{◌≡◌, ℕ, Bool, true, false, List}
-use Rattle.cedar_tree.specs.State.{State, erased, stored}
+use Rattle.cedar_tree.specs.State.{State, after_erase, after_put}
 use Rattle.cedar_store.specs.Changes.{all_changed}
 use Rattle.cedar_store.specs.Files.{IsEither}
 use Rattle.cedar_store.specs.Told.{changes_told}
@@ -16,8 +16,8 @@ use Rattle.cedar_runs.specs.declared.call.Outcome.TheVariants.{Made, Nothing, Fa
 
 -- the state after a call
 abbrev pub called : State → StoreCall → State
-called s (call.Update key v) = stored s key.now v
-called s (call.Erase key) = erased s key.now
+called s (call.Update key v) = after_put s key.now v
+called s (call.Erase key) = after_erase s key.now
 called s (call.Batch changes) = all_changed s (changes_told changes.now)
 called s call.Compact = s
 called s (call.Rule compaction) = s

@@ -1,7 +1,7 @@
 //! Calls of a store, one after another.
 
 ghost use Rattle.std.specs.Prelude.{◌+◌, ◌≡◌, ◌≤◌, IfErr, IfOk, length, vec_capacity, vec_len};
-ghost use Rattle.cedar_runs.specs.Words.{AddsStoreRun, all_changed, BeginsSession, called, changes_told, erased, IsCallStep, IsReadyStore, KeepsState, Only, outcome_of, outcome_of_compaction, outcome_of_erasure, point_of, stored};
+ghost use Rattle.cedar_runs.specs.Words.{AddsStoreRun, after_erase, after_put, all_changed, BeginsSession, called, changes_told, IsCallStep, IsReadyStore, KeepsState, Only, outcome_of, outcome_of_compaction, outcome_of_erasure, point_of};
 
 use crate::{Outcome, StoreCall};
 use cedar_journal::{Device, ReplaceDevice};
@@ -81,7 +81,7 @@ fn update<T: Words, A: Allocator + Copy, D: ReplaceDevice>(
 ) -> Outcome
     requires ready { IsReadyStore D.seen D.may_leave T.state store.old }
     ensures ready { IsReadyStore D.seen D.may_leave T.state store.new }
-    ensures step { IsCallStep D.moment D.left_since D.may_leave (point_of T.state store.old) (stored (T.state store.old.words) key.now value) result (point_of T.state store.new) }
+    ensures step { IsCallStep D.moment D.left_since D.may_leave (point_of T.state store.old) (after_put (T.state store.old.words) key.now value) result (point_of T.state store.new) }
 {
     match store.update_bytes(key, value) {
         Ok(()) => Outcome::Made,
@@ -95,7 +95,7 @@ fn erase<T: Words, A: Allocator + Copy, D: ReplaceDevice>(
 ) -> Outcome
     requires ready { IsReadyStore D.seen D.may_leave T.state store.old }
     ensures ready { IsReadyStore D.seen D.may_leave T.state store.new }
-    ensures step { IsCallStep D.moment D.left_since D.may_leave (point_of T.state store.old) (erased (T.state store.old.words) key.now) result (point_of T.state store.new) }
+    ensures step { IsCallStep D.moment D.left_since D.may_leave (point_of T.state store.old) (after_erase (T.state store.old.words) key.now) result (point_of T.state store.new) }
 {
     match store.erase_bytes(key) {
         Ok(held) => outcome_of_erasure(held),

@@ -4,7 +4,7 @@ use Rattle.cedar_journal.specs.declared.format.Format.{Format}
 use Rattle.cedar_journal.specs.declared.format.Format.TheVariants.{Plain, Summed}
 use Rattle.cedar_journal.specs.declared.records.Extent.{Extent}
 use Rattle.cedar_journal.specs.declared.records.Extent.TheVariants.{New, Until}
-use Rattle.cedar_journal.specs.Files.{HasExtent, format_of, recovered}
+use Rattle.cedar_journal.specs.Files.{HasExtent, format_of, file_payloads}
 use Rattle.cedar_journal.specs.Formats.{four_at, is_summed}
 use Rattle.cedar_journal.specs.Records.{behind_record, has_record, payloads_in}
 use Rattle.cedar_store.specs.Changes.{changes_of}
@@ -56,8 +56,8 @@ salvaged_by None file = found_in file
 
 -- What is saved of a file. Version 2: each whole record behind the header. Version 1, which has no sums: the records up to one that is no
 -- change. No header: each whole record of version 2 that stands anywhere.
-abbrev pub salvaged : List ℕ → List (List ℕ)
-salvaged file = salvaged_by (format_of file) file
+abbrev pub salvage_of : List ℕ → List (List ℕ)
+salvage_of file = salvaged_by (format_of file) file
 
 -- there is one
 abbrev pub has_some : List (List ℕ) → Bool
@@ -101,4 +101,4 @@ IsCutOf file kept = (extent : Extent) × HasExtent file extent × ((cuts_records
 
 -- The file stands for no records, and an opening refuses it; or it would cut off no whole record.
 abbrev pub CutsNone : List ℕ → Type 0
-CutsNone file = (recovered file ≡ None) ⊎ ((extent : Extent) × HasExtent file extent × (cuts_records file extent ≡ false))
+CutsNone file = (file_payloads file ≡ None) ⊎ ((extent : Extent) × HasExtent file extent × (cuts_records file extent ≡ false))

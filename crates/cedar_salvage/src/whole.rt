@@ -1,7 +1,7 @@
 //! The whole records of a file, as a new file.
 
 ghost use Rattle.std.specs.Prelude.{◌++◌, ◌∷◌, ◌≡◌, [], drop, IfOk, OnOk, Some};
-ghost use Rattle.cedar_salvage.specs.Words.{first_changes, found_in, found_of, IsSettled, Only, payloads_in, payloads_of, recovered, salvaged};
+ghost use Rattle.cedar_salvage.specs.Words.{file_payloads, first_changes, found_in, found_of, IsSettled, Only, payloads_in, payloads_of, salvage_of};
 
 use crate::record::{format_of, next_whole, plain_change};
 use cedar_journal::{
@@ -21,7 +21,7 @@ use std::alloc::Allocator;
 pub fn salvage<A: Allocator + Copy>(alloc: A, bytes: &[u8]) -> Result<Image<A>, FrameError>
     //= What is saved of a damaged file is each whole record of version 2 that is a change, in their order, whatever lies between them; of
     //  version 1 the records before the first one that is no change.
-    ensures { IfOk result (λ image. payloads_of image ≡ salvaged bytes.now) }
+    ensures { IfOk result (λ image. payloads_of image ≡ salvage_of bytes.now) }
 {
     let mut image = Image::new(alloc)?;
     push_records(alloc, &mut image, bytes)?;
@@ -39,7 +39,7 @@ pub fn store_with<D: ReplaceDevice + Drop, A: Allocator + Copy>(
 ) -> Result<Journal<D>, DurableError>
     requires restarted { Only (D.seen device) (D.may_leave device) }
     //= A store that is made of what was saved has exactly those records, and is on the disk. [with settled]
-    ensures records { IfOk result (λ journal. recovered (D.seen journal.device) ≡ Some (payloads_of image.now)) }
+    ensures records { IfOk result (λ journal. file_payloads (D.seen journal.device) ≡ Some (payloads_of image.now)) }
     ensures settled { IfOk result (λ journal. IsSettled D.seen D.may_leave journal.device journal.format journal.end) }
 {
     let mut device = device;
@@ -61,7 +61,7 @@ fn push_records<A: Allocator + Copy>(
     image: &mut Image<A>,
     bytes: &[u8],
 ) -> Result<(), FrameError>
-    ensures { OnOk result (payloads_of image.new ≡ payloads_of image.old ++ salvaged bytes.now) }
+    ensures { OnOk result (payloads_of image.new ≡ payloads_of image.old ++ salvage_of bytes.now) }
 {
     match format_of(bytes) {
         Some(format) => push_of(alloc, image, format, behind_header(bytes)),

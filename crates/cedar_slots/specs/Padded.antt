@@ -8,5 +8,5 @@ pub record Items (T : Type 0) : Type 0 where
   pub room : ℕ
 
 -- the items, and behind them blanks up to a length
-abbrev pub padded : {T : Type 0} → T → ℕ → List T → List T
-padded blank len items = items ++ replicate (len - length items) blank
+abbrev pub with_blanks : {T : Type 0} → T → ℕ → List T → List T
+with_blanks blank len items = items ++ replicate (len - length items) blank

@@ -1,7 +1,7 @@
 //! A list of which only a prefix has been written yet.
 
 ghost use Rattle.std.specs.Prelude.{◌+◌, ◌++◌, ◌<◌, ◌≡◌, ◌≤◌, IfOk, length, OnErr, OnOk, replicate, slice_index_or, slice_set, take, vec_capacity, vec_len};
-ghost use Rattle.cedar_slots.specs.Padded.{Items, padded};
+ghost use Rattle.cedar_slots.specs.Padded.{Items, with_blanks};
 
 use std::alloc::{AllocError, Allocator};
 use std::marker::Model;
@@ -25,7 +25,7 @@ pub struct Padded<T: Blank, A: Allocator> {
 impl<T: Blank, A: Allocator> Model for Padded<T, A> {
     ghost Value = { Items T };
 
-    ghost view = { λ p. record { items = padded T.BLANK p.len p.front.items; used = vec_len p.front; room = vec_capacity p.front } };
+    ghost view = { λ p. record { items = with_blanks T.BLANK p.len p.front.items; used = vec_len p.front; room = vec_capacity p.front } };
 
     ghost invariant = { λ p. (vec_len p.front ≤ p.len) × (p.len ≤ vec_capacity p.front) };
 }
@@ -139,18 +139,18 @@ impl<T: Blank, A: Allocator> Padded<T, A> {
     pub fn front(&self) -> &[T]
         //= `front` returns the items that are written to memory, and all others are blank. [with rest, used]
         ensures front { result.now ≡ take self.now.used self.now.items }
-        ensures rest { self.now.items ≡ padded T.BLANK (length self.now.items) result.now }
+        ensures rest { self.now.items ≡ with_blanks T.BLANK (length self.now.items) result.now }
         ensures used { self.now.used ≡ length result.now }
     {
         self.front.as_slice()
     }
 
     /// Returns a list with the same items, of which equally many are written to memory.
-    pub fn copied(&self) -> Result<Padded<T, A>, AllocError>
+    pub fn try_copy(&self) -> Result<Padded<T, A>, AllocError>
     where
         A: Copy,
 
-        //= `copied` returns a list with the same items, of which equally many are written to memory, or fails for lack of memory. [with
+        //= `try_copy` returns a list with the same items, of which equally many are written to memory, or fails for lack of memory. [with
         //  used, within]
         ensures items { IfOk result (λ copy. copy.items ≡ self.now.items) }
         ensures used { IfOk result (λ copy. copy.used ≡ self.now.used) }

@@ -21,7 +21,7 @@ pub struct Places<A: Allocator> {
 }
 
 /// Returns how many slots of `block` are counted as free and are in no ring: the root alone.
-pub fn reserved(block: usize) -> i16
+pub fn root_count(block: usize) -> i16
     ensures { result ≡ pos (if block == 0 then 1 else 0) }
 {
     if block == 0 { 1 } else { 0 }
@@ -150,7 +150,7 @@ impl<A: Allocator> Places<A> {
     {
         let block = slot / BLOCK_SIZE;
         let counts = self.blocks.counts(block);
-        if counts.num == reserved(block) {
+        if counts.num == root_count(block) {
             let floor = self.reject_for(counts.num + 1);
             self.slots.give_alone(slot);
             self.blocks

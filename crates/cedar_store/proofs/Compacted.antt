@@ -10,7 +10,7 @@ use Rattle.cedar_journal.specs.declared.replace.ReplaceError.{ReplaceError}
 use Rattle.cedar_journal.specs.declared.replace.ReplaceError.TheVariants as replace
 use Rattle.cedar_journal.specs.declared.format.Format.{Format}
 use Rattle.cedar_journal.specs.declared.format.Format.TheVariants.{Summed}
-use Rattle.cedar_journal.specs.Files.{IsWholeFront, recovered, added}
+use Rattle.cedar_journal.specs.Files.{file_payloads, IsWholeFront, with_payload}
 use Rattle.cedar_journal.specs.Formats.{AreWhole, payloads_read, records_read}
 use Rattle.cedar_journal.specs.Images.{image_of, records_of}
 use Rattle.cedar_journal.specs.Journal.{IsSettled}
@@ -27,7 +27,7 @@ use Rattle.cedarwood.specs.Fault.{fault, key_fault, or_else, value_fault}
 use Rattle.cedarwood.specs.SortedInput.{HasNoNul}
 use Rattle.cedarwood.proofs.DictionaryLemmas.{no_value_fault}
 use Rattle.cedarwood.proofs.SortedInputLemmas.{clean_key}
-use Rattle.cedar_store.specs.Changes.{Change, after, all_changed, changes_of, put_at, replayed}
+use Rattle.cedar_store.specs.Changes.{Change, after, all_changed, changes_of, put_at, after_payloads}
 use Rattle.cedar_store.specs.declared.compaction.Compaction.{Compaction}
 use Rattle.cedar_store.specs.declared.compaction.Compaction.TheVariants.{Never, Beyond}
 use Rattle.cedar_store.specs.declared.compaction.CompactError.{CompactError}
@@ -83,11 +83,11 @@ stepped later p key v is None = refl
 stepped later p key v is (Some s) = ap (λ (c : Option (List Change)). option_map (λ t. all_stored t later) (option_map (all_changed s) c)) is
 
 pub one_put : (ps more : List (List ℕ)) (p key : List ℕ) (v : ℤ) (later : List Entry) → more ≡ ps ++ p ∷ [] → changes_of p ≡ Some (put_at key v ∷ [])
-    → option_map (λ s. all_stored s later) (replayed new_state more) ≡ option_map (λ s. all_stored s ((key, v) ∷ later)) (replayed new_state ps)
+    → option_map (λ s. all_stored s later) (after_payloads new_state more) ≡ option_map (λ s. all_stored s ((key, v) ∷ later)) (after_payloads new_state ps)
 one_put ps more p key v later behind is =
-    ap (λ (l : List (List ℕ)). option_map (λ s. all_stored s later) (replayed new_state l)) behind
+    ap (λ (l : List (List ℕ)). option_map (λ s. all_stored s later) (after_payloads new_state l)) behind
     ∙ ap (option_map (λ s. all_stored s later)) (replayed_more ps p new_state)
-    ∙ stepped later p key v is (replayed new_state ps)
+    ∙ stepped later p key v is (after_payloads new_state ps)
 
 pub none_left : (o : Option State) → option_map (λ s. all_stored s []) o ≡ o
 none_left None = refl
@@ -96,10 +96,10 @@ none_left (Some s) = refl
 -- ---- what the file stands for
 
 -- a record more, of a file that stands for any state or for none
-pub state_more : (file c p : List ℕ) → recovered c ≡ added p (recovered file) → state_of c ≡ option_and_then (λ s. after s p) (state_of file)
-state_more file c p more = ap (option_and_then (replayed new_state)) more ∙ with_one (recovered file)
+pub state_more : (file c p : List ℕ) → file_payloads c ≡ with_payload p (file_payloads file) → state_of c ≡ option_and_then (λ s. after s p) (state_of file)
+state_more file c p more = ap (option_and_then (after_payloads new_state)) more ∙ with_one (file_payloads file)
   where
-    with_one : (r : Option (List (List ℕ))) → option_and_then (replayed new_state) (added p r) ≡ option_and_then (λ s. after s p) (option_and_then (replayed new_state) r)
+    with_one : (r : Option (List (List ℕ))) → option_and_then (after_payloads new_state) (with_payload p r) ≡ option_and_then (λ s. after s p) (option_and_then (after_payloads new_state) r)
     with_one None = refl
     with_one (Some ps) = replayed_more ps p new_state
 
@@ -160,12 +160,12 @@ at_kept P e d is holds = subst (λ x. IfKept {T = Unit {0}} (Err x) P) is holds
 -- ---- the file that is there
 
 pub stands_of_image : (bytes f : List ℕ) (s : State) → bytes ≡ image_of (records_of bytes) → AreWhole Summed (records_of bytes)
-    → replayed new_state (payloads_read (records_read Summed (records_of bytes))) ≡ Some s → f ≡ bytes → state_of f ≡ Some s
-stands_of_image bytes f s shape whole made is = ap (option_and_then (replayed new_state)) (ap recovered (is ∙ shape) ∙ image_stands (records_of bytes) whole) ∙ made
+    → after_payloads new_state (payloads_read (records_read Summed (records_of bytes))) ≡ Some s → f ≡ bytes → state_of f ≡ Some s
+stands_of_image bytes f s shape whole made is = ap (option_and_then (after_payloads new_state)) (ap file_payloads (is ∙ shape) ∙ image_stands (records_of bytes) whole) ∙ made
 
 -- what is left of a file that was to be replaced by these bytes, as they are shown
 pub image_or_before : (before : List ℕ → Type 0) (bytes shown : List ℕ) (s : State) → bytes ≡ image_of (records_of bytes) → AreWhole Summed (records_of bytes)
-    → replayed new_state (payloads_read (records_read Summed (records_of bytes))) ≡ Some s → shown ≡ bytes → (f : List ℕ) → before f ⊎ (f ≡ shown) → before f ⊎ StandsFor s f
+    → after_payloads new_state (payloads_read (records_read Summed (records_of bytes))) ≡ Some s → shown ≡ bytes → (f : List ℕ) → before f ⊎ (f ≡ shown) → before f ⊎ StandsFor s f
 image_or_before before bytes shown s shape whole made same f = ⊎_elim (λ was. inl was) (λ is. inr (stands_of_image bytes f s shape whole made (is ∙ same)))
 
 module _ {D : Type 0} (seen : D → List ℕ) (may_leave : D → List ℕ → Type 0) where
@@ -207,11 +207,11 @@ on_err (Ok x) so holds = tt
 on_err (Err e) so holds = so e holds
 
 -- a file that has one record more, and was looked at
-pub still_more : {S : Type 0} (before between after payload : List ℕ) → recovered between ≡ added payload (recovered before) → (after ≡ between) ⊎ S
-    → (recovered after ≡ added payload (recovered before)) ⊎ S
-still_more before between after payload more = ⊎_elim (λ same. inl (ap recovered same ∙ more)) (λ short. inr short)
+pub still_more : {S : Type 0} (before between after payload : List ℕ) → file_payloads between ≡ with_payload payload (file_payloads before) → (after ≡ between) ⊎ S
+    → (file_payloads after ≡ with_payload payload (file_payloads before)) ⊎ S
+still_more before between after payload more = ⊎_elim (λ same. inl (ap file_payloads same ∙ more)) (λ short. inr short)
 
 -- that record has these changes
 pub recorded_in : {S : Type 0} (before after payload : List ℕ) (changes : List Change) → changes_of payload ≡ Some changes
-    → (recovered after ≡ added payload (recovered before)) ⊎ S → AddsRecord changes before after ⊎ S
+    → (file_payloads after ≡ with_payload payload (file_payloads before)) ⊎ S → AddsRecord changes before after ⊎ S
 recorded_in before after payload changes told = ⊎_elim (λ more. inl (record { payload = payload; behind = more; change = told })) (λ short. inr short)

@@ -13,7 +13,7 @@ use Rattle.cedarwood.proofs.UpdateLemmas.{fault_no_shortage}
 use Rattle.cedar_store.specs.declared.error.DurableError.{DurableError}
 use Rattle.cedar_store.specs.declared.error.DurableError.TheVariants as error
 use Rattle.cedar_store.specs.Causes.{ReplayCause}
-use Rattle.cedar_store.specs.Changes.{Change, change_of, changed, all_changed, batch_of, changes_of, after, put_of, put_unless, number_of_bytes, put_at, erase_at}
+use Rattle.cedar_store.specs.Changes.{Change, change_of, after_change, all_changed, batch_of, changes_of, after, put_of, put_unless, number_of_bytes, put_at, erase_at}
 
 -- all behind some first bytes
 pub rest_is : (n : ℕ) (bytes : List ℕ) → take (length bytes - n) (drop n bytes) ≡ drop n bytes
@@ -72,11 +72,11 @@ pub one_change : (payload : List ℕ) (c : Change) → change_of payload ≡ Som
 one_change payload c is =
     of_single payload (λ two. some_is_none c (sym is ∙ of_two payload two)) ∙ ap (option_map (λ (d : Change). d ∷ [])) is
 
-single_maps : (s : State) (o : Option Change) → option_map (changed s) o ≡ option_map (all_changed s) (option_map (λ c. c ∷ []) o)
+single_maps : (s : State) (o : Option Change) → option_map (after_change s) o ≡ option_map (all_changed s) (option_map (λ c. c ∷ []) o)
 single_maps s None = refl
 single_maps s (Some c) = refl
 
-pub single_after : (s : State) (payload : List ℕ) → get_or payload 0 0 ≢ 2 → option_map (changed s) (change_of payload) ≡ after s payload
+pub single_after : (s : State) (payload : List ℕ) → get_or payload 0 0 ≢ 2 → option_map (after_change s) (change_of payload) ≡ after s payload
 single_after s payload other = single_maps s (change_of payload) ∙ ap (option_map (all_changed s)) (sym (of_single payload other))
 
 -- ---- a put
@@ -154,14 +154,14 @@ err_is r a b p q = cc
 pub refused_pair : (s : State) (key : List ℕ) (v : ℤ) (e : CedarError) (told : DurableError) (r : Result (Unit {0}) CedarError) (f : Option CedarError) → fault key v ≡ f
     → IfSome f (λ x. r ≡ Err x) → (f ≡ None → IfErr r (λ x. IsShortage x)) → r ≡ Err e
     → (IsShortage e → told ≡ error.Refused e) → ((IsShortage e → ⊥) → told ≡ error.Corrupt)
-    → ReplayCause (option_map (changed s) (put_unless f key v)) told
+    → ReplayCause (option_map (after_change s) (put_unless f key v)) told
 refused_pair s key v e told r None is faulty refused was shortage other =
     let wants : IsShortage e = subst (λ x. IfErr x IsShortage) was (refused refl) in
-    subst (λ t. ReplayCause (option_map (changed s) (put_unless None key v)) t) (sym (shortage wants)) wants
+    subst (λ t. ReplayCause (option_map (after_change s) (put_unless None key v)) t) (sym (shortage wants)) wants
 refused_pair s key v e told r (Some x) is faulty refused was shortage other =
     let same : x ≡ e = err_is r x e faulty was in
     let not : IsShortage e → ⊥ = fault_no_shortage key v e (is ∙ ap Some same) in
-    subst (λ t. ReplayCause (option_map (changed s) (put_unless (Some x) key v)) t) (sym (other not)) refl
+    subst (λ t. ReplayCause (option_map (after_change s) (put_unless (Some x) key v)) t) (sym (other not)) refl
 
 pub shortages : (P : Type 0) (r : Result (Unit {0}) CedarError) → IfErr r (λ x. IsShortage x × P) → IfErr r (λ x. IsShortage x)
 shortages P (Ok x) refused = tt

@@ -2,7 +2,7 @@
 use Rattle.std.specs.Prelude.{◌≡◌, ℕ, ◌+◌, ◌<◌, ℤ, Bool, false, ◌||◌, cond, List, [], ◌∷◌, ◌++◌, fold, get_or, length, take, Option, None, Some, nat_eq}
 use Rattle.std.specs.Cmp.Lexicographic.{pointwise}
 use Rattle.cedar_journal.specs.Records.{length_bytes}
-use Rattle.cedar_tree.specs.State.{State, stored, erased}
+use Rattle.cedar_tree.specs.State.{State, after_put, after_erase}
 use Rattle.cedar_tree.specs.Tree.{IsKey}
 use Rattle.cedarwood.specs.declared.error.CedarError.{CedarError}
 use Rattle.cedarwood.specs.Fault.{fault}
@@ -17,7 +17,7 @@ change_at changes i = get_or changes i (erase_at [])
 
 -- the state after a change if it is an update: an erasure waits
 abbrev pub only_updated : State → Change → State
-only_updated s (put_at key v) = stored s key v
+only_updated s (put_at key v) = after_put s key v
 only_updated s (erase_at key) = s
 
 -- the state after the updates among some changes
@@ -37,7 +37,7 @@ is_put_by path (c ∷ changes) = puts path c || is_put_by path changes
 -- the state after an erasure that waited: it is made unless a later change puts its key
 abbrev pub late_erased : State → Change → List Change → State
 late_erased s (put_at key v) later = s
-late_erased s (erase_at key) later = cond (is_put_by key later) s (erased s key)
+late_erased s (erase_at key) later = cond (is_put_by key later) s (after_erase s key)
 
 -- the state after the erasures among some changes
 abbrev pub all_erased_late : State → List Change → State
@@ -69,7 +69,7 @@ HasKey (erase_at key) = Unit {0}
 
 -- before a change was made, if it is an update, its key held this
 abbrev pub IsHeld : State → Change → Option ℤ → Type 0
-IsHeld s (put_at key v) held = IsPutOf s key held (stored s key v)
+IsHeld s (put_at key v) held = IsPutOf s key held (after_put s key v)
 IsHeld s (erase_at key) held = Unit {0}
 
 -- so of each of some changes, whose updates are made one after another

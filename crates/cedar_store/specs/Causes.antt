@@ -1,7 +1,7 @@
 -- What an error of a store says.
 use Rattle.std.specs.Prelude.{◌≡◌, ◌⊎◌, ℕ, ◌<◌, ◌≤◌, Bool, true, List, length, Option, None, Some, IsSome}
 use Rattle.cedar_journal.specs.declared.device.DeviceError.TheVariants.{Failed}
-use Rattle.cedar_journal.specs.Files.{file_reading, recovered}
+use Rattle.cedar_journal.specs.Files.{file_payloads, file_reading}
 use Rattle.cedar_journal.specs.Formats.{damaged}
 use Rattle.cedar_tree.specs.State.{State}
 use Rattle.cedarwood.specs.declared.error.CedarError.{CedarError}
@@ -25,14 +25,14 @@ abbrev pub LoadCause : List ℕ → DurableError → Type 0
 LoadCause file error.Foreign = file_reading file ≡ None
 LoadCause file (error.Damaged at) = file_reading file ≡ Some (damaged at)
 LoadCause file error.Corrupt = IsCorrupt file
-LoadCause file (error.Refused e) = IsSome (recovered file) × IsShortage e
+LoadCause file (error.Refused e) = IsSome (file_payloads file) × IsShortage e
 LoadCause file _ = ⊥
 
 -- Why a file wasn't opened: as above, or there was no memory for its bytes, or the device failed, which has told so often before and now that
 -- it did.
 abbrev pub OpenCause : List ℕ → ℕ → ℕ → DurableError → Type 0
 OpenCause file before now (error.Device e) = e ≡ Failed → before < now
-OpenCause file before now (error.Refused e) = (e ≡ cedar.Memory) ⊎ (IsSome (recovered file) × IsShortage e)
+OpenCause file before now (error.Refused e) = (e ≡ cedar.Memory) ⊎ (IsSome (file_payloads file) × IsShortage e)
 OpenCause file before now e = LoadCause file e
 
 -- why it wasn't read: there was no memory for its bytes, or the disk failed

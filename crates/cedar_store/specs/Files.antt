@@ -1,12 +1,12 @@
 -- The dictionary that a file stands for.
 use Rattle.std.specs.Prelude.{◌≡◌, ◌⊎◌, ℕ, Bool, true, false, ◌||◌, not, is_some, List, [], ◌∷◌, Option, Some, option_and_then}
-use Rattle.cedar_journal.specs.Files.{added, recovered}
+use Rattle.cedar_journal.specs.Files.{file_payloads, with_payload}
 use Rattle.cedar_tree.specs.State.{State, new_state}
-use Rattle.cedar_store.specs.Changes.{Change, changes_of, replayed}
+use Rattle.cedar_store.specs.Changes.{after_payloads, Change, changes_of}
 
 -- The state after the changes of all records that count. None: the file is of another kind, or one of its records is no change.
 abbrev pub state_of : List ℕ → Option State
-state_of file = option_and_then (replayed new_state) (recovered file)
+state_of file = option_and_then (after_payloads new_state) (file_payloads file)
 
 -- one of some payloads is no change
 abbrev pub has_no_change : List (List ℕ) → Bool
@@ -15,7 +15,7 @@ has_no_change (payload ∷ payloads) = not (is_some (changes_of payload)) || has
 
 -- the file is a journal's, and one of its records is no change
 abbrev pub IsCorrupt : List ℕ → Type 0
-IsCorrupt file = (payloads : List (List ℕ)) × (recovered file ≡ Some payloads) × (has_no_change payloads ≡ true)
+IsCorrupt file = (payloads : List (List ℕ)) × (file_payloads file ≡ Some payloads) × (has_no_change payloads ≡ true)
 
 -- the file stands for one state or for another
 abbrev pub IsEither : State → State → List ℕ → Type 0
@@ -28,5 +28,5 @@ StandsFor state file = state_of file ≡ Some state
 -- a file has the records of another one, and behind them one more, of these changes
 pub record AddsRecord (changes : List Change) (before after : List ℕ) : Type 0 where
   pub payload : List ℕ
-  pub behind : recovered after ≡ added payload (recovered before)
+  pub behind : file_payloads after ≡ with_payload payload (file_payloads before)
   pub change : changes_of payload ≡ Some changes

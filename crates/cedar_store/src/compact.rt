@@ -1,7 +1,7 @@
 //! A store's file made short: one record for each entry.
 
 ghost use Rattle.std.specs.Prelude.{◌+◌, ◌-◌, ◌<◌, ◌^◌, ◌≡◌, ◌⊎◌, false, IfErr, IfOk, IsErrOf, length, None, OnOk, option_and_then, Some, true};
-ghost use Rattle.cedar_store.specs.Words.{added, after, all_erased_late, all_stored, AllByRecursion, changes_told, CompactCause, compacted_length, CrashLeavesState, CrashLeavesStateOrOld, FailsByDevice, fault, IfKept, image_bytes, is_beyond, IsBeforeReplacing, IsConsistent, IsEither, IsPutBehind, IsReadyStore, IsSettled, IsShortened, KeepsFile, LeavesUnwritten, Leaves, LeavesFile, LeavesOnly, LostRoom, new_state, payload_of, payloads_of, recovered, replayed, State, state_of, walk};
+ghost use Rattle.cedar_store.specs.Words.{with_payload, after, all_erased_late, all_stored, AllByRecursion, changes_told, CompactCause, compacted_length, CrashLeavesState, CrashLeavesStateOrOld, FailsByDevice, fault, IfKept, image_bytes, is_beyond, IsBeforeReplacing, IsConsistent, IsEither, IsPutBehind, IsReadyStore, IsSettled, IsShortened, KeepsFile, LeavesUnwritten, Leaves, LeavesFile, LeavesOnly, LostRoom, new_state, payload_of, payloads_of, file_payloads, after_payloads, State, state_of, walk};
 
 use crate::batch::erase_rest;
 use crate::frames::put_payload;
@@ -111,7 +111,7 @@ impl<T: Words, A: Allocator + Copy, D: ReplaceDevice> Store<T, A, D> {
         ensures done { OnOk result (self.new.failed ≡ false) }
         ensures made { OnOk result (T.state self.new.words ≡ all_erased_late (T.state self.old.words) (changes_told changes.now)) }
         ensures due { OnOk result (is_beyond self.new.compaction self.new.base self.new.journal.end ≡ false) }
-        ensures recorded { OnOk result ((recovered (D.seen self.new.journal.device) ≡ added (payload_of frame.now) (recovered (D.seen self.old.journal.device)))
+        ensures recorded { OnOk result ((file_payloads (D.seen self.new.journal.device) ≡ with_payload (payload_of frame.now) (file_payloads (D.seen self.old.journal.device)))
             ⊎ IsShortened self.old self.new) }
         ensures err { IfErr result (LeavesUnwritten D.faults self.old self.new) }
         ensures left { IfErr result (λ e. Leaves e (T.state self.new.words ≡ all_erased_late (T.state self.old.words) (changes_told changes.now))
@@ -171,7 +171,7 @@ impl<T: Words, A: Allocator + Copy, D: ReplaceDevice> Store<T, A, D> {
         requires consistent { IsConsistent D.seen D.may_leave self.old.journal.device self.old.journal.format self.old.journal.end (T.state self.old.words) }
         requires usable { self.old.failed ≡ false }
         requires ordered { (T.state self.old.words).ordered ≡ true }
-        requires made { replayed new_state (payloads_of image.now) ≡ Some (T.state self.old.words) }
+        requires made { after_payloads new_state (payloads_of image.now) ≡ Some (T.state self.old.words) }
         requires looked_at { self.old.base ≡ self.old.journal.end }
         ensures ready { IsReadyStore D.seen D.may_leave T.state self.new }
         ensures done { OnOk result ((self.new.failed ≡ false) × (self.new.base ≡ self.new.journal.end)) }
@@ -205,7 +205,7 @@ impl<T: Words, A: Allocator + Copy, D: ReplaceDevice> Store<T, A, D> {
 
     /// Replaces the file by one that stands for the dictionary, whatever the file has that is there.
     fn put_in_place(&mut self, image: &Image<A>) -> Result<(), ReplaceError>
-        requires made { replayed new_state (payloads_of image.now) ≡ Some (T.state self.old.words) }
+        requires made { after_payloads new_state (payloads_of image.now) ≡ Some (T.state self.old.words) }
         ensures ready { IsReadyStore D.seen D.may_leave T.state self.old → IsReadyStore D.seen D.may_leave T.state self.new }
         ensures done { OnOk result ((self.new.failed ≡ false) × (self.new.base ≡ self.new.journal.end)) }
         ensures bytes { OnOk result (D.seen self.new.journal.device ≡ image_bytes image.now) }
@@ -241,7 +241,7 @@ pub(crate) fn image_of<T: Walked, A: Allocator + Copy, B: Allocator + Copy>(
     alloc: B,
 ) -> Result<Image<B>, CompactError>
     requires { AllByRecursion (λ e. fault e.0 e.1 ≡ None) entries }
-    ensures made { IfOk result (λ image. replayed new_state (payloads_of image) ≡ Some (all_stored new_state entries.entry)) }
+    ensures made { IfOk result (λ image. after_payloads new_state (payloads_of image) ≡ Some (all_stored new_state entries.entry)) }
     ensures length { IfOk result (λ image. length (image_bytes image) ≡ compacted_length entries.entry) }
     ensures cause { IfErr result (λ error. IsBeforeReplacing error) }
 {

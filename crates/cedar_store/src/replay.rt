@@ -1,7 +1,7 @@
 //! The changes of a file, made again.
 
 ghost use Rattle.std.specs.Prelude.{◌*◌, ◌+◌, ◌≡◌, IfErr, IfOk, OnOk, Some, option_map};
-ghost use Rattle.cedar_store.specs.Words.{after, all_changed, batch_of, change_of, changed, payloads_read, new_state, put_of, records_read, replayed, state_of, HasExtent, IsShortage, AreUndamaged, LoadCause, ReplayCause};
+ghost use Rattle.cedar_store.specs.Words.{after, all_changed, batch_of, change_of, after_change, payloads_read, new_state, put_of, records_read, after_payloads, state_of, HasExtent, IsShortage, AreUndamaged, LoadCause, ReplayCause};
 
 use crate::DurableError;
 use crate::words::{Made, Words};
@@ -71,8 +71,8 @@ fn make_changes<T: Words>(words: &mut T, bytes: &[u8], extent: Extent) -> Result
 /// Makes the changes of some records, one after another.
 fn replay<T: Words>(words: &mut T, format: Format, bytes: &[u8]) -> Result<(), DurableError>
     requires sound { AreUndamaged format bytes.now }
-    ensures state { OnOk result (replayed (T.state words.old) (payloads_read (records_read format bytes.now)) ≡ Some (T.state words.new)) }
-    ensures cause { IfErr result (λ error. ReplayCause (replayed (T.state words.old) (payloads_read (records_read format bytes.now))) error) }
+    ensures state { OnOk result (after_payloads (T.state words.old) (payloads_read (records_read format bytes.now)) ≡ Some (T.state words.new)) }
+    ensures cause { IfErr result (λ error. ReplayCause (after_payloads (T.state words.old) (payloads_read (records_read format bytes.now))) error) }
 {
     let mut at = 0;
     while let Some(payload) = next_payload(format, &bytes[at..]) {
@@ -114,8 +114,8 @@ fn apply_batch<T: Words>(words: &mut T, bytes: &[u8]) -> Result<(), DurableError
 
 /// Makes the change of a payload that has one.
 fn apply_one<T: Words>(words: &mut T, payload: &[u8]) -> Result<(), DurableError>
-    ensures state { OnOk result (option_map (changed (T.state words.old)) (change_of payload.now) ≡ Some (T.state words.new)) }
-    ensures cause { IfErr result (λ error. ReplayCause (option_map (changed (T.state words.old)) (change_of payload.now)) error) }
+    ensures state { OnOk result (option_map (after_change (T.state words.old)) (change_of payload.now) ≡ Some (T.state words.new)) }
+    ensures cause { IfErr result (λ error. ReplayCause (option_map (after_change (T.state words.old)) (change_of payload.now)) error) }
 {
     if payload.is_empty() {
         return Err(DurableError::Corrupt);
@@ -133,8 +133,8 @@ fn apply_one<T: Words>(words: &mut T, payload: &[u8]) -> Result<(), DurableError
 
 /// Puts the value of a payload without its operation.
 fn put_again<T: Words>(words: &mut T, bytes: &[u8]) -> Result<(), DurableError>
-    ensures state { OnOk result (option_map (changed (T.state words.old)) (put_of bytes.now) ≡ Some (T.state words.new)) }
-    ensures cause { IfErr result (λ error. ReplayCause (option_map (changed (T.state words.old)) (put_of bytes.now)) error) }
+    ensures state { OnOk result (option_map (after_change (T.state words.old)) (put_of bytes.now) ≡ Some (T.state words.new)) }
+    ensures cause { IfErr result (λ error. ReplayCause (option_map (after_change (T.state words.old)) (put_of bytes.now)) error) }
 {
     if bytes.len() < 4 {
         return Err(DurableError::Corrupt);

@@ -1,7 +1,7 @@
 //! The store: a dictionary, and the journal of its changes.
 
 ghost use Rattle.std.specs.Prelude.{◌+◌, ◌<◌, ◌^◌, ◌≡◌, ◌≤◌, ◌∷◌, IfErr, IfOk, IfSome, IsErrOf, IsOk, OnErr, OnOk, Some, [], false, if◌then◌else◌, is_some, length, true};
-ghost use Rattle.cedar_store.specs.Words.{added, all_changed, changes_told, erase_at, ends_closed, erased, fault, format_of, first_refused, number_at, payload_of, recovered, state_of, stored, AllByRecursion, HasExtent, IsBeforeOrAfter, IsBeforeWrites, IsCorrupt, IsFaultless, IsRecordedIn, IsSettled, LeavesOnly, Only, OpenCause, put_at, ReadCause, CrashLeavesEither, HasState, IsBatchCause, IsChangeCause, IsEraseCause, IsReadyStore, LeavesUnwritten, LeavesStore};
+ghost use Rattle.cedar_store.specs.Words.{with_payload, all_changed, changes_told, erase_at, ends_closed, after_erase, fault, format_of, first_refused, number_at, payload_of, file_payloads, state_of, after_put, AllByRecursion, HasExtent, IsBeforeOrAfter, IsBeforeWrites, IsCorrupt, IsFaultless, IsRecordedIn, IsSettled, LeavesOnly, Only, OpenCause, put_at, ReadCause, CrashLeavesEither, HasState, IsBatchCause, IsChangeCause, IsEraseCause, IsReadyStore, LeavesUnwritten, LeavesStore};
 
 use crate::batch::{make, take_all_back};
 use crate::frames::{erase_frame, put_frame};
@@ -211,7 +211,7 @@ impl<T: Words, A: Allocator + Copy, D: ReplaceDevice> Store<T, A, D> {
 
         //= An acknowledged insert or update has stored the value in the dictionary, and the file stands for it, on the disk. [with ready;
         //  also insert, update_bytes, update]
-        ensures stored { OnOk result (HasState T.state self.new (stored (T.state self.old.words) key.now value)) }
+        ensures stored { OnOk result (HasState T.state self.new (after_put (T.state self.old.words) key.now value)) }
         ensures ready { IsReadyStore D.seen D.may_leave T.state self.new }
 
         //= An insert returns the value that the key held before. [also insert]
@@ -219,7 +219,7 @@ impl<T: Words, A: Allocator + Copy, D: ReplaceDevice> Store<T, A, D> {
 
         //= A crash at any moment of an insert or update leaves a file that stands for the dictionary from before it, with the change or
         //  without. [also insert, update_bytes, update]
-        ensures any_moment { CrashLeavesEither D.moment D.left_since T.state self.old self.new (stored (T.state self.old.words) key.now value) }
+        ensures any_moment { CrashLeavesEither D.moment D.left_since T.state self.old self.new (after_put (T.state self.old.words) key.now value) }
 
         //= On a store that has failed no change is made: dictionary, file and rule are as they were. [with untouched; also insert,
         //  update_bytes, update]
@@ -242,7 +242,7 @@ impl<T: Words, A: Allocator + Copy, D: ReplaceDevice> Store<T, A, D> {
         //= After an error of the device the store has failed. After `NoRoom` it hasn't: the dictionary is as it was, and so is where the
         //  records end; the file stands for it, on the disk. After any other, the dictionary, the file and the store are as they were. [also
         //  insert, update_bytes, update]
-        ensures err { IfErr result (LeavesStore T.state self.old self.new (stored (T.state self.old.words) key.now value)) }
+        ensures err { IfErr result (LeavesStore T.state self.old self.new (after_put (T.state self.old.words) key.now value)) }
     {
         if self.failed {
             return Err(DurableError::Failed);
@@ -272,17 +272,17 @@ impl<T: Words, A: Allocator + Copy, D: ReplaceDevice> Store<T, A, D> {
     /// As [`Store::insert_bytes`].
     pub fn insert(&mut self, key: &str, value: i32) -> Result<Option<i32>, DurableError>
         requires ready { IsReadyStore D.seen D.may_leave T.state self.old }
-        ensures stored { OnOk result (HasState T.state self.new (stored (T.state self.old.words) key.now value)) }
+        ensures stored { OnOk result (HasState T.state self.new (after_put (T.state self.old.words) key.now value)) }
         ensures ready { IsReadyStore D.seen D.may_leave T.state self.new }
         ensures held { IfOk result (λ held. held ≡ number_at (T.state self.old.words).tree key.now) }
-        ensures any_moment { CrashLeavesEither D.moment D.left_since T.state self.old self.new (stored (T.state self.old.words) key.now value) }
+        ensures any_moment { CrashLeavesEither D.moment D.left_since T.state self.old self.new (after_put (T.state self.old.words) key.now value) }
         ensures failed { self.old.failed ≡ true → result ≡ Err DurableError.Failed }
         ensures untouched { self.old.failed ≡ true → self.new ≡ self.old }
         ensures rule { self.new.compaction ≡ self.old.compaction }
         ensures recorded { OnOk result (IsRecordedIn D.seen self.old self.new (put_at key.now value ∷ [])) }
         ensures faulty { self.old.failed ≡ false → IfSome (fault key.now value) (λ e. result ≡ Err (DurableError.Refused e)) }
         ensures cause { IfErr result (IsChangeCause D.faults self.old self.new (fault key.now value) (length key.now + 5)) }
-        ensures err { IfErr result (LeavesStore T.state self.old self.new (stored (T.state self.old.words) key.now value)) }
+        ensures err { IfErr result (LeavesStore T.state self.old self.new (after_put (T.state self.old.words) key.now value)) }
     {
         self.insert_bytes(key.as_bytes(), value)
     }
@@ -293,16 +293,16 @@ impl<T: Words, A: Allocator + Copy, D: ReplaceDevice> Store<T, A, D> {
     /// As [`Store::insert_bytes`].
     pub fn update_bytes(&mut self, key: &[u8], value: i32) -> Result<(), DurableError>
         requires ready { IsReadyStore D.seen D.may_leave T.state self.old }
-        ensures stored { OnOk result (HasState T.state self.new (stored (T.state self.old.words) key.now value)) }
+        ensures stored { OnOk result (HasState T.state self.new (after_put (T.state self.old.words) key.now value)) }
         ensures ready { IsReadyStore D.seen D.may_leave T.state self.new }
-        ensures any_moment { CrashLeavesEither D.moment D.left_since T.state self.old self.new (stored (T.state self.old.words) key.now value) }
+        ensures any_moment { CrashLeavesEither D.moment D.left_since T.state self.old self.new (after_put (T.state self.old.words) key.now value) }
         ensures failed { self.old.failed ≡ true → result ≡ Err DurableError.Failed }
         ensures untouched { self.old.failed ≡ true → self.new ≡ self.old }
         ensures rule { self.new.compaction ≡ self.old.compaction }
         ensures recorded { OnOk result (IsRecordedIn D.seen self.old self.new (put_at key.now value ∷ [])) }
         ensures faulty { self.old.failed ≡ false → IfSome (fault key.now value) (λ e. result ≡ Err (DurableError.Refused e)) }
         ensures cause { IfErr result (IsChangeCause D.faults self.old self.new (fault key.now value) (length key.now + 5)) }
-        ensures err { IfErr result (LeavesStore T.state self.old self.new (stored (T.state self.old.words) key.now value)) }
+        ensures err { IfErr result (LeavesStore T.state self.old self.new (after_put (T.state self.old.words) key.now value)) }
     {
         match self.insert_bytes(key, value) {
             Ok(_) => Ok(()),
@@ -316,16 +316,16 @@ impl<T: Words, A: Allocator + Copy, D: ReplaceDevice> Store<T, A, D> {
     /// As [`Store::insert_bytes`].
     pub fn update(&mut self, key: &str, value: i32) -> Result<(), DurableError>
         requires ready { IsReadyStore D.seen D.may_leave T.state self.old }
-        ensures stored { OnOk result (HasState T.state self.new (stored (T.state self.old.words) key.now value)) }
+        ensures stored { OnOk result (HasState T.state self.new (after_put (T.state self.old.words) key.now value)) }
         ensures ready { IsReadyStore D.seen D.may_leave T.state self.new }
-        ensures any_moment { CrashLeavesEither D.moment D.left_since T.state self.old self.new (stored (T.state self.old.words) key.now value) }
+        ensures any_moment { CrashLeavesEither D.moment D.left_since T.state self.old self.new (after_put (T.state self.old.words) key.now value) }
         ensures failed { self.old.failed ≡ true → result ≡ Err DurableError.Failed }
         ensures untouched { self.old.failed ≡ true → self.new ≡ self.old }
         ensures rule { self.new.compaction ≡ self.old.compaction }
         ensures recorded { OnOk result (IsRecordedIn D.seen self.old self.new (put_at key.now value ∷ [])) }
         ensures faulty { self.old.failed ≡ false → IfSome (fault key.now value) (λ e. result ≡ Err (DurableError.Refused e)) }
         ensures cause { IfErr result (IsChangeCause D.faults self.old self.new (fault key.now value) (length key.now + 5)) }
-        ensures err { IfErr result (LeavesStore T.state self.old self.new (stored (T.state self.old.words) key.now value)) }
+        ensures err { IfErr result (LeavesStore T.state self.old self.new (after_put (T.state self.old.words) key.now value)) }
     {
         self.update_bytes(key.as_bytes(), value)
     }
@@ -341,14 +341,14 @@ impl<T: Words, A: Allocator + Copy, D: ReplaceDevice> Store<T, A, D> {
 
         //= An acknowledged erasure has removed the key from the dictionary, and the file stands for it, on the disk. It returns whether the
         //  key was held. If it wasn't, the file doesn't change. [with ready, answer, missed; also erase]
-        ensures erased { IfOk result (λ held. HasState T.state self.new (if held then erased (T.state self.old.words) key.now else (T.state self.old.words))) }
+        ensures erased { IfOk result (λ held. HasState T.state self.new (if held then after_erase (T.state self.old.words) key.now else (T.state self.old.words))) }
         ensures ready { IsReadyStore D.seen D.may_leave T.state self.new }
         ensures answer { IfOk result (λ held. held ≡ is_some (number_at (T.state self.old.words).tree key.now)) }
         ensures missed { IfOk result (λ held. held ≡ false → self.new.journal ≡ self.old.journal) }
 
         //= A crash at any moment of an erasure leaves a file that stands for the dictionary from before it, with the change or without.
         //  [also erase]
-        ensures any_moment { CrashLeavesEither D.moment D.left_since T.state self.old self.new (erased (T.state self.old.words) key.now) }
+        ensures any_moment { CrashLeavesEither D.moment D.left_since T.state self.old self.new (after_erase (T.state self.old.words) key.now) }
 
         //= On a store that has failed no change is made: dictionary, file and rule are as they were. [with untouched; also erase]
         ensures failed { self.old.failed ≡ true → result ≡ Err DurableError.Failed }
@@ -364,7 +364,7 @@ impl<T: Words, A: Allocator + Copy, D: ReplaceDevice> Store<T, A, D> {
 
         //= After an error of the device the store has failed. After `NoRoom` it hasn't: the dictionary is as it was, and the file stands
         //  for it. After any other, the dictionary, the file and the store are as they were. [also erase]
-        ensures err { IfErr result (LeavesStore T.state self.old self.new (erased (T.state self.old.words) key.now)) }
+        ensures err { IfErr result (LeavesStore T.state self.old self.new (after_erase (T.state self.old.words) key.now)) }
     {
         if self.failed {
             return Err(DurableError::Failed);
@@ -383,17 +383,17 @@ impl<T: Words, A: Allocator + Copy, D: ReplaceDevice> Store<T, A, D> {
     /// As [`Store::erase_bytes`].
     pub fn erase(&mut self, key: &str) -> Result<bool, DurableError>
         requires ready { IsReadyStore D.seen D.may_leave T.state self.old }
-        ensures erased { IfOk result (λ held. HasState T.state self.new (if held then erased (T.state self.old.words) key.now else (T.state self.old.words))) }
+        ensures erased { IfOk result (λ held. HasState T.state self.new (if held then after_erase (T.state self.old.words) key.now else (T.state self.old.words))) }
         ensures ready { IsReadyStore D.seen D.may_leave T.state self.new }
         ensures answer { IfOk result (λ held. held ≡ is_some (number_at (T.state self.old.words).tree key.now)) }
         ensures missed { IfOk result (λ held. held ≡ false → self.new.journal ≡ self.old.journal) }
-        ensures any_moment { CrashLeavesEither D.moment D.left_since T.state self.old self.new (erased (T.state self.old.words) key.now) }
+        ensures any_moment { CrashLeavesEither D.moment D.left_since T.state self.old self.new (after_erase (T.state self.old.words) key.now) }
         ensures failed { self.old.failed ≡ true → result ≡ Err DurableError.Failed }
         ensures untouched { self.old.failed ≡ true → self.new ≡ self.old }
         ensures rule { self.new.compaction ≡ self.old.compaction }
         ensures recorded { IfOk result (λ held. held ≡ true → IsRecordedIn D.seen self.old self.new (erase_at key.now ∷ [])) }
         ensures cause { IfErr result (IsEraseCause D.faults self.old self.new (length key.now + 1)) }
-        ensures err { IfErr result (LeavesStore T.state self.old self.new (erased (T.state self.old.words) key.now)) }
+        ensures err { IfErr result (LeavesStore T.state self.old self.new (after_erase (T.state self.old.words) key.now)) }
     {
         self.erase_bytes(key.as_bytes())
     }
@@ -466,17 +466,17 @@ impl<T: Words, A: Allocator + Copy, D: ReplaceDevice> Store<T, A, D> {
         requires settled { IsSettled D.seen D.may_leave self.old.journal.device self.old.journal.format self.old.journal.end }
         requires room { self.old.journal.end < 2 ^ 60 }
         ensures settled { OnOk result (IsSettled D.seen D.may_leave self.new.journal.device self.new.journal.format self.new.journal.end) }
-        ensures acknowledged { OnOk result (recovered (D.seen self.new.journal.device) ≡ added (payload_of frame.now) (recovered (D.seen self.old.journal.device))) }
+        ensures acknowledged { OnOk result (file_payloads (D.seen self.new.journal.device) ≡ with_payload (payload_of frame.now) (file_payloads (D.seen self.old.journal.device))) }
         ensures failed { OnOk result (self.new.failed ≡ self.old.failed) }
         ensures faults { D.faults self.old.journal.device ≤ D.faults self.new.journal.device }
         ensures no_room { IsErrOf result DurableError.NoRoom → IsSettled D.seen D.may_leave self.new.journal.device self.new.journal.format self.new.journal.end }
-        ensures same_left { IsErrOf result DurableError.NoRoom → recovered (D.seen self.new.journal.device) ≡ recovered (D.seen self.old.journal.device) }
+        ensures same_left { IsErrOf result DurableError.NoRoom → file_payloads (D.seen self.new.journal.device) ≡ file_payloads (D.seen self.old.journal.device) }
         ensures end { OnErr result (self.new.journal.end ≡ self.old.journal.end) }
         ensures err { IfErr result (LeavesUnwritten D.faults self.old self.new) }
         ensures words { self.new.words ≡ self.old.words }
         ensures rule { self.new.compaction ≡ self.old.compaction }
         ensures any_moment { LeavesOnly D.moment D.left_since self.old.journal.device self.new.journal.device
-            (IsBeforeOrAfter (recovered (D.seen self.old.journal.device)) (payload_of frame.now)) }
+            (IsBeforeOrAfter (file_payloads (D.seen self.old.journal.device)) (payload_of frame.now)) }
     {
         match self.journal.append(frame) {
             Ok(()) => Ok(()),

@@ -1,7 +1,7 @@
 //! The dictionary of a store, as the store sees it.
 
 ghost use Rattle.std.specs.Prelude.{◌≡◌, IfErr, IfOk, IfSome, None, OnOk, Some, is_some, length, true};
-ghost use Rattle.cedar_store.specs.Words.{compacted_length, erased, image_bytes, IsAscending, IsBeforeReplacing, IsLimit, IsPut, IsPutOf, IsShortage, IsSound, new_state, number_at, outcome, payloads_of, replayed, State, value_fault, walk};
+ghost use Rattle.cedar_store.specs.Words.{after_erase, after_payloads, compacted_length, image_bytes, IsAscending, IsBeforeReplacing, IsLimit, IsPut, IsPutOf, IsShortage, IsSound, new_state, number_at, outcome, payloads_of, State, value_fault, walk};
 
 use crate::CompactError;
 use crate::compact::image_of;
@@ -35,7 +35,7 @@ pub trait Words: Drop {
 
     /// Removes a key, if it is held.
     fn remove(&mut self, key: &[u8])
-        ensures { state self.new ≡ erased (state self.old) key.now };
+        ensures { state self.new ≡ after_erase (state self.old) key.now };
 
     /// Whether a key is held.
     fn holds(&self, key: &[u8]) -> bool
@@ -56,7 +56,7 @@ pub trait Words: Drop {
     fn image<B: Allocator + Copy>(&self, alloc: B) -> Result<Image<B>, CompactError>
         //= Such a dictionary can be written as a journal's file, of one record for each entry. If it is ordered, their changes make it
         //  again. [with length, cause]
-        ensures made { (state self.now).ordered ≡ true → IfOk result (λ image. replayed new_state (payloads_of image) ≡ Some (state self.now)) }
+        ensures made { (state self.now).ordered ≡ true → IfOk result (λ image. after_payloads new_state (payloads_of image) ≡ Some (state self.now)) }
         ensures length { IfOk result (λ image. length (image_bytes image) ≡ compacted_length (walk (state self.now).tree)) }
         ensures cause { IfErr result (λ error. IsBeforeReplacing error) };
 }

@@ -14,7 +14,7 @@ pub use Rattle.cedar_model.specs.Table.Layouts.{reading, reduced_layout}
 pub use Rattle.cedar_model.specs.Table.TableFields.{capacity_of, SameFrame, SameSettings, size_of}
 pub use Rattle.cedar_model.specs.declared.layout.Stored.TheVariants.{Nothing, OwnNumber}
 pub use Rattle.cedar_slots.specs.Blocks.{blank_block, block_at}
-pub use Rattle.cedar_slots.specs.Padded.{padded}
+pub use Rattle.cedar_slots.specs.Padded.{with_blanks}
 pub use Rattle.cedar_slots.specs.Places.{AddsBlock, Grown, IsNewPlaces, IsSlotLimit, IsTable, MayRefuse, reject_at, SameSlots, Shaped}
 pub use Rattle.cedar_slots.specs.Slots.{blank_info, blank_node, check_at}
 pub use Rattle.cedar_slots.specs.Views.{places_of}

@@ -26,7 +26,7 @@ impl<L: Layout, const SLOTS: usize, A: Allocator> Table<L, SLOTS, A> {
         //= `base_of`, `child_slot`: where a node's slots begin, and its slot for a label. [also child_slot]
         ensures { result ≡ base_of (cells self.now) node }
     {
-        match self.stored(node) {
+        match self.stored_at(node) {
             Stored::AtBase(base) => base,
             Stored::OwnNumber(_) => 0,
             Stored::Nothing => 0,

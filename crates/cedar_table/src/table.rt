@@ -226,7 +226,7 @@ impl<L: Layout, const SLOTS: usize, A: Allocator> Table<L, SLOTS, A> {
     /// Returns how many slots are in use, including free ones.
     pub fn size(&self) -> usize
         //= `size`, `capacity`, `spare_blocks`, `entries`, `ordered`, `max_trial`, the heads, and single fields return what their names say.
-        //  [also capacity, spare_blocks, entries, ordered, max_trial, full_head, closed_head, open_head, block, reject, base, stored,
+        //  [also capacity, spare_blocks, entries, ordered, max_trial, full_head, closed_head, open_head, block, reject, base, stored_at,
         //  sibling, child]
         ensures { result ≡ size_of (fields self.now) }
     {
@@ -333,7 +333,7 @@ impl<L: Layout, const SLOTS: usize, A: Allocator> Table<L, SLOTS, A> {
     }
 
     /// Returns what the base field of a node says.
-    pub fn stored(&self, node: usize) -> Stored
+    pub fn stored_at(&self, node: usize) -> Stored
         requires { node < size_of (fields self.now) }
         ensures { result ≡ (cells self.now).stored node }
     {

@@ -11,12 +11,12 @@ pub record State : Type 0 where
   pub ordered : Bool
 
 -- the state with the number v at a path
-abbrev pub stored : State → List ℕ → ℤ → State
-stored s path v = record { tree = put s.tree s.ordered path v; ordered = s.ordered }
+abbrev pub after_put : State → List ℕ → ℤ → State
+after_put s path v = record { tree = put s.tree s.ordered path v; ordered = s.ordered }
 
 -- the state without a number at a path
-abbrev pub erased : State → List ℕ → State
-erased s path = record { tree = cut s.tree path; ordered = s.ordered }
+abbrev pub after_erase : State → List ℕ → State
+after_erase s path = record { tree = cut s.tree path; ordered = s.ordered }
 
 -- a state as plain data, by which a proof tells states apart. It serves `impl Model` alone.
 abbrev pub state_code : Coded State

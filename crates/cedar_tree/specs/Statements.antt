@@ -5,7 +5,7 @@ use Rattle.std.specs.List.Sorted.{IsStrictlySortedBy}
 use Rattle.std.specs.Ordering.{nat_cmp}
 use Rattle.cedar_tree.specs.Tree.{Tree, IsPath, IsKey, IsSound, IsSoundBelow, IsAscending, AllNumbers, number_at, put, is_bare, cut}
 use Rattle.cedar_tree.specs.Laws.{ArePathsAscending, ArePathsKeys, IsTreeOf, ComesBefore, IsPartOf, fronts, missing_nodes, bare_nodes}
-use Rattle.cedar_tree.specs.Queries.{Entry, asc, last_at, walk, front, predict, node_at, prefixes, used, is_path, entry_at, IsFront}
+use Rattle.cedar_tree.specs.Queries.{Entry, asc, last_at, walk, front, predict, node_at, prefixes, slots_of_tree, is_path, entry_at, IsFront}
 
 -- a put number is at its path
 abbrev pub PutIsReadBack : Type 0
@@ -181,13 +181,13 @@ CutCountsPrefixes =
 abbrev pub PutCountsSlots : Type 0
 PutCountsSlots =
     (t : Tree) (ordered : Bool) (k : List ℕ) (v : ℤ) →
-    used (put t ordered k v) ≡ used t + missing_nodes t k + (if is_some (number_at t k) then 0 else 1)
+    slots_of_tree (put t ordered k v) ≡ slots_of_tree t + missing_nodes t k + (if is_some (number_at t k) then 0 else 1)
 
 -- a cut gives back a slot for each node that it leaves bare, and one for the number
 abbrev pub CutCountsSlots : Type 0
 CutCountsSlots =
     (t : Tree) (k : List ℕ) →
-    used (cut t k) + bare_nodes t k + (if is_some (number_at t k) then 1 else 0) ≡ used t
+    slots_of_tree (cut t k) + bare_nodes t k + (if is_some (number_at t k) then 1 else 0) ≡ slots_of_tree t
 
 -- the missing nodes of a path are its fronts that lead to no node
 abbrev pub MissingAreBareFronts : Type 0

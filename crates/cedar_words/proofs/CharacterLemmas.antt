@@ -9,7 +9,7 @@ use Rattle.std.proofs.lemmas.List.Elements.{All-cons, All-head, All-nil, All-tai
 use Rattle.std.proofs.lemmas.Slice.Eq.{bytes_eq-Decides}
 use Rattle.std.proofs.lemmas.Str.{byte_from_char, length-encode, IsCharBoundary-after_ascii, IsCharBoundary-before_ascii, IsCharBoundary-from_rest, IsCharBoundary-from_take, IsCharBoundary-start, IsUtf8-between, IsUtf8-drop}
 use Rattle.cedarwood.specs.Tree.{cut, empty_tree, IsSoundBelow, number_at, put, Tree}
-use Rattle.cedarwood.specs.State.{State, stored}
+use Rattle.cedarwood.specs.State.{after_put, State}
 use Rattle.cedarwood.specs.Queries.{Entry}
 use Rattle.cedarwood.specs.Builds.{all_stored}
 use Rattle.cedarwood.proofs.TreeLemmas.{number_at-cut_other, number_at-cut_same, number_at-empty, number_at-put_other}
@@ -196,4 +196,4 @@ pub stored_utf8 : (s : State) (entries : List Entry) → HasUtf8Keys s.tree → 
 stored_utf8 s [] keys all = keys
 stored_utf8 s (e ∷ entries) keys all =
     let first : IsUtf8 e.0 = All-head (λ (x : Entry). IsUtf8 x.0) e entries all in
-    stored_utf8 (stored s e.0 e.1) entries (put_utf8 s.tree s.ordered e.0 e.1 keys first) (All-tail (λ (x : Entry). IsUtf8 x.0) e entries all)
+    stored_utf8 (after_put s e.0 e.1) entries (put_utf8 s.tree s.ordered e.0 e.1 keys first) (All-tail (λ (x : Entry). IsUtf8 x.0) e entries all)

@@ -5,7 +5,7 @@ use Rattle.std.specs.List.{Contains, filter, starts_with}
 use Rattle.std.proofs.lemmas.Bool.{false≢true}
 use Rattle.cedar_tree.specs.Tree.{cut, empty_tree, is_bare, IsSoundBelow, number_at, Tree}
 use Rattle.cedar_tree.specs.Queries.{Entry, entry_at, is_path, node_at, walk}
-use Rattle.cedar_tree.specs.State.{erased, State}
+use Rattle.cedar_tree.specs.State.{after_erase, State}
 use Rattle.cedar_tree.specs.Walks.{visited_entries}
 use Rattle.cedar_tree.proofs.EntryLemmas.Built.{is_path_itself, same_path}
 use Rattle.cedar_tree.proofs.EntryLemmas.Changes.{walk-cut}
@@ -201,7 +201,7 @@ module _ (slots : ℕ) (T U V : Fields) (q k : List ℕ) (v : ℤ) (rest : List 
   pub erases_on : IsWellFormed slots V → MarksCut (marks U) (marks V) k → size_of V ≡ size_of U → capacity_of V ≡ capacity_of U → SameModes U V → Erases slots T V q
   erases_on well cut_mark size capacity modes =
       let sound : IsSoundBelow (tree_of U).children = so_far.formed.sound in
-      let same : state_of V ≡ erased (state_of U) k = λ i. record { tree = tree i; ordered = modes.ordered i } in
+      let same : state_of V ≡ after_erase (state_of U) k = λ i. record { tree = tree i; ordered = modes.ordered i } in
       record {
         formed = well;
         state = (λ i. all_erased (same i) (left i)) ∙ sym (ap (all_erased (state_of U)) first) ∙ so_far.state;

@@ -5,7 +5,7 @@ use Rattle.std.specs.List.{AllByRecursion}
 use Rattle.std.proofs.lemmas.List.{append_assoc, append-nil, drop_more, map-append}
 use Rattle.cedar_tree.specs.Tree.{Tree, empty_tree, IsKey, number_at, put}
 use Rattle.cedar_tree.specs.Queries.{Entry, prefixes, walk}
-use Rattle.cedar_tree.specs.State.{State, stored}
+use Rattle.cedar_tree.specs.State.{after_put, State}
 use Rattle.cedar_tree.specs.Walks.{visited_entries}
 use Rattle.cedar_tree.proofs.EntryLemmas.Keys.{held_key}
 use Rattle.cedar_tree.proofs.OrderLemmas.{number_of_node}
@@ -119,7 +119,7 @@ module _ (layout : LayoutKind) (slots : ℕ) (order : Bool) (trials : ℤ) (es :
       let n = u.blocks in
       let grown : Grows n.0 d d' = n.3 in
       record {
-        state = u.ok ∙ ap (λ (s : State). stored s e.0 e.1) so_far.state;
+        state = u.ok ∙ ap (λ (s : State). after_put s e.0 e.1) so_far.state;
         max_trial = u.max_trial ∙ so_far.max_trial;
         marks = record {
           inner = λ reduced w. subst (λ (t : Tree). HasMark d'.marked w ↔ IsInnerKey t w) (sym tree)

@@ -2,8 +2,8 @@
 use Rattle.std.proofs.Common.{◌≡◌, ℕ, ℤ, ◌+◌, ◌*◌, ◌-◌, ◌<◌, ◌≤◌, ◌⊎◌, inl, inr, Bool, true, false, cond, int_le, ◌&&◌, ◌==◌, pos, List, [], ◌∷◌, length, Option, Some, None, IfSome, IsSome, is_some, option_map, position, refl, ap, sym, subst, ◌∙◌, arith, Result, Ok, Err, OnOk, OnErr, IfErr, IsErr, IsOk, rules}
 use Rattle.std.proofs.lemmas.Result.{on_ok_weaker, on_err_weaker}
 use Rattle.cedar_tree.specs.Tree.{Tree, has_label, number_at, put}
-use Rattle.cedar_tree.specs.Queries.{used}
-use Rattle.cedar_tree.specs.State.{State, stored}
+use Rattle.cedar_tree.specs.Queries.{slots_of_tree}
+use Rattle.cedar_tree.specs.State.{after_put, State}
 use Rattle.cedarwood.specs.declared.error.CedarError.{CedarError}
 use Rattle.cedarwood.specs.declared.error.CedarError.TheVariants.{EmptyKey, NulByte, InvalidValue}
 use Rattle.cedar_model.specs.Table.Cells.{NoPlace}
@@ -103,7 +103,7 @@ enough n k slots T T' (Err e) within h few made room =
     absurd (omega (arith, made.active, made.capacity, few))
 
 same_stored : (t : Tree) (ordered o : Bool) (old : State) (key : List ℕ) (v w : ℤ) → old.tree ≡ t → old.ordered ≡ o → w ≡ v → ordered ≡ o
-    → ◌≡◌ {A = State} (record { tree = put t o key w; ordered = ordered }) (stored old key v)
+    → ◌≡◌ {A = State} (record { tree = put t o key w; ordered = ordered }) (after_put old key v)
 same_stored t ordered o old key v w e f g h = cc
 
 module _ {X : Type 0} (slots : ℕ) (T T' : Fields) (d : Dictionary) (same : dictionary_of T ≡ d) (r : Result X Shortage) (key : List ℕ) where
@@ -114,7 +114,7 @@ module _ {X : Type 0} (slots : ℕ) (T T' : Fields) (d : Dictionary) (same : dic
   same_order = ap (λ (x : Dictionary). x.state.ordered) (sym same)
 
   pub stored_is : (v w : ℤ) → w ≡ v → SameModes T T' → OnOk r (tree_of T' ≡ put (tree_of T) T.ordered key w)
-      → OnOk r (◌≡◌ {A = State} (record { tree = tree_of T'; ordered = T'.ordered }) (stored d.state key v))
+      → OnOk r (◌≡◌ {A = State} (record { tree = tree_of T'; ordered = T'.ordered }) (after_put d.state key v))
   stored_is v w e modes =
       on_ok_weaker r (λ (done : tree_of T' ≡ put (tree_of T) T.ordered key w).
       ap (λ t. record { tree = t; ordered = T'.ordered }) done
@@ -151,10 +151,10 @@ module _ {X : Type 0} (slots : ℕ) (T T' : Fields) (d : Dictionary) (same : dic
   pub at_one_byte : IsWellFormed slots T → (b : ℕ)
       → (has_label (tree_of T).children b ≡ false → (OnErr r ⊥ × MakesBlocks 0 T T') ⊎ (T.layout ≡ default_layout) × NoPlace (size_of T) (cells_in T))
       → has_label d.state.tree.children b ≡ false
-      → (IsOk r × Grows 0 d (dictionary_of T')) ⊎ (T.layout ≡ default_layout) × (d.size + first_bytes d.state.tree ≡ used d.state.tree + 255)
+      → (IsOk r × Grows 0 d (dictionary_of T')) ⊎ (T.layout ≡ default_layout) × (d.size + first_bytes d.state.tree ≡ slots_of_tree d.state.tree + 255)
   at_one_byte well b made absent = elim (made (subst (λ (t : Tree). has_label t.children b ≡ false) same_tree absent)) [
     | inl m ↦ inl (is_ok_of r m.0, grows_by 0 m.1)
-    | inr full ↦ inr (full.0, subst (λ (x : Dictionary). x.size + first_bytes x.state.tree ≡ used x.state.tree + 255) same (full_blocks_counted slots T well full.0 full.1))
+    | inr full ↦ inr (full.0, subst (λ (x : Dictionary). x.size + first_bytes x.state.tree ≡ slots_of_tree x.state.tree + 255) same (full_blocks_counted slots T well full.0 full.1))
   ]
 
   -- how few slots stay free

@@ -1,7 +1,7 @@
 -- What a batch of updates or of erasures answers, and what it leaves.
 use Rattle.std.specs.Prelude.{◌≡◌, ◌↔◌, ℕ, ◌<◌, pos, Bool, IsTrue, List, [], ◌∷◌, fold, get_or, is_some, length, Some, take, IsSome, Result, Ok, Err}
 use Rattle.cedar_tree.specs.Queries.{Entry}
-use Rattle.cedar_tree.specs.State.{State, erased}
+use Rattle.cedar_tree.specs.State.{State, after_erase}
 use Rattle.cedar_tree.specs.Tree.{number_at}
 use Rattle.cedar_model.specs.Edit.NodeEdits.{IsAt}
 use Rattle.cedar_model.specs.Meaning.Marks.{MarksCut}
@@ -33,7 +33,7 @@ IsUpdates layout slots before after entries (Err refusal) = StopsAt layout slots
 -- a key is erased, which was held or not
 pub record IsErasure (before after : Dictionary) (key : List ℕ) (held : Bool) : Type 0 where
   pub answer : IsTrue held ↔ IsSome (number_at before.state.tree key)
-  pub state : after.state ≡ erased before.state key
+  pub state : after.state ≡ after_erase before.state key
   pub marks : MarksCut before.marked after.marked key
   pub marked : IsMarked after
   pub size : (after.size ≡ before.size) × (after.capacity ≡ before.capacity)
@@ -53,9 +53,9 @@ IsErasures before after (key ∷ keys) answers =
 
 -- the state after some keys were erased one after another
 abbrev pub keys_erased : State → List (List ℕ) → State
-keys_erased s keys = fold erased s keys
+keys_erased s keys = fold after_erase s keys
 
 -- whether each of some keys is held once those before it are erased
 abbrev pub held_in_turn : State → List (List ℕ) → List Bool
 held_in_turn s [] = []
-held_in_turn s (key ∷ keys) = is_some (number_at s.tree key) ∷ held_in_turn (erased s key) keys
+held_in_turn s (key ∷ keys) = is_some (number_at s.tree key) ∷ held_in_turn (after_erase s key) keys

@@ -3,14 +3,14 @@ use Rattle.std.specs.Prelude.{◌≡◌, ◌↔◌, ℕ, nat_eq, not, false, if�
 use Rattle.std.specs.List.{starts_with}
 use Rattle.cedar_tree.specs.Tree.{Tree, empty_tree, number_at}
 use Rattle.cedar_tree.specs.Queries.{Entry, walk}
-use Rattle.cedar_tree.specs.State.{State, erased}
+use Rattle.cedar_tree.specs.State.{State, after_erase}
 use Rattle.cedar_model.specs.Meaning.Marks.{HasMark}
 use Rattle.cedar_walk.specs.Ranges.{entries_with}
 use Rattle.cedarwood.specs.Dictionary.{Dictionary, IsMarked}
 
 -- the state after the keys of some entries were erased one after another
 abbrev pub all_erased : State → List Entry → State
-all_erased s entries = fold (λ t entry. erased t entry.0) s entries
+all_erased s entries = fold (λ t entry. after_erase t entry.0) s entries
 
 -- the state without the keys that begin with q
 abbrev pub erased_under : State → List ℕ → State

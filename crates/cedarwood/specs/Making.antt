@@ -3,7 +3,7 @@ use Rattle.std.specs.Prelude.{◌≡◌, ◌⊎◌, ℕ, ◌+◌, ◌*◌, ◌�
 use Rattle.std.specs.Int.Signed.{≤ℤ_refl}
 use Rattle.cedar_tree.specs.Tree.{empty_tree}
 use Rattle.cedar_tree.specs.Queries.{Entry, asc, prefixes}
-use Rattle.cedar_bulk.specs.Packed.{crowded}
+use Rattle.cedar_bulk.specs.Packed.{count_crowded}
 use Rattle.cedar_bulk.specs.SortedMarks.{SortedMarks}
 use Rattle.cedar_model.specs.Table.Layouts.{LayoutKind}
 use Rattle.cedarwood.specs.declared.builder.CedarBuilder.{CedarBuilder}
@@ -43,7 +43,7 @@ pub record IsSorted (layout : LayoutKind) (settings : CedarBuilder) (pairs : Lis
   pub max_trial : d.max_trial ≡ settings.max_trial
   pub size : (n : ℕ) × (n ≤ length (prefixes (asc pairs))) × (d.size ≡ 256 + 256 * n) × (d.capacity ≡ capacity_after n 256 256)
   -- at most 255 slots outside the first block are free, and 256 others for each node below the root that takes several
-  pub packed : d.size + first_bytes (asc pairs) ≤ used_slots d + 510 + 256 * crowded (asc pairs)
+  pub packed : d.size + first_bytes (asc pairs) ≤ used_slots d + 510 + 256 * count_crowded (asc pairs)
 
 -- a sorted build: the first fault of the pairs, if there is one; else their dictionary, or there was no memory, or so many prefixes
 -- that all slots might be wanted

@@ -18,8 +18,8 @@ pub use Rattle.cedar_model.specs.Table.Layouts.{default_layout, layout_byte, Lay
 pub use Rattle.cedar_model.specs.Table.TableFields.{capacity_of, Fields, size_of}
 pub use Rattle.cedar_slots.specs.Places.{IsSlotLimit}
 pub use Rattle.cedar_table.specs.Table.Views.{fields}
-pub use Rattle.cedar_tree.specs.Queries.{asc, Entry, exact, front, is_path, node_at, predict, prefixes, used, walk}
-pub use Rattle.cedar_tree.specs.State.{erased, new_state, State, stored}
+pub use Rattle.cedar_tree.specs.Queries.{asc, Entry, exact, front, is_path, node_at, predict, prefixes, slots_of_tree, walk}
+pub use Rattle.cedar_tree.specs.State.{after_erase, after_put, new_state, State}
 pub use Rattle.cedar_tree.specs.Tree.{empty_tree, has_label, IsAscending, IsSound, number_at, Tree}
 pub use Rattle.cedar_tree.specs.Walks.{front_from, visited_entries}
 pub use Rattle.cedar_walk.specs.Batch.{keys_of}
@@ -43,7 +43,7 @@ pub use Rattle.cedarwood.specs.Loading.{LacksByPath, LoadAnswers, LoadedFilesSav
 pub use Rattle.cedarwood.specs.Making.{default_settings, IsEmpty, IsNew, IsRenewed, IsSorted, IsSortedBuild}
 pub use Rattle.cedarwood.specs.Memory.{CedarFitsInMemory, ReducedFitsInMemory}
 pub use Rattle.cedarwood.specs.OnTable.{dictionary_of, IsOnTable}
-pub use Rattle.cedarwood.specs.RangeWalks.{bounded, entries_between, GivesBetween, GivesRange, IsEnd, IsRangePlace}
+pub use Rattle.cedarwood.specs.RangeWalks.{entries_between, entries_left_before, GivesBetween, GivesRange, IsEnd, IsRangePlace}
 pub use Rattle.cedarwood.specs.Room.{LacksRoom}
 pub use Rattle.cedarwood.specs.Saves.{IsSavedAt, IsUnsavedAt}
 pub use Rattle.cedarwood.specs.Saving.{FailsToWrite, PassesAgain}

@@ -71,7 +71,7 @@ impl<L: Layout, const SLOTS: usize, A: Allocator + Copy> Trie<L, SLOTS, A> {
         //  changed. [by refused, unchanged, LacksPlaces]
         ensures { IsShrunk L.kind SLOTS self.old self.new result }
     {
-        let made = self.rebuilt()?;
+        let made = self.rebuild()?;
         if self.node_capacity() < made.node_capacity() {
             return Ok(());
         }
@@ -80,7 +80,7 @@ impl<L: Layout, const SLOTS: usize, A: Allocator + Copy> Trie<L, SLOTS, A> {
     }
 
     /// The same dictionary in a new table, into which each entry was put.
-    fn rebuilt(&self) -> Result<Self, CedarError>
+    fn rebuild(&self) -> Result<Self, CedarError>
         ensures { MatchResult result (IsRebuilt L.kind self.now) (LacksPlaces SLOTS (walk self.now.state.tree)) }
     {
         let alloc = self.table.allocator();

@@ -1,7 +1,7 @@
 //! The dictionary and its calls.
 
 ghost use Rattle.std.specs.Prelude.{◌+◌, ◌-◌, ◌/◌, ◌↔◌, ◌≡◌, ◌≤◌, [], IfOk, IfSome, IsSome, IsTrue, length, None, pos, true};
-ghost use Rattle.cedarwood.specs.Words.{CedarFitsInMemory, default_layout, default_settings, entries_of, erased, exact, IsLimit, IsMarked, IsNew, IsOnTable, IsRenewed, IsSortedBuild, IsSound, IsUpdate, IsValid, marks, MarksCut, most_slots, number_at, prefixes, reduced_layout, ReducedFitsInMemory, used, value_fault, walk};
+ghost use Rattle.cedarwood.specs.Words.{after_erase, CedarFitsInMemory, default_layout, default_settings, entries_of, exact, IsLimit, IsMarked, IsNew, IsOnTable, IsRenewed, IsSortedBuild, IsSound, IsUpdate, IsValid, marks, MarksCut, most_slots, number_at, prefixes, reduced_layout, ReducedFitsInMemory, slots_of_tree, value_fault, walk};
 
 use crate::builder::CedarBuilder;
 use crate::counted::search_uncounted;
@@ -351,7 +351,7 @@ impl<L: Layout, const SLOTS: usize, A: Allocator + Copy> Trie<L, SLOTS, A> {
     pub fn erase_bytes(&mut self, key: &[u8]) -> bool
         //= `erase_bytes` and `erase` return whether the key was held. The tree is then `cut` of the old one. [with after; also erase]
         ensures answer { IsTrue result ↔ IsSome (number_at self.old.state.tree key.now) }
-        ensures after { self.new.state ≡ erased self.old.state key.now }
+        ensures after { self.new.state ≡ after_erase self.old.state key.now }
 
         //= `erase_bytes` and `erase` don't change the slots in use and the slots that there are. They remove only the key's mark. [with
         //  size; also erase]
@@ -372,7 +372,7 @@ impl<L: Layout, const SLOTS: usize, A: Allocator + Copy> Trie<L, SLOTS, A> {
     /// ```
     pub fn erase(&mut self, key: &str) -> bool
         ensures answer { IsTrue result ↔ IsSome (number_at self.old.state.tree key.now) }
-        ensures after { self.new.state ≡ erased self.old.state key.now }
+        ensures after { self.new.state ≡ after_erase self.old.state key.now }
         ensures marks { MarksCut self.old.marked self.new.marked key.now }
         ensures marked { IsMarked self.new }
         ensures size { (self.new.size ≡ self.old.size) × (self.new.capacity ≡ self.old.capacity) }
@@ -486,7 +486,7 @@ impl<L: Layout, const SLOTS: usize, A: Allocator + Copy> Trie<L, SLOTS, A> {
         ensures marked { result ≡ 1 + length (prefixes self.now.state.tree) + length (walk self.now.marked) }
 
         //= In the default layout it is one, plus the prefixes, plus the entries.
-        ensures by_default { L.kind ≡ default_layout → result ≡ used self.now.state.tree }
+        ensures by_default { L.kind ≡ default_layout → result ≡ slots_of_tree self.now.state.tree }
 
         //= In the default layout all numbers are marked. [also update_bytes.updated]
         ensures all_marked { L.kind ≡ default_layout → self.now.marked ≡ self.now.state.tree }

@@ -247,6 +247,6 @@ fn by_default(rt: HostRuntime) -> Result<(), Fail> {
 }
 
 #[test]
-fn reduced(rt: HostRuntime) -> Result<(), Fail> {
+fn reduced_layout(rt: HostRuntime) -> Result<(), Fail> {
     run_each::<ReducedLayout>(&rt, rt.alloc())
 }

@@ -1,6 +1,6 @@
 //! Exact look-ups, one by one and many in a call.
 
-use crate::plan::{Answered, Plan, counted};
+use crate::plan::{Answered, Plan, count_of};
 use crate::workload::Workload;
 use anyhow::{Result, ensure};
 use cedarwood::Cedar;
@@ -84,7 +84,7 @@ fn look_up(cedar: &Cedar<Global>, keys: &[&[u8]]) -> u64 {
     for key in keys {
         line = line.wrapping_add(1);
         if let Some((value, _)) = cedar.exact_match_search_bytes(key) {
-            sum = sum.wrapping_add(line.wrapping_mul(counted(value)));
+            sum = sum.wrapping_add(line.wrapping_mul(count_of(value)));
         }
     }
     sum
@@ -104,7 +104,7 @@ fn measured_batches(
         for (_, answer) in part.iter().zip(answers.iter()) {
             line = line.wrapping_add(1);
             if let Some((value, _)) = answer {
-                sum = sum.wrapping_add(line.wrapping_mul(counted(*value)));
+                sum = sum.wrapping_add(line.wrapping_mul(count_of(*value)));
             }
         }
     }

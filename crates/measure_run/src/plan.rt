@@ -85,6 +85,6 @@ pub(crate) fn print_amount(
 }
 
 /// Returns one more than a value, as a number that sums are made of.
-pub(crate) fn counted(value: i32) -> u64 {
+pub(crate) fn count_of(value: i32) -> u64 {
     u64::from(value.cast_unsigned()).wrapping_add(1)
 }

@@ -35,7 +35,7 @@ pub(crate) fn run<L: Layout, const SLOTS: usize, A: Allocator + Copy>(
 pub(crate) type Full<L, A> = Trie<L, 1073741824, A>;
 
 /// Makes one with these settings, of at most some number of slots.
-pub(crate) fn built<L: Layout, const SLOTS: usize, A: Allocator + Copy>(
+pub(crate) fn build_new<L: Layout, const SLOTS: usize, A: Allocator + Copy>(
     alloc: A,
     builder: CedarBuilder,
 ) -> Result<Trie<L, SLOTS, A>, CedarError>
@@ -50,5 +50,5 @@ pub(crate) fn empty<L: Layout, const SLOTS: usize, A: Allocator + Copy>(
 ) -> Result<Trie<L, SLOTS, A>, CedarError>
     requires { IsSlotLimit SLOTS }
 {
-    built(alloc, CedarBuilder::new())
+    build_new(alloc, CedarBuilder::new())
 }

@@ -4,7 +4,7 @@ use Rattle.std.specs.Prelude.{Result, Ok, Err}
 use Rattle.std.specs.Io.BufRead.{drop_through, take_through}
 use Rattle.hex.specs.Hex.{decode_sized}
 use Rattle.cedar_tree.specs.Queries.{Entry, asc}
-use Rattle.cedar_tree.specs.State.{State, new_state, stored}
+use Rattle.cedar_tree.specs.State.{State, new_state, after_put}
 use Rattle.std.proofs.lemmas.List.{map-append}
 use Rattle.cedarwood.specs.Words.{entries_of, LayoutKind, Pair}
 use Rattle.cedarwood.specs.Builds.{all_stored}
@@ -73,7 +73,7 @@ stored_all s index before [] h = refl
 stored_all s index before (e ∷ es) h =
     let p = both_none (fault_behind index before e.0 e.1) (fault_from (index + 1) e.0 es) h in
     let q = both_none (fault e.0 e.1) (fault_of_order index (slice_cmp nat_cmp before e.0)) p.0 in
-    ap (λ f. pairs_stored (stored_by f s e.0 e.1) es) q.0 ∙ stored_all (stored s e.0 e.1) (index + 1) e.0 es p.1
+    ap (λ f. pairs_stored (stored_by f s e.0 e.1) es) q.0 ∙ stored_all (after_put s e.0 e.1) (index + 1) e.0 es p.1
 
 not_faulty : {D : Type 0} (o : Option CedarError) (d : D) → IfSome o (λ e. ◌≡◌ {A = Result D CedarError} (Ok d) (Err e)) → o ≡ None
 not_faulty None d h = refl

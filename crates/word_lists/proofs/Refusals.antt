@@ -2,7 +2,7 @@
 use Rattle.std.proofs.Common.{◌≡◌, ℤ, List, ℕ, Bool, true, false, cond, is_some, Option, Some, None, IfSome, refl, sym, ap, subst}
 use Rattle.std.proofs.lemmas.Bool.{false≢true}
 use Rattle.std.specs.Prelude.{IsSome, IsTrue, ◌↔◌, Result, Ok, Err, IfOk, OnOk}
-use Rattle.cedar_tree.specs.State.{State, erased, stored}
+use Rattle.cedar_tree.specs.State.{State, after_erase, after_put}
 use Rattle.cedar_tree.specs.Tree.{number_at}
 use Rattle.cedarwood.specs.Fault.{IsShortage}
 use Rattle.cedarwood.specs.declared.error.CedarError.{CedarError}
@@ -92,7 +92,7 @@ fault_told held (errors.KeysNotSorted i) = tt
 -- what a refused entry leaves, where it is told of
 pub refused_state : (X : Type 0) (o : Option CedarError) (word : List ℕ) (v : ℤ) (s t : State) (e : CedarError)
     → IfSome o (λ f. ◌≡◌ {A = Result X CedarError} (Err e) (Err f)) → (o ≡ None → IsShortage e) → t ≡ s → OnOk (line_refusal e) (t ≡ stored_by o s word v)
-refused_state X None word v s t e fine short same = short_refused (t ≡ stored s word v) e (short refl)
+refused_state X None word v s t e fine short same = short_refused (t ≡ after_put s word v) e (short refl)
 refused_state X (Some f) word v s t e fine short same = on_ok (line_refusal e) same
 
 -- and what is told
@@ -103,7 +103,7 @@ refused_told X (Some f) held e fine short =
     subst (λ (x : CedarError). IfOk (line_refusal x) (λ told. told ≡ told_by (Some f) held)) (sym (same_error e f fine)) (fault_told held f)
 
 -- what an entry that is stored leaves, and what is told of it
-pub stored_state : (o : Option CedarError) (word : List ℕ) (v : ℤ) (s t : State) → IfSome o (λ f. ◌≡◌ {A = Result (Unit {0}) CedarError} (Ok tt) (Err f)) → t ≡ stored s word v
+pub stored_state : (o : Option CedarError) (word : List ℕ) (v : ℤ) (s t : State) → IfSome o (λ f. ◌≡◌ {A = Result (Unit {0}) CedarError} (Ok tt) (Err f)) → t ≡ after_put s word v
     → t ≡ stored_by o s word v
 stored_state None word v s t fine h = h
 stored_state (Some f) word v s t fine h = absurd (cc)
@@ -128,10 +128,10 @@ held_is false (Some v) h = absurd (false≢true (h.1 refl))
 
 -- an empty line takes nothing out, and a filled one its word
 pub erased_none : (s : State) (line : List ℕ) → is_filled line ≡ false → s ≡ line_erased s line
-erased_none s line unfilled = ap (λ f. cond f (erased s (word_of line)) s) (sym unfilled)
+erased_none s line unfilled = ap (λ f. cond f (after_erase s (word_of line)) s) (sym unfilled)
 
-pub erased_word : (s : State) (line : List ℕ) → is_filled line ≡ true → erased s (word_of line) ≡ line_erased s line
-erased_word s line filled = ap (λ f. cond f (erased s (word_of line)) s) (sym filled)
+pub erased_word : (s : State) (line : List ℕ) → is_filled line ≡ true → after_erase s (word_of line) ≡ line_erased s line
+erased_word s line filled = ap (λ f. cond f (after_erase s (word_of line)) s) (sym filled)
 
 pub absent_none : (s : State) (line : List ℕ) → is_filled line ≡ false → 0 ≡ line_absent s line
 absent_none s line unfilled = ap (λ f. absent_of (cond f (is_some (number_at s.tree (word_of line))) true)) (sym unfilled)

@@ -16,13 +16,13 @@ abbrev pub byte_text : Bool → ℕ → List ℕ
 byte_text text b = if is_plain text b then b ∷ [] else (92 ∷ (120 ∷ encode_lower (b ∷ [])))
 
 -- some bytes of a word, which is UTF-8 or not
-abbrev pub escaped : Bool → List ℕ → List ℕ
-escaped text [] = []
-escaped text (b ∷ bytes) = byte_text text b ++ escaped text bytes
+abbrev pub escape : Bool → List ℕ → List ℕ
+escape text [] = []
+escape text (b ∷ bytes) = byte_text text b ++ escape text bytes
 
 -- a word as it is written
 abbrev pub word_text : List ℕ → List ℕ
-word_text word = escaped (is_utf8 word) word
+word_text word = escape (is_utf8 word) word
 
 -- a word, a tab, its number and byte 10
 abbrev pub entry_line : Entry → List ℕ
@@ -56,6 +56,6 @@ abbrev pub holds_entry : Tree → Entry → Bool
 holds_entry tree entry = is_number (number_at tree entry.0) entry.1
 
 -- the entries that a tree doesn't hold with the same number
-abbrev pub lacking : Tree → List Entry → List Entry
-lacking tree [] = []
-lacking tree (entry ∷ entries) = if holds_entry tree entry then lacking tree entries else entry ∷ lacking tree entries
+abbrev pub entries_missing : Tree → List Entry → List Entry
+entries_missing tree [] = []
+entries_missing tree (entry ∷ entries) = if holds_entry tree entry then entries_missing tree entries else entry ∷ entries_missing tree entries

@@ -2,7 +2,7 @@
 use Rattle.std.specs.Prelude.{◌≡◌, ℕ, ◌+◌, ◌<◌, ◌^◌, Bool, true, false, ◌&&◌, ◌==◌, nat_le, int_le, if◌then◌else◌, ℤ, pos, negsuc, List, [], ◌∷◌, ◌++◌, length, Option, Some, None, IfSome, is_some, Result, Ok, Err}
 use Rattle.std.specs.List.{before_first, after_first, list_all, position}
 use Rattle.std.specs.Str.Parse.{without_leading_sign, signed_digits_value}
-use Rattle.cedar_tree.specs.State.{State, erased, stored}
+use Rattle.cedar_tree.specs.State.{State, after_erase, after_put}
 use Rattle.cedar_tree.specs.Queries.{Entry}
 use Rattle.cedar_tree.specs.Tree.{number_at}
 use Rattle.cedarwood.specs.Fault.{fault}
@@ -68,7 +68,7 @@ want_of _ = Memory
 -- ---- what a line stores
 
 abbrev pub stored_by : Option CedarError → State → List ℕ → ℤ → State
-stored_by None s word v = stored s word v
+stored_by None s word v = after_put s word v
 stored_by (Some e) s word v = s
 
 abbrev pub stored_with : Option ℤ → State → List ℕ → State
@@ -142,7 +142,7 @@ list_told s list = lines_told s 1 (lines_in list)
 
 -- the state without a line's word
 abbrev pub line_erased : State → List ℕ → State
-line_erased s line = if is_filled line then erased s (word_of line) else s
+line_erased s line = if is_filled line then after_erase s (word_of line) else s
 
 -- whether its word is held; that of an empty line is
 abbrev pub line_held : State → List ℕ → Bool

@@ -30,7 +30,7 @@ pub(crate) fn has_number<L: Layout, const SLOTS: usize, A: Allocator>(
     requires node { (f : Forest) × HasNode (fields table.now) f node }
     ensures { (f : Forest) (w : List ℕ) → TableHolds (fields table.now) f → IsAt (cells table.now) w node → result ≡ is_some (node_at (root_of f) w).number }
 {
-    match table.stored(node) {
+    match table.stored_at(node) {
         Stored::AtBase(base) => table.is_owned_by(base, node),
         Stored::OwnNumber(_) => true,
         Stored::Nothing => false,

@@ -23,7 +23,7 @@ fn is_bare<L: Layout, const SLOTS: usize, A: Allocator>(
     if node == 0 {
         return false;
     }
-    match table.stored(node) {
+    match table.stored_at(node) {
         Stored::AtBase(base) => !table.is_owned_by(base, node) && table.child(node) == 0,
         Stored::OwnNumber(_) => false,
         Stored::Nothing => false,
@@ -114,7 +114,7 @@ fn drop_any_number<L: Layout, const SLOTS: usize, A: Allocator>(
     ensures root_check { (cells table.new).check 0 ≡ (cells table.old).check 0 }
     ensures frame { SameFrame (fields table.old) (fields table.new) }
 {
-    match table.stored(node) {
+    match table.stored_at(node) {
         Stored::AtBase(_) => drop_number(table, node),
         _ => drop_own_number(table, node),
     }

@@ -22,7 +22,7 @@ fn own_front<L: Layout, const SLOTS: usize, A: Allocator>(
 {
     let mut node = 0;
     for length in 0..key.len() {
-        if let Stored::OwnNumber(_) = table.stored(node) {
+        if let Stored::OwnNumber(_) = table.stored_at(node) {
             return Some(length);
         }
         let slot = table.child_slot(node, key[length]);
@@ -56,7 +56,7 @@ fn move_out<L: Layout, const SLOTS: usize, A: Allocator>(
     let Some(node) = table.node_of(key) else {
         return Ok(());
     };
-    if let Stored::OwnNumber(value) = table.stored(node) {
+    if let Stored::OwnNumber(value) = table.stored_at(node) {
         move_number(table, node, value)?;
     }
     Ok(())

@@ -5,7 +5,7 @@ ghost use Rattle.cedar_file.specs.Words.{BlankBlocks, BlankSlots, blocks_of, Fre
 
 use crate::check::lists::{check_lists, check_ranges, read_block};
 use crate::check::rings::{check_ring, count_free, read_free, read_info, read_node};
-use cedar_slots::{BLOCK_SIZE, BlockRecord, Corrupt, Places, Ticks, reserved};
+use cedar_slots::{BLOCK_SIZE, BlockRecord, Corrupt, Places, Ticks, root_count};
 use std::alloc::Allocator;
 use std::sync::ledger::Ledger;
 
@@ -22,7 +22,7 @@ fn check_block<A: Allocator, C: Ledger>(
 {
     let count = count_free(&places.slots, block, reads)?;
     let record = read_block(&places.blocks, block, reads);
-    if record.num != count as i16 + reserved(block) {
+    if record.num != count as i16 + root_count(block) {
         return Err(Corrupt::blocks(block, "invalid free-slot count"));
     }
     if count == 0 {

@@ -219,11 +219,11 @@ fn go_down<L: Layout, const SLOTS: usize, A: Allocator, C: Ledger>(
 {
     let slot = walk.base ^ usize::from(walk.label);
     if slot >= table.size() {
-        return Err(Corrupt::unowned(walk.node));
+        return Err(Corrupt::child_owner(walk.node));
     }
     let node = read_node(table, slot, reads);
     if !names(node.check, walk.node) {
-        return Err(Corrupt::unowned(walk.node));
+        return Err(Corrupt::child_owner(walk.node));
     }
     match L::read_base(node.base) {
         Stored::AtBase(base) => meet_based(table, walk, slot, base, reads),
@@ -247,7 +247,7 @@ fn go_up<L: Layout, const SLOTS: usize, A: Allocator, C: Ledger>(
 {
     let node = read_node(table, walk.node, reads);
     let Some(owner) = owner_named(table, node.check) else {
-        return Err(Corrupt::unowned(walk.node));
+        return Err(Corrupt::child_owner(walk.node));
     };
     let base = base_in::<L>(read_node(table, owner, reads).base);
     let label = read_info(table, walk.node, reads).sibling;

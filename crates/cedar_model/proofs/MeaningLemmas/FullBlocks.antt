@@ -6,7 +6,7 @@ use Rattle.std.specs.Int.Bits.{xor_zero_l}
 use Rattle.std.specs.List.{count_by, range_with_len}
 use Rattle.std.proofs.lemmas.Bool.{cases_eq, cond-true, cond-false, ne_eqb}
 use Rattle.cedar_tree.specs.Tree.{Forest}
-use Rattle.cedar_tree.specs.Queries.{used}
+use Rattle.cedar_tree.specs.Queries.{slots_of_tree}
 use Rattle.cedar_model.specs.Table.Cells.{Cells, is_held, NoPlace}
 use Rattle.cedar_model.specs.Meaning.Family.{base_in, base_of, below, Head, plain, valued, own, top, Among, Family}
 use Rattle.cedar_model.specs.Table.Layouts.{default_layout}
@@ -134,7 +134,7 @@ full_counted size m T f is w full =
     let whole : total (λ s. yes (is_held T s)) 0 size ≡ total (λ s. yes (is_held T s)) 0 256 + total (λ s. yes (is_held T s)) (0 + 256) m = ap (total (λ s. yes (is_held T s)) 0) is ∙ total-append (λ s. yes (is_held T s)) 0 256 m in
     omega (arith, count_by-total (is_held T) 0 size, whole, first_counted size T f w, later, is)
 
-pub full_blocks_counted : (slots : ℕ) (T : Fields) → IsWellFormed slots T → T.layout ≡ default_layout → NoPlace (size_of T) (cells_in T) → size_of T + length (labels (tree_of T).children) ≡ used (tree_of T) + 255
+pub full_blocks_counted : (slots : ℕ) (T : Fields) → IsWellFormed slots T → T.layout ≡ default_layout → NoPlace (size_of T) (cells_in T) → size_of T + length (labels (tree_of T).children) ≡ slots_of_tree (tree_of T) + 255
 full_blocks_counted slots T w layout full =
     let some : size_of T ≡ 256 + (size_of T - 256) = omega (arith, w.table.sound.shaped.blocks.some) in
     let held = full_counted (size_of T) (size_of T - 256) (cells_in T) (tree_of T).children some w.stands full in

@@ -6,7 +6,7 @@ use Rattle.std.specs.List.{count_by, range_with_len}
 use Rattle.std.proofs.lemmas.Bool.{cases_eq, cond-true, cond-false, ne_eqb}
 use Rattle.std.proofs.lemmas.List.{length-map}
 use Rattle.cedar_tree.specs.Tree.{Forest, none, child}
-use Rattle.cedar_tree.specs.Queries.{own_entry, under, walk, walk_forest, prefixes, prefixes_forest, used}
+use Rattle.cedar_tree.specs.Queries.{own_entry, under, walk, walk_forest, prefixes, prefixes_forest, slots_of_tree}
 use Rattle.cedar_model.specs.Table.Cells.{Cells, is_held}
 use Rattle.cedar_model.specs.Meaning.Family.{below, top, Among}
 use Rattle.cedar_model.specs.Table.Layouts.{LayoutKind, default_layout, reading}
@@ -165,7 +165,7 @@ pub count_is_named : (slots : ℕ) (T : Fields) → IsWellFormed slots T → cou
 count_is_named slots T w =
     count_named (size_of T) (cells_in T) (tree_of T).children w.stands (in_use T) (omega (arith, w.table.sound.shaped.blocks.some))
 
-pub count_is_used : (slots : ℕ) (T : Fields) → IsWellFormed slots T → T.layout ≡ default_layout → count_by (is_held (cells_in T)) (range_with_len 0 (size_of T)) ≡ used (tree_of T)
+pub count_is_used : (slots : ℕ) (T : Fields) → IsWellFormed slots T → T.layout ≡ default_layout → count_by (is_held (cells_in T)) (range_with_len 0 (size_of T)) ≡ slots_of_tree (tree_of T)
 unfolding tree_read
 count_is_used slots T w layout =
     let f : Forest = (tree_of T).children in

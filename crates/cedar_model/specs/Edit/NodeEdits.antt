@@ -83,9 +83,9 @@ pub record DropsNumber (size : ℕ) (T T' : Cells) (a : ℕ) : Type 0 where
   pub next : (q : ℕ) → T.check q ≡ pos a → (q ≡ below T a 0 → ⊥) → T'.sibling q ≡ T.sibling q
 
 -- a list of labels without l
-abbrev pub removed : ℕ → List ℕ → List ℕ
-removed l [] = []
-removed l (m ∷ ms) = cond (nat_eq m l) ms (m ∷ removed l ms)
+abbrev pub without_label : ℕ → List ℕ → List ℕ
+without_label l [] = []
+without_label l (m ∷ ms) = cond (nat_eq m l) ms (m ∷ without_label l ms)
 
 -- label l of slot a, a leaf without number, is given up: what led to l leads to what came after it
 pub record Removes (size : ℕ) (T T' : Cells) (a l : ℕ) : Type 0 where
@@ -100,9 +100,9 @@ pub record Removes (size : ℕ) (T T' : Cells) (a l : ℕ) : Type 0 where
   pub number : T.check (below T a 0) ≡ pos a → (T'.base (below T a 0) ≡ T.base (below T a 0)) × (T'.child (below T a 0) ≡ T.child (below T a 0))
 
 -- a list of ascending labels with l
-abbrev pub inserted : ℕ → List ℕ → List ℕ
-inserted l [] = l ∷ []
-inserted l (m ∷ ms) = cond (nat_lt l m) (l ∷ m ∷ ms) (m ∷ inserted l ms)
+abbrev pub with_ascending_label : ℕ → List ℕ → List ℕ
+with_ascending_label l [] = l ∷ []
+with_ascending_label l (m ∷ ms) = cond (nat_lt l m) (l ∷ m ∷ ms) (m ∷ with_ascending_label l ms)
 
 -- the labels ascend from above b
 abbrev pub Above : ℕ → List ℕ → Type 0

@@ -35,7 +35,7 @@ impl<L: Layout, const SLOTS: usize, A: Allocator + Copy> Trie<L, SLOTS, A> {
         match special_at(files, path) {
             Ok(Some(special)) => Ok(Saved::Sent(self.send(special, minor)?)),
             Ok(None) => Ok(Saved::Placed(self.save_in_place(files, path, minor)?)),
-            Err(error) => Err(SaveFailed::unwritten(CedarPersistenceError::Io(error))),
+            Err(error) => Err(SaveFailed::before_write(CedarPersistenceError::Io(error))),
         }
     }
 
@@ -56,7 +56,7 @@ impl<L: Layout, const SLOTS: usize, A: Allocator + Copy> Trie<L, SLOTS, A> {
         let new = Unplaced::beside(files, path)?;
         match self.write_buffered(new, minor) {
             Ok(whole) => whole.put_in_place(),
-            Err(fault) => Err(SaveFailed::unwritten(told(fault))),
+            Err(fault) => Err(SaveFailed::before_write(persistence_error(fault))),
         }
     }
 
@@ -71,7 +71,7 @@ impl<L: Layout, const SLOTS: usize, A: Allocator + Copy> Trie<L, SLOTS, A> {
     {
         match self.write_buffered(special, minor) {
             Ok(whole) => Ok(whole.into_sent()),
-            Err(fault) => Err(SaveFailed::unwritten(told(fault))),
+            Err(fault) => Err(SaveFailed::before_write(persistence_error(fault))),
         }
     }
 
@@ -115,7 +115,7 @@ fn fault_of(error: CedarPersistenceError) -> Unwritten {
 }
 
 /// As an error of the dictionary's files.
-fn told(fault: Unwritten) -> CedarPersistenceError
+fn persistence_error(fault: Unwritten) -> CedarPersistenceError
     ensures { FailsToWrite result }
 {
     match fault {

@@ -26,7 +26,7 @@ impl<'a, F: Files> Unplaced<'a, F> {
     {
         match NewFile::beside(files, path) {
             Ok(file) => Ok(Unplaced { file }),
-            Err(error) => Err(SaveFailed::unwritten(CedarPersistenceError::Io(error))),
+            Err(error) => Err(SaveFailed::before_write(CedarPersistenceError::Io(error))),
         }
     }
 

@@ -2,7 +2,7 @@
 ghost use Rattle.cedarwood.specs.Words.{IsSlotLimit};
 
 use crate::hostile::state::{state_of, update};
-use crate::lists::{Tries, ask, built, change, run};
+use crate::lists::{Tries, ask, build_new, change, run};
 use cedar_calls::{Answer, Call, Change, Changed, Question, Reply};
 use cedarwood::{CedarBuilder, CedarError, DefaultLayout, Layout, ReducedLayout, Trie};
 use std::alloc::{Allocator, Global};
@@ -51,7 +51,7 @@ pub(crate) fn one<L: Layout, const SLOTS: usize, A: Allocator + Copy>(
 ) -> Result<Tries<L, SLOTS, A>, Fail>
     requires { IsSlotLimit SLOTS }
 {
-    let mut trie = built(alloc, CedarBuilder::new())?;
+    let mut trie = build_new(alloc, CedarBuilder::new())?;
     update(&mut trie, b"z", 1)?;
     let mut tries = Vec::new(alloc);
     tries.push(trie)?;

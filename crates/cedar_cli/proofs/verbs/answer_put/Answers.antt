@@ -1,7 +1,7 @@
 use Rattle.std.proofs.Common.{arith, length, sym, Some, ap, subst, ◌∙◌, ◌++◌, ◌∷◌, [], ◌≡◌, None, ℤ, to_z, of_z, w32, Err}
 use Rattle.std.proofs.lemmas.Int.{to_z-of_z}
 use Rattle.std.specs.Prelude.{Result}
-use Rattle.cedar_tree.specs.State.{stored}
+use Rattle.cedar_tree.specs.State.{after_put}
 use Rattle.cedarwood.specs.declared.error.CedarError.{CedarError}
 use Rattle.cedarwood.specs.declared.error.CedarError.TheVariants.{Memory, SlotLimit}
 use Rattle.cedarwood.specs.Fault.{fault, IsShortage}
@@ -38,7 +38,7 @@ returns-then-is_err g c =
             writer.cause
             (λ _. taken_back c.in-Ok.before old c.insert_bytes.new.self.state c.take_back.new.trie.state key c.args.value
             c.in-Ok.ensures.held c.in-Ok.ensures.sound c.in-Ok.ensures.in_range clean
-            (u.ok ∙ ap (λ v. stored old key v) same) c.take_back.ensures.state)
+            (u.ok ∙ ap (λ v. after_put old key v) same) c.take_back.ensures.state)
             (ap (λ f. put_text f ++ 10 ∷ []) (sym clean)) c.write_whole-written.ensures.err;
       };
       faults = writers_fault (has_failed c.args.writer.now) (has_failed c.write_whole-written.new.writer) written writer;
@@ -64,7 +64,7 @@ returns-else-is_err g c =
     record {
       answer = record {
         ok = Obeys-on_ok written (Some (Put c.args.value, key)) (view_of layout before) (view_of layout after) (g.W.Write.contents (device_of c.args.writer.now)) (g.W.Write.contents (device_of c.write_whole-written.new.writer)) (111 ∷ 107 ∷ 10 ∷ [])
-            (put_obeyed layout before after key c.args.value clean c.in-Ok.ensures.sound (u.ok ∙ ap (λ v. stored before.state key v) same) u.marked u.marks)
+            (put_obeyed layout before after key c.args.value clean c.in-Ok.ensures.sound (u.ok ∙ ap (λ v. after_put before.state key v) same) u.marked u.marks)
             (ap (λ f. put_text f ++ 10 ∷ []) (sym clean)) c.write_whole-written.ensures.ok;
         err = if_not_err _ written (sym c.is_err.ensures.value ∙ c.if-is_err.false);
       };

@@ -3,7 +3,7 @@ use Rattle.std.specs.Prelude.{Ok, Err, IsTrue}
 use Rattle.std.proofs.lemmas.Bool.{false≢true, le-leb}
 use Rattle.cedar_journal.specs.declared.device.DeviceError.TheVariants.{Failed}
 use Rattle.cedar_disk.specs.NotedFiles.{noted_calls}
-use Rattle.cedar_disk.specs.Calls.{Call, all_within, is_named_after, is_usable_after, seen_after, shortened}
+use Rattle.cedar_disk.specs.Calls.{Call, all_within, is_named_after, is_usable_after, seen_after, truncate_call}
 use Rattle.cedar_disk.proofs.Causes.{call_failed}
 use Rattle.cedar_disk.proofs.Steps.{both, cut_follows, elapses_to}
 use Rattle.cedar_disk.proofs.account.Account.cut.Goals as goal
@@ -35,7 +35,7 @@ pub returns-in-Ok-clause-crash : goal.returns-in-Ok-clause-crash
 returns-in-Ok-clause-crash g c = cut_follows (noted_calls c.args.self.now.file) (noted_calls c.cut.new.self) c.args.len true c.in-Ok.ensures.noted
 
 pub returns-in-Ok-clause-time : goal.returns-in-Ok-clause-time
-returns-in-Ok-clause-time g c = elapses_to (shortened c.args.len true) (noted_calls c.args.self.now.file) (noted_calls c.cut.new.self) c.in-Ok.ensures.noted
+returns-in-Ok-clause-time g c = elapses_to (truncate_call c.args.len true) (noted_calls c.args.self.now.file) (noted_calls c.cut.new.self) c.in-Ok.ensures.noted
 
 pub returns-in-Ok-clause-cause : goal.returns-in-Ok-clause-cause
 returns-in-Ok-clause-cause g c = call_failed (Ok tt) 2 c.args.len [] (noted_calls c.args.self.now.file) (noted_calls c.cut.new.self) c.in-Ok.ensures.noted
@@ -44,7 +44,7 @@ pub returns-in-Err-clause-crash : goal.returns-in-Err-clause-crash
 returns-in-Err-clause-crash g c = cut_follows (noted_calls c.args.self.now.file) (noted_calls c.cut.new.self) c.args.len false c.in-Err.ensures.noted
 
 pub returns-in-Err-clause-time : goal.returns-in-Err-clause-time
-returns-in-Err-clause-time g c = elapses_to (shortened c.args.len false) (noted_calls c.args.self.now.file) (noted_calls c.cut.new.self) c.in-Err.ensures.noted
+returns-in-Err-clause-time g c = elapses_to (truncate_call c.args.len false) (noted_calls c.args.self.now.file) (noted_calls c.cut.new.self) c.in-Err.ensures.noted
 
 pub returns-in-Err-clause-cause : goal.returns-in-Err-clause-cause
 returns-in-Err-clause-cause g c = call_failed (Err Failed) 2 c.args.len [] (noted_calls c.args.self.now.file) (noted_calls c.cut.new.self) c.in-Err.ensures.noted

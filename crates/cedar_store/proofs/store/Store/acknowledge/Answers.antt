@@ -5,7 +5,7 @@ use Rattle.cedar_journal.specs.Frames.{payload_of}
 use Rattle.cedar_journal.proofs.Moments.{joins, weakens}
 use Rattle.cedar_tree.specs.State.{new_state}
 use Rattle.cedar_store.specs.Batches.{all_erased_late}
-use Rattle.cedar_store.specs.Changes.{replayed}
+use Rattle.cedar_store.specs.Changes.{after_payloads}
 use Rattle.cedar_store.specs.declared.error.DurableError.TheVariants as error
 use Rattle.cedar_store.specs.Files.{state_of, IsEither, StandsFor}
 use Rattle.cedar_store.specs.Told.{changes_told}
@@ -102,7 +102,7 @@ returns-then-not-self-clause-left g c =
       words = c.append.ensures.words;
       end = c.in-Err.ensures.end;
       settled = c.append.ensures.no_room none;
-      same = ap (λ r. option_and_then (replayed new_state) r) (c.append.ensures.same_left none);
+      same = ap (λ r. option_and_then (after_payloads new_state) r) (c.append.ensures.same_left none);
     })
 
 pub returns-then-not-self-clause-any_moment : goal.returns-then-not-self-clause-any_moment

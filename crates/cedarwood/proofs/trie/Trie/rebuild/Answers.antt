@@ -2,7 +2,7 @@ use Rattle.std.proofs.Common.{◌∙◌, FitsSigned, of_z, rules, to_z, w32}
 use Rattle.std.proofs.lemmas.Int.{to_z-of_z}
 use Rattle.cedar_table.specs.Table.Views.{fields}
 use Rattle.cedarwood.proofs.ShrinkLemmas.{is_rebuilt}
-use Rattle.cedarwood.proofs.trie.Trie.rebuilt.Goals as goal
+use Rattle.cedarwood.proofs.trie.Trie.rebuild.Goals as goal
 
 pub returns : goal.returns
 returns g c =
