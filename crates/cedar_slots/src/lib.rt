@@ -14,7 +14,7 @@ mod ticks;
 pub use blocks::{BlockType, Blocks, Counts};
 pub use corrupt::Corrupt;
 pub use padded::{Blank, Padded};
-pub use places::{Places, reserved};
+pub use places::{Places, root_count};
 pub use records::{BlockRecord, NInfoRecord, NodeRecord};
 pub use shortage::Shortage;
 pub use slots::{BLOCK_SIZE, Slots};
