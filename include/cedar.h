@@ -116,7 +116,7 @@ uint32_t cedar_new_with(cedar_dictionary *d, bool ordered, int32_t max_trial);
 
 /* As cedar_new_with, in the reduced layout: a value is kept in the last node of its key as long as no longer key has been stored below it,
  * and takes no slot of its own. All calls below take a dictionary of either layout, and return the same for both except for the number of
- * slots in use. The layout is chosen when the dictionary is made. */
+ * held slots. The layout is chosen when the dictionary is made. */
 uint32_t cedar_new_reduced(cedar_dictionary *d, bool ordered, int32_t max_trial);
 
 /* Returns whether *d has the reduced layout. False if closed. */

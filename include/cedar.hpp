@@ -216,7 +216,7 @@ public:
         detail::check_pairs(status, position, listed);
     }
 
-    /// Removes a key, and returns whether it was held. Its slots are used again. It allocates nothing.
+    /// Removes a key, and returns whether it was held. Its slots become free. It allocates nothing.
     bool erase(std::string_view key) noexcept { return cedar_erase(&inside_, detail::bytes(key), key.size()); }
 
     /// Removes the keys of a range, as of std::string_view, one after another, and returns how many of them were held. It is faster than as

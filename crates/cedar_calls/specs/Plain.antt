@@ -82,7 +82,7 @@ plain_effect (changed.Built result) = plain_result (λ _. done) result
 plain_effect (changed.UpdatedBatch result) = plain_batch result
 plain_effect (changed.Reserved result) = plain_result (λ _. done) result
 
--- how many slots are in use, where that is compared: trees alone say it in the default layout
+-- how many slots are held, where that is compared: trees alone say it in the default layout
 abbrev pub comparable_count : Bool → ℕ → Option ℕ
 comparable_count true n = Some n
 comparable_count false n = None
@@ -276,7 +276,7 @@ abbrev pub states_of : List Dictionary → List State
 states_of ds = map (λ d. d.state) ds
 
 -- Trees alone decide: whatever the layout, the limit of slots, the settings but the order, the marks and the tables, a run of calls without a
--- load, of which none was refused for memory or slots, says what its trees say, and leaves what they leave. How many slots are in use is
+-- load, of which none was refused for memory or slots, says what its trees say, and leaves what they leave. How many slots are held is
 -- compared where this is asked for, which the default layout allows
 abbrev pub TreesDecide : {A : Type 0} → List Call → List (Answer A) → Type 0
 TreesDecide calls answers =

@@ -2,7 +2,7 @@
 use Rattle.std.specs.Prelude.{◌≡◌, Bool, true, false, ℕ, ℤ, ◌+◌, ◌-◌, ◌*◌, ◌/◌, ◌<◌, List, [], ◌∷◌, length, map, Option, option_map, Some, None, is_some, IsTrue, ◌↔◌, MatchResult, Result, string_bytes}
 use Rattle.std.specs.Str.{IsUtf8}
 use Rattle.cedar_tree.specs.Tree.{number_at}
-use Rattle.cedar_tree.specs.Queries.{Entry, exact, front, predict, prefixes, slots_of_tree, walk}
+use Rattle.cedar_tree.specs.Queries.{Entry, exact, front, predict, slots_of_tree, walk}
 use Rattle.cedarwood.specs.declared.error.CedarError.{CedarError}
 use Rattle.cedarwood.specs.declared.error.CedarError.TheVariants.{Memory}
 use Rattle.cedar_model.specs.Table.Layouts.{LayoutKind, default_layout}
@@ -11,7 +11,7 @@ use Rattle.cedarwood.specs.Ranges.{entries_since, entries_with, longest_front}
 use Rattle.cedarwood.specs.RangeWalks.{entries_between}
 use Rattle.cedarwood.specs.Ends.{first_entry, last_entry}
 use Rattle.cedar_format.specs.Tables.{IsTableFile}
-use Rattle.cedarwood.specs.Dictionary.{Dictionary}
+use Rattle.cedarwood.specs.Dictionary.{Dictionary, held_slots}
 use Rattle.cedarwood.specs.declared.figures.MemoryStats.{MemoryStats}
 use Rattle.cedar_calls.specs.declared.call.Figure.{Figure}
 use Rattle.cedar_calls.specs.declared.call.Figure.TheVariants.{AllocatedBytes, Capacity, SpareBlocks, UsedSlots}
@@ -43,10 +43,6 @@ in_order false es = None
 -- they were collected, or there was no memory for them, which only some entries of ascending labels need
 abbrev pub CollectsRange : {X : Type 0} → Result (Option X) CedarError → (X → List Entry) → Bool → List Entry → Type 0
 CollectsRange result entries ordered es = MatchResult result (λ found. option_map entries found ≡ in_order ordered es) (λ e. (e ≡ Memory) × (ordered ≡ true) × (0 < length es))
-
--- the slots that are held: one for the root, one for each prefix, and one for each number that has a slot of its own
-abbrev pub held_slots : Dictionary → ℕ
-held_slots d = 1 + length (prefixes d.state.tree) + length (walk d.marked)
 
 -- the bytes that so many slots take, with their blocks and the reject values
 abbrev pub bytes_of : ℕ → ℕ

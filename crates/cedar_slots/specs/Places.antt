@@ -80,7 +80,7 @@ pub record Sound (table : PlaceFields) : Type 0 where
   pub rejects : Rejects table.reject
   pub inactive : Inactive table
 
--- the slot e, which was free, holds the node given, and no other slot that was in use has changed
+-- the slot e, which was free, is held and has the node given, and no other held slot has changed
 pub record TakesSlot (before after : SlotFields) (e : ℕ) (node : NodeRecord) : Type 0 where
   pub holds : node_record_at after.nodes e ≡ node
   pub used : is_free after.nodes e ≡ false
@@ -88,7 +88,7 @@ pub record TakesSlot (before after : SlotFields) (e : ℕ) (node : NodeRecord) :
   pub kept : (s : ℕ) → (s ≡ e → ⊥) → is_free before.nodes s ≡ false → node_record_at after.nodes s ≡ node_record_at before.nodes s
   pub infos : after.infos ≡ before.infos
 
--- the slot e, which was in use, is free, and no other slot that is in use has changed
+-- the slot e, which was held, is free, and no other held slot has changed
 pub record FreesSlot (before after : SlotFields) (e : ℕ) : Type 0 where
   pub now_free : is_free after.nodes e ≡ true
   pub free : (s : ℕ) → (s ≡ e → ⊥) → is_free after.nodes s ≡ is_free before.nodes s
@@ -171,7 +171,7 @@ pub record SameSlots (before after : PlaceFields) : Type 0 where
   pub len : length after.blocks.records ≡ length before.blocks.records
   pub max_trial : after.blocks.max_trial ≡ before.blocks.max_trial
 
--- the first block with the root alone in use
+-- the first block, in which the root alone is held
 abbrev pub root_block : BlockRecord
 root_block = record { prev = pos 0; next = pos 0; num = pos 256; reject = pos 257; trial = pos 0; e_head = pos 1 }
 

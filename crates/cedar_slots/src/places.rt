@@ -42,7 +42,7 @@ fn first_rejects<A: Allocator>(alloc: A) -> Result<Vec<i16, A>, AllocError>
 impl<A: Allocator> Places<A> {
     ghost use Rattle.cedar_slots.specs.Words.{AddsBlock, blocks_of, counts_at, FreesSlot, Grown, is_free, IsBase, IsFreePlace, IsNewPlaces, IsOpenBlock, IsPowerOfTwo, IsSlotLimit, IsStart, MayRefuse, node_record_at, NoneFree, places_of, range_with_len, reject_at, Rejects, room_for_one, SameSlots, Shaped, slots_of, Sound, TakesSlot, Within};
 
-    /// One block, in which the root alone is in use.
+    /// One block, in which the root alone is held.
     pub fn new(alloc: A, root: NodeRecord, max_trial: i32) -> Result<Places<A>, AllocError>
     where
         A: Copy,
@@ -51,7 +51,7 @@ impl<A: Allocator> Places<A> {
         //= A new table is `Sound`.
         ensures sound { IfOk result (λ places. Sound (places_of places)) }
 
-        //= It has one block, in which only the root is in use, with the node that is given. [with root]
+        //= It has one block, in which only the root is held, with the node that is given. [with root]
         ensures made { IfOk result (λ places. IsNewPlaces (places_of places) max_trial) }
         ensures root { IfOk result (λ places. node_record_at places.slots.nodes.items 0 ≡ root) }
     {
@@ -78,11 +78,11 @@ impl<A: Allocator> Places<A> {
         })
     }
 
-    /// Returns how many slots in use aren't free.
-    pub fn used_slots(&self) -> usize
+    /// Returns how many slots are held.
+    pub fn held_slots(&self) -> usize
         requires { Sound (places_of self.now) }
 
-        //= `used_slots` is the number of slots in use that aren't free.
+        //= `held_slots` returns the number of held slots: those in use that aren't free.
         ensures { result ≡ count_by (λ s. not (is_free self.now.slots.nodes.items s)) (range_with_len 0 (256 * self.now.blocks.active)) }
     {
         let mut free: usize = 0;
@@ -114,7 +114,7 @@ impl<A: Allocator> Places<A> {
         //  add_block, find_place, find_places]
         ensures sound { Sound (places_of self.new) }
 
-        //= `pop_e_node` takes the named free slot and stores the node there; no other slot becomes free or used, and neither another used
+        //= `pop_e_node` takes the named free slot and stores the node there; no other slot becomes free or held, and neither another held
         //  slot's node nor any slot's labels change.
         ensures takes_slot { TakesSlot (slots_of self.old.slots) (slots_of self.new.slots) slot node }
 
@@ -141,7 +141,7 @@ impl<A: Allocator> Places<A> {
         requires not_root { 0 < slot }
         ensures sound { Sound (places_of self.new) }
 
-        //= `push_e_node` frees the named slot and clears its labels; no other slot becomes free or used, and neither another used slot's
+        //= `push_e_node` frees the named slot and clears its labels; no other slot becomes free or held, and neither another held slot's
         //  node nor another slot's labels change.
         ensures frees_slot { FreesSlot (slots_of self.old.slots) (slots_of self.new.slots) slot }
         ensures active { self.new.blocks.active ≡ self.old.blocks.active }

@@ -255,7 +255,7 @@ impl<L: Layout, const SLOTS: usize, A: Allocator> Table<L, SLOTS, A> {
         ensures count { result ≡ count_by (is_held (cells self.now)) (range_with_len 0 (size_of (fields self.now))) }
         ensures test { (s : ℕ) → IsTrue (is_held (cells self.now) s) ↔ Held (cells self.now) s }
     {
-        self.places.used_slots()
+        self.places.held_slots()
     }
 
     /// Returns the stated number of keys.

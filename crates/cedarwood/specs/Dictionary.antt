@@ -45,8 +45,8 @@ abbrev pub first_bytes : Tree → ℕ
 first_bytes t = length (labels t.children)
 
 -- the slots that are held: one for the root, one for each prefix, and one for each number that has a slot of its own
-abbrev pub used_slots : Dictionary → ℕ
-used_slots d = 1 + length (prefixes d.state.tree) + length (walk d.marked)
+abbrev pub held_slots : Dictionary → ℕ
+held_slots d = 1 + length (prefixes d.state.tree) + length (walk d.marked)
 
 -- siblings with just those of their numbers whose paths pass a test
 abbrev pub with_some : (List ℕ → Bool) → Forest → Forest

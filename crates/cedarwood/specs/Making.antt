@@ -9,7 +9,7 @@ use Rattle.cedar_model.specs.Table.Layouts.{LayoutKind}
 use Rattle.cedarwood.specs.declared.builder.CedarBuilder.{CedarBuilder}
 use Rattle.cedarwood.specs.declared.error.CedarError.{CedarError}
 use Rattle.cedarwood.specs.declared.error.CedarError.TheVariants.{Memory, SlotLimit}
-use Rattle.cedarwood.specs.Dictionary.{capacity_after, Dictionary, first_bytes, used_slots}
+use Rattle.cedarwood.specs.Dictionary.{capacity_after, Dictionary, first_bytes, held_slots}
 use Rattle.cedarwood.specs.SortedInput.{fault_from}
 
 -- labels ascend, and one failed search closes a block
@@ -43,7 +43,7 @@ pub record IsSorted (layout : LayoutKind) (settings : CedarBuilder) (pairs : Lis
   pub max_trial : d.max_trial ≡ settings.max_trial
   pub size : (n : ℕ) × (n ≤ length (prefixes (asc pairs))) × (d.size ≡ 256 + 256 * n) × (d.capacity ≡ capacity_after n 256 256)
   -- at most 255 slots outside the first block are free, and 256 others for each node below the root that takes several
-  pub packed : d.size + first_bytes (asc pairs) ≤ used_slots d + 510 + 256 * count_crowded (asc pairs)
+  pub packed : d.size + first_bytes (asc pairs) ≤ held_slots d + 510 + 256 * count_crowded (asc pairs)
 
 -- a sorted build: the first fault of the pairs, if there is one; else their dictionary, or there was no memory, or so many prefixes
 -- that all slots might be wanted

@@ -8,7 +8,7 @@ use Rattle.cedarwood.specs.declared.error.CedarError.TheVariants.{Memory, SlotLi
 use Rattle.cedar_model.specs.Edit.Packing.{joins}
 use Rattle.cedar_model.specs.Meaning.Marks.{MarksPut}
 use Rattle.cedar_model.specs.Table.Layouts.{LayoutKind, default_layout, reduced_layout}
-use Rattle.cedarwood.specs.Dictionary.{Dictionary, Grows, IsMarked, first_bytes, used_slots}
+use Rattle.cedarwood.specs.Dictionary.{Dictionary, Grows, IsMarked, first_bytes, held_slots}
 use Rattle.cedarwood.specs.Fault.{fault, IsShortage}
 
 -- a put of a key makes no block, and at most one where another key has its first byte. It makes more only where at most 255 slots outside
@@ -16,8 +16,8 @@ use Rattle.cedarwood.specs.Fault.{fault, IsShortage}
 abbrev pub PacksUpdate : Dictionary → Dictionary → List ℕ → Type 0
 PacksUpdate before after key =
     (after.size ≤ before.size + 256 * joins before.state.tree key)
-    ⊎ ((after.size + first_bytes after.state.tree ≤ used_slots after + 510)
-    ⊎ ((before.size + first_bytes before.state.tree ≡ used_slots before + 255) × (joins before.state.tree key ≡ 1) × (after.size ≤ before.size + 512)))
+    ⊎ ((after.size + first_bytes after.state.tree ≤ held_slots after + 510)
+    ⊎ ((before.size + first_bytes before.state.tree ≡ held_slots before + 255) × (joins before.state.tree key ≡ 1) × (after.size ≤ before.size + 512)))
 
 -- an update of the key with the value v in a dictionary of this layout that may have `slots` slots
 pub record IsUpdate (layout : LayoutKind) (slots : ℕ) (before after : Dictionary) (key : List ℕ) (v : ℤ) (result : Result (Unit {0}) CedarError) : Type 0 where

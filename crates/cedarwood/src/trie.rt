@@ -319,7 +319,7 @@ impl<L: Layout, const SLOTS: usize, A: Allocator + Copy> Trie<L, SLOTS, A> {
         //= `max_trial` doesn't change. [also update, erase_bytes.max_trial, erase.max_trial; by max_trial]
         //= In the reduced layout an update of a new key marks its held proper prefixes, and the key if it is a prefix of a held one. What
         //  was marked stays marked. An update of a held key doesn't change the marks. [also update; by marks, MarksPut]
-        //= A refused update doesn't change the marks, and so not the used slots. [also update; by marks_stay, err]
+        //= A refused update doesn't change the marks, and so not the held slots. [also update; by marks_stay, err]
         ensures updated { IsUpdate L.kind SLOTS self.old self.new key.now value result }
     {
         match self.insert_bytes(key, value) {
@@ -481,7 +481,7 @@ impl<L: Layout, const SLOTS: usize, A: Allocator + Copy> Trie<L, SLOTS, A> {
     /// ```
     #[must_use]
     pub fn used_node_slots(&self) -> usize
-        //= The used slots follow from tree and marks.
+        //= Tree and marks decide how many slots are held.
         //= `used_node_slots` returns one, plus the distinct nonempty prefixes of keys, plus the numbers that have slots of their own.
         ensures marked { result ≡ 1 + length (prefixes self.now.state.tree) + length (walk self.now.marked) }
 

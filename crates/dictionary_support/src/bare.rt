@@ -98,7 +98,7 @@ pub fn find<L: Layout, const SLOTS: usize, A: Allocator + Copy>(
     trie.exact_match_search_bytes(key)
 }
 
-/// Returns how many keys are held, and how many slots used.
+/// Returns how many keys are held, and how many slots.
 pub fn counts<L: Layout, const SLOTS: usize, A: Allocator + Copy>(
     trie: &Trie<L, SLOTS, A>,
 ) -> (usize, usize) {

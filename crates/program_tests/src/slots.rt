@@ -9,7 +9,7 @@ use std::alloc::{AllocError, Global};
 use std::process::Abort;
 use std::test::Fail;
 
-// What is left if a line finds no slot: the answers of the lines before it, how many keys and used slots there are,
+// What is left if a line finds no slot: the answers of the lines before it, how many keys and held slots there are,
 // and what is held.
 #[derive(Clone, Copy)]
 struct Left {

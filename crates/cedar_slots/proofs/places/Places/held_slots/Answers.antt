@@ -2,7 +2,7 @@ use Rattle.std.proofs.Common.{◌≡◌, ◌+◌, ◌∙◌, ap, arith, of_z, sy
 use Rattle.std.proofs.lemmas.Int.{ints}
 use Rattle.cedar_slots.specs.Views.{places_of}
 use Rattle.cedar_slots.proofs.ListsLemmas.FreeCounts.{block_total, block_total-le, num_total, sum_below, sum_below-le, sum_below-more, sum_below-none, used-sum}
-use Rattle.cedar_slots.proofs.places.Places.used_slots.Goals as goal
+use Rattle.cedar_slots.proofs.places.Places.held_slots.Goals as goal
 
 pub loop-block-init : goal.loop-block-init
 loop-block-init g c = sym (sum_below-none c.args.self.now.slots.nodes.items)
