@@ -352,6 +352,7 @@ impl AnyCedar {
 /// `CLOSED` if the handle that is copied is closed, and `MEMORY` if an allocation was refused. Then the handle is as it was.
 #[unsafe(no_mangle)]
 pub extern "C" fn cedar_clone(original: &mut Reading, alloc: Global, handle: &mut Handle) -> u32
+    //= It returns `CLOSED` exactly if the handle that is copied is closed.
     ensures closed { (result ≡ CLOSED) ↔ (shown_in original.old ≡ None) }
 
     //= A clone has an equal dictionary, whose table is equal field by field. It fails only for lack of memory; then the handle has what it
@@ -394,6 +395,7 @@ impl AnyCedar {
 /// `CLOSED` if the handle is closed: then nothing is written.
 #[unsafe(no_mangle)]
 pub extern "C" fn cedar_erase_prefix(handle: &mut Handle, prefix: &[u8], erased: &mut usize) -> u32
+    //= `cedar_erase_prefix` and `cedar_shrink` return `CLOSED` exactly if the handle is closed. [also cedar_shrink]
     ensures closed { (result ≡ CLOSED) ↔ (content handle.old ≡ None) }
 
     //= An erasure by a prefix removes all keys that begin with it, and no other one, and writes how many these were. It is refused only if

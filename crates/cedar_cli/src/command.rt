@@ -132,6 +132,8 @@ pub fn explain_line(line: &[u8], room: &mut [u8]) -> Option<&'static str>
 
     //= A reason is given for exactly those lines that are no order (always).
     ensures told { is_some result ≡ not (is_some (order_of line.now)) }
+
+    //= The room keeps its length.
     ensures len { length room.new ≡ length room.old }
 {
     match parse_line(line, room) {

@@ -59,6 +59,7 @@ impl<'a, F: Files> NewFile<'a, F> {
     /// Those of looking at the path, of opening its folder and of making the file. `AlreadyExists` if all names are taken,
     /// `InvalidFilename` if the path is too long for one, `Unsupported` if something other than a file is at the path. Nothing was made then.
     pub fn beside(files: &'a F, path: &'a str) -> io::Result<NewFile<'a, F>>
+        //= A new file is empty, and is to have the name at the path. [with path]
         ensures empty { IfOk result (λ new. new_bytes new ≡ []) }
         ensures path { IfOk result (λ new. new_path new ≡ path.now) }
     {
@@ -173,6 +174,7 @@ impl<F: Files> Write for NewFile<'_, F> {
     ghost contents = { λ new. Some (new_bytes new) };
 
     fn write(&mut self, buf: &[u8]) -> io::Result<usize>
+        //= A write appends as many of its bytes as it returns, at most all of them, and none if it fails; the path stays. [with bound, path]
         ensures bytes { WriteAppends (Some (new_bytes self.old)) (Some (new_bytes self.new)) result buf.now }
         ensures bound { WritesAtMost result buf.now }
         ensures path { new_path self.new ≡ new_path self.old }
@@ -200,6 +202,7 @@ impl<F: Files> Write for NewFile<'_, F> {
     }
 
     fn flush(&mut self) -> io::Result<()>
+        //= A flush changes neither bytes nor path. [with path]
         ensures bytes { Keeps (Some (new_bytes self.old)) (Some (new_bytes self.new)) }
         ensures path { new_path self.new ≡ new_path self.old }
     {

@@ -292,6 +292,8 @@ pub fn write_header<W: Write>(
 ) -> Result<(), CedarPersistenceError>
     //= A header is written as exactly its bytes, in the version that it names. [with err]
     ensures bytes { OnOk result (Appends (W.contents (device_of writer.old)) (W.contents (device_of writer.new)) (header_bytes layout header)) }
+
+    //= Each number of a header fits its field.
     ensures fits { FitsHeader header }
     ensures err { IfErr result (λ e. IsIo e × (has_failed writer.new ≡ true)) }
     ensures failed { has_failed writer.old ≡ true → has_failed writer.new ≡ true }

@@ -20,6 +20,8 @@ pub fn decode_into(text: &[u8], room: &mut [u8]) -> Option<usize>
     //= Digits are read as the bytes that they stand for, two digits each, in either case; an odd number of them and a text with another
     //  byte are refused (`decode_of`).
     ensures bytes { option_map (λ n. take n room.new) result ≡ result_ok (decode_of text.now) }
+
+    //= It never returns more bytes than the room has.
     ensures within { IfSome result (λ n. n ≤ length room.old) }
 
     //= Only the first bytes of the room change, half as many as the text has, whether it is refused or not. [with len]

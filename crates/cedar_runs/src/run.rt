@@ -35,6 +35,8 @@ pub fn run_store_calls<T: Words, A: Allocator + Copy, D: ReplaceDevice>(
 )
     requires ready { IsReadyStore D.seen D.may_leave T.state store.old }
     requires room { vec_len outcomes.old + length calls.now ≤ vec_capacity outcomes.old }
+
+    //= After calls of a store it is ready for further ones. [also make_store_call]
     ensures ready { IsReadyStore D.seen D.may_leave T.state store.new }
     //= Calls of a store are a run: one outcome for each call comes after those that were there, and each call begins with the dictionary
     //  and the disk that the one before it left. [with count; by AddsStoreRun, IsStoreRun]

@@ -173,6 +173,7 @@ impl<A: Allocator> Blocks<A> {
 
     /// Returns the first block of a list, or 0.
     pub fn head(&self, list: BlockType) -> i32
+        //= `head` returns the head of a list.
         ensures { result ≡ head_of (blocks_of self.now) list }
     {
         match list {
@@ -230,6 +231,7 @@ impl<A: Allocator> Blocks<A> {
 
     /// Returns the list that a block's counts name.
     pub fn list_of(&self, counts: Counts) -> BlockType
+        //= `list_of` returns the list that these counts name.
         ensures { result ≡ kind_of self.now.max_trial counts }
     {
         let max_trial = self.max_trial;
@@ -336,6 +338,8 @@ impl<A: Allocator> Blocks<A> {
     /// Returns the counts of `block`.
     pub fn counts(&self, block: usize) -> Counts
         requires { block < self.now.records.used }
+
+        //= `counts` returns what a block's record counts.
         ensures { result ≡ counts_at self.now.records.items block }
     {
         let record = self.records.at(block);

@@ -49,6 +49,7 @@ impl<T: Blank, A: Allocator> Padded<T, A> {
 
     /// Returns how many items there are.
     pub fn len(&self) -> usize
+        //= `len` returns how many items there are.
         ensures { result ≡ length self.now.items }
     {
         self.len
@@ -56,6 +57,7 @@ impl<T: Blank, A: Allocator> Padded<T, A> {
 
     /// Returns how many items are written to memory.
     pub fn used(&self) -> usize
+        //= `used` returns how many items are written to memory: no more than there are. [with within]
         ensures used { result ≡ self.now.used }
         ensures within { self.now.used ≤ length self.now.items }
     {

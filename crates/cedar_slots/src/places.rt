@@ -22,6 +22,7 @@ pub struct Places<A: Allocator> {
 
 /// Returns how many slots of `block` are counted as free and are in no ring: the root alone.
 pub fn root_count(block: usize) -> i16
+    //= `root_count` is 1 of block 0, and 0 of any other block.
     ensures { result ≡ pos (if block == 0 then 1 else 0) }
 {
     if block == 0 { 1 } else { 0 }
@@ -111,7 +112,7 @@ impl<A: Allocator> Places<A> {
         requires node_used { int_lt node.check (pos 0) ≡ false }
 
         //= Calls that change a table keep `Sound`, whatever the order of rings and lists. [also push_e_node, write_node, write_info,
-        //  add_block, find_place, find_places]
+        //  add_block, find_place, find_places, grow]
         ensures sound { Sound (places_of self.new) }
 
         //= `pop_e_node` takes the named free slot and stores the node there; no other slot becomes free or held, and neither another held
@@ -222,8 +223,13 @@ impl<A: Allocator> Places<A> {
         requires more { length self.old.blocks.records.items ≤ room }
         requires most { room ≤ 2 ^ 22 }
         ensures sound { Sound (places_of self.new) }
+
+        //= `grow` changes nothing but that blank slots and blocks come to the ends: if it succeeds, there are as many blocks as it was
+        //  asked for. [with len]
         ensures grown { Grown (places_of self.old) (places_of self.new) }
         ensures len { OnOk result (length self.new.blocks.records.items ≡ room) }
+
+        //= If it fails, the table is as it was, field by field.
         ensures err { OnErr result (places_of self.new ≡ places_of self.old) }
     {
         let more = room - self.blocks.records.len();
@@ -284,6 +290,8 @@ impl<A: Allocator> Places<A> {
 
         //= There are never more slots than the limit. [also find_place, find_places]
         ensures within { 256 * length self.new.blocks.records.items ≤ slots }
+
+        //= `add_block`, `find_place` and `find_places` don't change `max_trial`. [also find_place, find_places]
         ensures max_trial { self.new.blocks.max_trial ≡ self.old.blocks.max_trial }
 
         //= `add_block` puts the next block into use with all of its slots free, and changes no other slot.

@@ -81,6 +81,8 @@ pub fn put_payload<A: Allocator + Copy>(
     requires { fault key.now value ≡ None }
     //= The payload of a put has that change, and 5 bytes more than the key. [with length]
     ensures change { IfOk result (λ payload. change_of payload.items ≡ Some (put_at key.now value)) }
+
+    //= Read as a list of changes, each of these payloads has its change alone. [also erase_payload]
     ensures alone { IfOk result (λ payload. changes_of payload.items ≡ Some (put_at key.now value ∷ [])) }
     ensures length { IfOk result (λ payload. length payload.items ≡ length key.now + 5) }
 {

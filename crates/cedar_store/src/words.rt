@@ -20,7 +20,7 @@ pub trait Words: Drop {
     /// The pair's first fault, or `Memory` or `SlotLimit`. Then it is as it was.
     fn put(&mut self, key: &[u8], value: i32) -> Result<Option<i32>, CedarError>
         //= The trait of dictionaries that a store keeps: what its calls do to the state, in the words of a dictionary's own calls. [with
-        //  held, sound, in_range]
+        //  held, sound, in_range; also put_over]
         ensures updated { IsPut (state self.old) (state self.new) key.now value (outcome result) }
         ensures held { IfOk result (λ held. held ≡ number_at (state self.old).tree key.now) }
         ensures sound { OnOk result (IsSound (state self.old).tree) }
@@ -35,10 +35,12 @@ pub trait Words: Drop {
 
     /// Removes a key, if it is held.
     fn remove(&mut self, key: &[u8])
+        //= `remove` erases a key.
         ensures { state self.new ≡ after_erase (state self.old) key.now };
 
     /// Whether a key is held.
     fn holds(&self, key: &[u8]) -> bool
+        //= `holds` returns whether a key is held.
         ensures { result ≡ is_some (number_at (state self.now).tree key.now) };
 
     /// How many keys are held.

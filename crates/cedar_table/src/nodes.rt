@@ -23,7 +23,7 @@ impl<L: Layout, const SLOTS: usize, A: Allocator> Table<L, SLOTS, A> {
     pub fn base_of(&self, node: usize) -> usize
         requires { node < size_of (fields self.now) }
 
-        //= `base_of`, `child_slot`: where a node's slots begin, and its slot for a label. [also child_slot]
+        //= `base_of`, `child_slot`: where a node's slots begin, and its slot for a label. [also child_slot, slot_below]
         ensures { result ≡ base_of (cells self.now) node }
     {
         match self.stored_at(node) {
@@ -67,6 +67,8 @@ impl<L: Layout, const SLOTS: usize, A: Allocator> Table<L, SLOTS, A> {
     pub fn owner(&self, slot: usize) -> usize
         requires slot_in { slot < size_of (fields self.now) }
         requires owned { (c : ℕ) × ((cells self.now).check slot ≡ pos c) }
+
+        //= `owner` returns the owner of a slot.
         ensures { (cells self.now).check slot ≡ pos result }
     {
         self.places.slots.nodes.at(slot).check as usize
@@ -76,6 +78,8 @@ impl<L: Layout, const SLOTS: usize, A: Allocator> Table<L, SLOTS, A> {
     pub fn is_owned_by(&self, slot: usize, owner: usize) -> bool
         requires slot_in { slot < size_of (fields self.now) }
         requires owner_in { owner < size_of (fields self.now) }
+
+        //= `is_owned_by` returns whether a slot belongs to this owner.
         ensures { IsTrue result ↔ ((cells self.now).check slot ≡ pos owner) }
     {
         self.places.slots.nodes.at(slot).check == owner as i32
@@ -85,6 +89,8 @@ impl<L: Layout, const SLOTS: usize, A: Allocator> Table<L, SLOTS, A> {
     pub fn is_free_slot(&self, slot: usize) -> bool
         requires slot_in { slot < size_of (fields self.now) }
         requires not_root { slot ≢ 0 }
+
+        //= `is_free_slot` returns whether a slot isn't held.
         ensures { IsTrue result ↔ (Held (cells self.now) slot → ⊥) }
     {
         self.places.slots.nodes.at(slot).check < 0
@@ -96,6 +102,8 @@ impl<L: Layout, const SLOTS: usize, A: Allocator> Table<L, SLOTS, A> {
         requires node_in { node < size_of (fields self.now) }
         requires not_root { node ≢ 0 }
         requires node { IsNode (size_of (fields self.now)) (cells self.now) node }
+
+        //= `has_number_slot` returns whether a node owns its slot for label 0.
         ensures { IsTrue result ↔ ((cells self.now).check (below (cells self.now) node 0) ≡ pos node) }
     {
         if self.child(node) != 0 {
@@ -109,6 +117,8 @@ impl<L: Layout, const SLOTS: usize, A: Allocator> Table<L, SLOTS, A> {
         requires node_in { node < size_of (fields self.now) }
         requires not_root { node ≢ 0 }
         requires node { IsNode (size_of (fields self.now)) (cells self.now) node }
+
+        //= `first_label` returns the first label of a node's chain, or 0.
         ensures { (h : Head) (ls : List ℕ) → Family (size_of (fields self.now)) (cells self.now) node h ls → Links (cells self.now) node result ls }
     {
         if self.has_number_slot(node) {
@@ -124,6 +134,9 @@ impl<L: Layout, const SLOTS: usize, A: Allocator> Table<L, SLOTS, A> {
         requires node_in { node < size_of (fields self.now) }
         requires not_root { node ≢ 0 }
         requires node { IsNode (size_of (fields self.now)) (cells self.now) node }
+
+        //= `labels_of` returns the labels under which a node owns slots, 0 for its number first; `None` if they are more than it may
+        //  return.
         ensures { (h : Head) (ls : List ℕ) → Family (size_of (fields self.now)) (cells self.now) node h ls → MatchOption result (MOST < length (owned_slots h ls)) (λ labels. labels.items ≡ owned_slots h ls) }
     {
         let mut labels = number_label(self, node);
@@ -144,6 +157,8 @@ impl<L: Layout, const SLOTS: usize, A: Allocator> Table<L, SLOTS, A> {
         requires node_in { node < size_of (fields self.now) }
         requires not_root { node ≢ 0 }
         requires node { IsNode (size_of (fields self.now)) (cells self.now) node }
+
+        //= `all_labels_of` returns all of them.
         ensures { (h : Head) (ls : List ℕ) → Family (size_of (fields self.now)) (cells self.now) node h ls → result.items ≡ owned_slots h ls }
     {
         match self.labels_of(node) {
@@ -155,6 +170,8 @@ impl<L: Layout, const SLOTS: usize, A: Allocator> Table<L, SLOTS, A> {
     /// Returns the slot of a key's node, if there is one.
     pub fn node_of(&self, key: &[u8]) -> Option<usize>
         requires { IsWellFormed SLOTS (fields self.now) }
+
+        //= `node_of` returns the slot of a path's node. If it returns `None`, the tree has no number there, and nothing below.
         ensures { MatchOption result ((number_at (tree_of (fields self.now)) key.now ≡ None) × (node_at (tree_of (fields self.now)) key.now ≡ empty_tree)) (λ s. (s < size_of (fields self.now)) × HasPath (tree_of (fields self.now)) key.now × IsAt (cells self.now) key.now s) }
     {
         let mut node = 0;
@@ -176,6 +193,8 @@ impl<L: Layout, const SLOTS: usize, A: Allocator> Table<L, SLOTS, A> {
         requires slot_held { Held (cells self.old) slot }
         requires owner_in { owner < 2 ^ 31 }
         ensures sound { IsTable SLOTS (fields self.new).places }
+
+        //= `set_check` makes a slot belong to an owner, and changes nothing else.
         ensures at { ChecksAt (cells self.old) (cells self.new) slot owner }
         ensures frame { SameFrame (fields self.old) (fields self.new) }
     {
@@ -194,6 +213,8 @@ impl<L: Layout, const SLOTS: usize, A: Allocator> Table<L, SLOTS, A> {
         requires node_held { Held (cells self.old) node }
         requires not_root { node ≢ 0 }
         ensures sound { IsTable SLOTS (fields self.new).places }
+
+        //= `set_base` sets where the slots of a node begin, and changes nothing else.
         ensures rebased { Rebased (cells self.old) (cells self.new) node base }
         ensures frame { SameFrame (fields self.old) (fields self.new) }
     {
@@ -214,6 +235,9 @@ impl<L: Layout, const SLOTS: usize, A: Allocator> Table<L, SLOTS, A> {
         requires layout { (fields self.old).layout ≡ reduced_layout }
         requires value { is_value value ≡ true }
         ensures sound { IsTable SLOTS (fields self.new).places }
+
+        //= `set_own_number` sets a number in the base field of a node that owns no slot, and changes nothing else: the tree has that number
+        //  there then. [with tree]
         ensures set { FieldSet (cells self.old) (cells self.new) node (OwnNumber value) }
         ensures tree { (f : Forest) (w : List ℕ) → TableHolds (fields self.old) f → IsAt (cells self.old) w node
             → TableHolds (fields self.new) (edit_at w (λ _. Some value) (λ u. u) f) }

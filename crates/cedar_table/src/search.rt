@@ -30,6 +30,8 @@ impl<L: Layout, const SLOTS: usize, A: Allocator> Table<L, SLOTS, A> {
         //  comparison at most. [with cost; also number]
         ensures answer { (t : Tree) → Stands (size_of (fields self.now)) (cells self.now) node t → MatchOption result (has_label t.children label ≡ false) (λ s. (s < size_of (fields self.now)) × Stands (size_of (fields self.now)) (cells self.now) s (subtree t.children label)) }
         ensures cost { ticks.new ≤ ticks.old + 1 }
+
+        //= A step of `follow` to a child counts exactly one comparison.
         ensures found { OnSome result (ticks.new ≡ ticks.old + 1) }
     {
         if label == 0 {
@@ -52,6 +54,8 @@ impl<L: Layout, const SLOTS: usize, A: Allocator> Table<L, SLOTS, A> {
         requires node { (t : Tree) × Stands (size_of (fields self.now)) (cells self.now) node t }
         ensures answer { (t : Tree) → Stands (size_of (fields self.now)) (cells self.now) node t → result ≡ t.number }
         ensures cost { ticks.new ≤ ticks.old + 1 }
+
+        //= `number` never lowers the count of comparisons.
         ensures grows { ticks.old ≤ ticks.new }
     {
         match self.stored_at_node(node) {
@@ -73,6 +77,8 @@ impl<L: Layout, const SLOTS: usize, A: Allocator> Table<L, SLOTS, A> {
     pub fn number_of(&self, node: usize) -> Option<i32>
         requires node_in { node < size_of (fields self.now) }
         requires node { (t : Tree) × Stands (size_of (fields self.now)) (cells self.now) node t }
+
+        //= `number_of` returns a node's number.
         ensures { (t : Tree) → Stands (size_of (fields self.now)) (cells self.now) node t → result ≡ t.number }
     {
         if self.child(node) != 0 {

@@ -32,13 +32,15 @@ impl<L: Layout, const SLOTS: usize, A: Allocator> Table<L, SLOTS, A> {
         requires tried { pos 1 ≤ℤ max_trial }
         requires limit { IsSlotLimit SLOTS }
 
-        //= A new table is well-formed and stands for the empty tree; only the root is held. [with tree, bare]
+        //= A new table is well-formed and stands for the empty tree; only the root is held. [with tree, sound, bare]
         ensures well_formed { IfOk result (λ table. IsWellFormed SLOTS (fields table)) }
         ensures tree { IfOk result (λ table. tree_of (fields table) ≡ empty_tree) }
         ensures sound { IfOk result (λ table. IsTable SLOTS (fields table).places) }
 
         //= Its settings are those asked for, and it has no entries. [with ordered, entries]
         ensures made { IfOk result (λ table. IsNewPlaces (fields table).places max_trial) }
+
+        //= The root has the check -1 and the base 0. [with root_base]
         ensures root_check { IfOk result (λ table. (cells table).check 0 ≡ negsuc 0) }
         ensures root_base { IfOk result (λ table. (cells table).stored 0 ≡ Stored.AtBase 0) }
         ensures ordered { IfOk result (λ table. (fields table).ordered ≡ ordered) }
@@ -74,16 +76,21 @@ impl<L: Layout, const SLOTS: usize, A: Allocator> Table<L, SLOTS, A> {
         requires slot_in { slot < size_of (fields self.old) }
         requires slot_free { Held (cells self.old) slot → ⊥ }
         requires owner_in { owner < 2 ^ 31 }
+
+        //= Calls that write to a table keep `IsTable`. [also claim, push_e_node, write_node, write_info, add_block, find_place,
+        //  find_places, set_sibling, set_child, set_check]
         ensures sound { IsTable SLOTS (fields self.new).places }
 
         //= `pop_e_node`, `push_e_node`, `write_node` and `write_info` take, give back or write the one slot that is named; nothing else
         //  that is held changes. [also push_e_node.gives, write_node.written, write_info.written]
         ensures takes { Takes (cells self.old) (cells self.new) slot owner }
+
+        //= The slot's base field is the one that is given, and says what the layout reads in it. [with stored; also claim]
         ensures base { (cells self.new).base slot ≡ base }
         ensures stored { (cells self.new).stored slot ≡ reading L.kind base }
 
         //= Calls that make no block keep the number of slots in use, the number of slots, the order, the entries and `max_trial`. [also
-        //  push_e_node, write_node, write_info; by SameFrame]
+        //  claim, push_e_node, write_node, write_info, set_sibling, set_child, link, set_check, set_base, set_own_number; by SameFrame]
         ensures frame { SameFrame (fields self.old) (fields self.new) }
     {
         let node = NodeRecord {
@@ -97,6 +104,8 @@ impl<L: Layout, const SLOTS: usize, A: Allocator> Table<L, SLOTS, A> {
     pub fn claim(&mut self, slot: usize, base: i32, owner: usize)
         requires { MayClaim SLOTS (fields self.old) slot owner }
         ensures sound { IsTable SLOTS (fields self.new).places }
+
+        //= `claim` takes a held slot that is no part of the tree, as `pop_e_node` takes a free one; nothing else that is held changes.
         ensures takes { Takes (cells_without (cells self.old) slot) (cells self.new) slot owner }
         ensures base { (cells self.new).base slot ≡ base }
         ensures stored { (cells self.new).stored slot ≡ reading L.kind base }
@@ -161,6 +170,8 @@ impl<L: Layout, const SLOTS: usize, A: Allocator> Table<L, SLOTS, A> {
         ensures refused { IfErr result (λ error. MayRefuse (fields self.old).places SLOTS error) }
         ensures held { SameHeld (cells self.old) (cells self.new) }
         ensures settings { SameSettings (fields self.old) (fields self.new) }
+
+        //= After a refusal of `add_block` or `find_place` the table is as it was, field by field. [also find_place]
         ensures unchanged { OnErr result (fields self.new ≡ fields self.old) }
     {
         self.places.add_block(SLOTS)
@@ -192,6 +203,8 @@ impl<L: Layout, const SLOTS: usize, A: Allocator> Table<L, SLOTS, A> {
         ensures refused { IfErr result (λ error. MayRefuse (fields self.old).places SLOTS error) }
         ensures held { SameHeld (cells self.old) (cells self.new) }
         ensures settings { SameSettings (fields self.old) (fields self.new) }
+
+        //= After a refusal of `find_places` or `place_for` all slots are as they were. [also place_for.unchanged]
         ensures same { OnErr result (SameSlots (fields self.old).places (fields self.new).places) }
     {
         self.places.find_places(labels, SLOTS)
@@ -208,11 +221,18 @@ impl<L: Layout, const SLOTS: usize, A: Allocator> Table<L, SLOTS, A> {
         //= The steps by which a table is written from outside keep `IsTable`: a base for some labels, a node's base, a label's place in a
         //  chain, a number in a node's own base field. [also set_base, link, set_own_number]
         ensures sound { IsTable SLOTS (fields self.new).places }
+
+        //= `place_for` returns a base from which the slot of each label is free and outside block 0.
         ensures found { IfOk result (λ base. HasPlaces (size_of (fields self.new)) (cells self.new) base labels.now) }
+
+        //= It fails as `add_block` does, makes one block at most, and changes nothing that is held, and no setting. [with held, blocks,
+        //  settings]
         ensures refused { IfErr result (λ error. MayRefuse (fields self.old).places SLOTS error) }
         ensures held { SameHeld (cells self.old) (cells self.new) }
         ensures blocks { (n : ℕ) × (n ≤ 1) × MakesBlocks n (fields self.old) (fields self.new) }
         ensures unchanged { OnErr result (SameSlots (fields self.old).places (fields self.new).places) }
+
+        //= A single label is never refused and needs no block, unless no slot outside block 0 is free.
         ensures single { length labels.now ≡ 1 → (OnErr result ⊥ × MakesBlocks 0 (fields self.old) (fields self.new)) ⊎ NoPlace (size_of (fields self.old)) (cells self.old) }
         ensures settings { SameSettings (fields self.old) (fields self.new) }
     {
@@ -335,6 +355,8 @@ impl<L: Layout, const SLOTS: usize, A: Allocator> Table<L, SLOTS, A> {
     /// Returns what the base field of a node says.
     pub fn stored_at(&self, node: usize) -> Stored
         requires { node < size_of (fields self.now) }
+
+        //= `stored_at` and `stored_at_node` return what a node's base field says. [also stored_at_node]
         ensures { result ≡ (cells self.now).stored node }
     {
         L::read_base(self.base(node))
@@ -343,6 +365,8 @@ impl<L: Layout, const SLOTS: usize, A: Allocator> Table<L, SLOTS, A> {
     /// Returns the check field of a slot in use. The read is counted.
     pub fn check<C: Ledger>(&self, slot: usize, ticks: &mut Ticks<C>) -> i32
         requires { slot < size_of (fields self.now) }
+
+        //= `check` returns a slot's check field, and counts one read. [with cell, counted]
         ensures field { result ≡ check_at (fields self.now).places.slots.nodes slot }
         ensures cell { slot < size_of (fields self.now) → result ≡ (cells self.now).check slot }
         ensures counted { ticks.new ≡ ticks.old + 1 }
@@ -354,6 +378,8 @@ impl<L: Layout, const SLOTS: usize, A: Allocator> Table<L, SLOTS, A> {
     /// Returns whether a slot in use is held: it is the root, or its check field names an owner. The read is counted.
     pub fn is_held<C: Ledger>(&self, slot: usize, ticks: &mut Ticks<C>) -> bool
         requires { slot < size_of (fields self.now) }
+
+        //= `is_held` returns whether a slot is held, and counts one read. [with counted]
         ensures held { IsTrue result ↔ Held (cells self.now) slot }
         ensures counted { ticks.new ≡ ticks.old + 1 }
     {

@@ -50,6 +50,7 @@ impl PendingSiblings {
     /// Makes an empty list of siblings.
     #[inline(always)]
     pub fn new() -> Self
+        //= A new list of pending siblings is empty.
         ensures { result ≡ [] }
     {
         let blank = PendingSibling {
@@ -98,6 +99,7 @@ impl PendingSiblings {
 }
 
 impl Clone for PendingSiblings {
+    //= A clone of pending siblings is equal, and never fails. [with is_infallible]
     ghost is_clone = { λ siblings copy. copy ≡ siblings };
 
     ghost is_infallible = { λ _. ⊤ };

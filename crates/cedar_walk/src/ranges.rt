@@ -41,6 +41,8 @@ pub fn write_path<L: Layout, const SLOTS: usize, A: Allocator>(
     requires well_formed { IsWellFormed SLOTS (fields table.now) }
     requires below { (start : List ℕ) × IsBelow (cells table.now) start depth node }
     requires room { depth ≤ length key.old }
+
+    //= `write_path` writes the path to a node over the last bytes of a key, and changes none in front of them.
     ensures { key.new ≡ take (length key.old - depth) key.old ++ path_to (fields table.now) depth node }
 {
     let front = key.len() - depth;
@@ -126,6 +128,8 @@ pub fn first_since<L: Layout, const SLOTS: usize, A: Allocator>(
 ) -> Option<Numbered>
     requires well_formed { IsWellFormed SLOTS (fields table.now) }
     requires ordered { (fields table.now).ordered ≡ true }
+
+    //= `first_since` finds the first entry at a key or after it by bytes, and returns `None` if there is none.
     ensures { ComesToFirst (fields table.now) [] (entries_since (tree_of (fields table.now)) key.now) result }
 {
     if key.is_empty() {

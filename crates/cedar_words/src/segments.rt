@@ -124,6 +124,7 @@ impl<'a, T: LongestPrefix> Iterator for Segments<'a, T> {
     }
 
     fn size_hint(&self) -> (usize, Option<usize>)
+        //= How many tokens are left is within the size hint. [with upper]
         ensures lower { IsWithinCount result.0 (item_count (λ (rest : List Token). rest) self.now) }
         ensures upper { IfSome result.1 (UpTo (item_count (λ (rest : List Token). rest) self.now)) }
 

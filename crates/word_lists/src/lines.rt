@@ -36,6 +36,7 @@ pub enum StoreError {
 }
 
 impl From<AllocError> for StoreError {
+    //= A failed allocation becomes `Memory`.
     ghost from_gives = { λ _ e. e ≡ Memory };
 
     fn from(_: AllocError) -> StoreError {
@@ -50,6 +51,7 @@ pub trait LineFaults {
 
     /// Hears of a line: its number, counted from 1, its bytes without those that end it, and what is wrong with it.
     fn tell(&mut self, number: u64, line: &[u8], fault: LineFault)
+        //= What a reporter was told, if it says so, has one line more then: its number, its bytes and its fault. [by Adds]
         ensures { Adds (told self.old) (told self.new) ((number, line.now, fault) ∷ []) };
 }
 

@@ -34,8 +34,8 @@ impl<L: Layout, const SLOTS: usize, A: Allocator + Copy> Trie<L, SLOTS, A> {
     /// `Io` if a call on a file failed, if the new one's path would have more than 4095 bytes, or if all its hundred names are taken;
     /// `AllocationFailed` with 8192 if there is no memory for the buffer, which is allocated once the new file is made.
     pub fn save_to_path<F: Files>(&self, files: &F, path: &str) -> Result<(), CedarPersistenceError>
-        //= A save to a path fails only with `Io`, or with `AllocationFailed` of the 8192 bytes of its buffer. [also save_v1_0_to_path; by
-        //  FailsToWrite]
+        //= A save to a path fails only with `Io`, or with `AllocationFailed` of the 8192 bytes of its buffer. [also
+        //  save_v1_0_to_path, save_to_path_noted, save_v1_0_to_path_noted; by FailsToWrite]
         ensures err { IfErr result FailsToWrite }
 
         // What was done at the path this result can't name: that of `save_to_path_noted` does.

@@ -30,7 +30,8 @@ impl<L: Layout, const SLOTS: usize, A: Allocator + Copy> Trie<L, SLOTS, A> {
         ensures bytes { OnOk result (Appends (W.contents (device_of writer.old)) (W.contents (device_of writer.new)) (table_bytes 1 self.now.table)) }
 
         //= The bytes that a save writes are the file of a well-formed table, which passes all steps of a load except those on memory, under
-        //  a limit of at least its need. [with passes; also save_v1_0_to_writer, save_to_path, save_v1_0_to_path]
+        //  a limit of at least its need. [with passes; also save_v1_0_to_writer, save_to_path, save_v1_0_to_path,
+        //  save_to_path_noted, save_v1_0_to_path_noted]
         ensures file { OnOk result (IsTableFile 1 SLOTS self.now.table (table_bytes 1 self.now.table)) }
         ensures passes { OnOk result (PassesAgain L.kind SLOTS 1 self.now.table) }
 

@@ -149,6 +149,8 @@ impl<'a, T: Walked, A: Allocator + Copy> Iterator for Entries<'a, T, A> {
     }
 
     fn size_hint(&self) -> (usize, Option<usize>)
+        //= How many items are left is within the size hint of each iteration. [with upper; also Utf8Entries::size_hint,
+        //  PrefixPredictIter::size_hint, PrefixIter::size_hint, RangeEntries::size_hint]
         ensures lower { IsWithinCount result.0 (item_count (λ (rest : List Entry). rest) self.now) }
         ensures upper { IfSome result.1 (UpTo (item_count (λ (rest : List Entry). rest) self.now)) }
         ensures hint { result ≡ (0, Some (length self.now)) }
