@@ -21,7 +21,7 @@ Pair = Bor (List ℕ) × ℤ
 abbrev pub entries_of : List Pair → List Entry
 entries_of pairs = map (λ p. (p.0.now, p.1)) pairs
 
--- the entries that pairs stand for, whose keys lend these bytes
+-- the entries that pairs represent, whose keys lend these bytes
 abbrev pub entries_by : {K : Type 0} → (K → List ℕ) → List (K × ℤ) → List Entry
 entries_by bytes pairs = map (λ p. (bytes p.0, p.1)) pairs
 

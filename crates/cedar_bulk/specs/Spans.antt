@@ -56,7 +56,7 @@ GoesOnAlike d es = IsDeeper d es × (run d (first_label d es) es ≡ length es)
 abbrev pub IsAlike : ℕ → List Entry → Type 0
 IsAlike d es = (length es ≡ 1) ⊎ GoesOnAlike d es
 
--- the entries are just what stands below a node with these children, d bytes deep
+-- the entries are just what is below a node with these children, d bytes deep
 pub record Lists (d : ℕ) (entries : List Entry) (f : Forest) : Type 0 where
   pub walks : walk_forest f ≡ entries_behind d entries
   pub sound : IsSoundBelow f

@@ -8,8 +8,8 @@ use cedar_slots::Shortage;
 use cedar_table::{Layout, Table};
 use std::alloc::Allocator;
 
-/// Gives a node below the root that has neither number nor label a base from which the slots of all labels are free, 0 standing
-/// for the number, and returns the base. All growth of a build from sorted pairs happens here.
+/// Gives a node below the root that has neither number nor label a base from which the slots of all labels are free, of which 0 means
+/// the number, and returns the base. All growth of a build from sorted pairs happens here.
 #[inline(always)]
 fn find_base<L: Layout, const SLOTS: usize, A: Allocator>(
     table: &mut Table<L, SLOTS, A>,
@@ -32,7 +32,7 @@ fn find_base<L: Layout, const SLOTS: usize, A: Allocator>(
     Ok(base)
 }
 
-/// Gives a node that has neither number nor label a base from which the slots of all labels are free, 0 standing for the
+/// Gives a node that has neither number nor label a base from which the slots of all labels are free, of which 0 means the
 /// number, and returns the base. The root keeps its base.
 #[inline(always)]
 fn give_base<L: Layout, const SLOTS: usize, A: Allocator>(

@@ -234,7 +234,7 @@ fn fill_sorted<L: Layout, const SLOTS: usize, A: Allocator, K: AsSlice<u8>>(
     Ok(())
 }
 
-/// Makes a table of some pairs of a key and its number, whose keys ascend by bytes, each below the next. It stands for their
+/// Makes a table of some pairs of a key and its number, whose keys ascend by bytes, each below the next. It represents their
 /// one tree with ascending labels, even if a new label would not go to its ascending place. Keys are bytes or texts. It makes
 /// at most one block for each distinct nonempty prefix of a key. At most 255 slots outside the first block are free, and 256 others
 /// for each node below the root that takes several slots.
@@ -254,7 +254,7 @@ pub fn build_sorted<L: Layout, const SLOTS: usize, A: Allocator + Copy, K: AsSli
     requires ascending { ArePathsAscending (entries_by K.items pairs.now) }
     requires values { AllByRecursion (λ e. is_value e.1 ≡ true) (entries_by K.items pairs.now) }
 
-    //= `build_sorted` of pairs whose keys, bytes or texts, ascend: the table is well-formed and stands for their one tree with ascending
+    //= `build_sorted` of pairs whose keys, bytes or texts, ascend: the table is well-formed and represents their one tree with ascending
     //  labels, whatever its order is. [with tree]
     ensures well_formed { IfOk result (λ table. IsWellFormed SLOTS (fields table)) }
     ensures tree { IfOk result (λ table. tree_of (fields table) ≡ asc (entries_by K.items pairs.now)) }

@@ -24,7 +24,7 @@ held_as true None h = absurd (let apart : false ≡ true = h.0 refl in cc)
 held_as false (Some x) h = absurd (let apart : false ≡ true = h.1 refl in cc)
 held_as false None h = refl
 
--- one key more is answered
+-- the result of one key more is written
 held_more : (s : State) (ks : List (List ℕ)) (k : List ℕ) → held_in_turn s (ks ++ k ∷ []) ≡ held_in_turn s ks ++ is_some (number_at (keys_erased s ks).tree k) ∷ []
 held_more s [] k = refl
 held_more s (x ∷ xs) k = ap (λ (bs : List Bool). is_some (number_at s.tree x) ∷ bs) (held_more (after_erase s x) xs k)
@@ -33,7 +33,7 @@ held_count : (s : State) (ks : List (List ℕ)) → length (held_in_turn s ks) �
 held_count s [] = refl
 held_count s (x ∷ xs) = ap (λ n. suc n) (held_count (after_erase s x) xs)
 
--- an answer more is written, if there is room for it
+-- one result more is written, if there is room for it
 written : (answers old : List Bool) (b : Bool)
     → set (take (length old) answers ++ drop (length answers) old) (length answers) b ≡ take (length old) (answers ++ b ∷ []) ++ drop (suc (length answers)) old
 written [] [] b = refl
@@ -60,7 +60,7 @@ module _ (s t : State) (keys : List Key) (i : ℕ) (inside : i < length keys) wh
       let k : List ℕ = (get_or keys i d).key.now in
       last ∙ ap (λ (x : State). after_erase x k) so_far ∙ sym (fold-append after_erase s ks (k ∷ [])) ∙ ap (keys_erased s) (sym (more d))
 
-  -- and told
+  -- and their results are written
   pub told_more : (d : Key) (old held after : List Bool) (b : Bool) → t ≡ keys_erased s (take i (named_keys keys)) → IsTrue b ↔ IsSome (number_at t.tree (get_or keys i d).key.now)
       → held ≡ take (length old) (held_in_turn s (take i (named_keys keys))) ++ drop i old → after ≡ set held i b
       → after ≡ take (length old) (held_in_turn s (take (i + 1) (named_keys keys))) ++ drop (i + 1) old

@@ -23,7 +23,7 @@ use Rattle.cedar_c.specs.Changes.{IsRecord}
 use Rattle.cedar_c.specs.Groups.{AddsChange, IsGroup, group_head}
 use Rattle.cedar_c.proofs.PlanLemmas.{PlansAppend, is_change}
 
--- ---- records that take all their bytes: what follows them is read as if it stood alone
+-- ---- records that take all their bytes: what follows them is read as if it were alone
 
 record_long : (bytes : List ℕ) → has_record bytes ≡ true → records_length (payloads_in bytes) ≡ 5 + length (payload bytes) + records_length (payloads_in (behind_record bytes))
 record_long bytes has = ap records_length (payloads_first bytes has)

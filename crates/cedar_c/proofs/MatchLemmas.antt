@@ -75,7 +75,7 @@ one_passed count passed left x later h is =
 pub nothing_left : (n : ℕ) (all : List (ℤ × ℕ)) → all ≡ [] → drop n all ≡ []
 nothing_left n all none = let short : length all ≤ n = omega (arith, ap length none) in drop_all n all short
 
--- and nothing is told
+-- and nothing is reported
 pub nothing_told : (ms : List Match) (n : ℕ) (all : List (ℤ × ℕ)) → all ≡ []
     → (◌≡◌ {A = ℕ} 0 (length (take (length ms) (drop n all)))) × (ms ≡ filled_matches ms (drop n all))
 nothing_told ms n all none =

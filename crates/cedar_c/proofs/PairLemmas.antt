@@ -65,7 +65,7 @@ module _ (slots : ℕ) (before after : Dictionary) (es : List Entry) where
   refused_shortage (Ok x) h = tt
   refused_shortage (Err e) h = h.shortage
 
--- a fault is answered, or want of memory for the list
+-- a fault is returned, or want of memory for the list
 pub fault_answered : {T : Type 0} (o : Option CedarError) (result : Result T CedarError) → IfSome o (λ e. result ≡ Err e)
     → IfSome o (λ e. (result ≡ Err e) ⊎ (result ≡ Err Memory))
 fault_answered None result h = tt

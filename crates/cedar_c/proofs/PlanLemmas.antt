@@ -1,4 +1,4 @@
--- What a plan makes of a file that stands for a dictionary.
+-- What a plan makes of a file that represents a dictionary.
 use Rattle.std.specs.Prelude.{ℤ, IfSome, OnOk, option_and_then, option_map, Option, Some, Result, Ok, Err}
 use Rattle.std.proofs.Common.{◌≡◌, ℕ, ◌+◌, ◌<◌, List, [], ◌∷◌, ◌++◌, length, refl, sym, ◌∙◌, ap, subst, arith}
 use Rattle.cedar_journal.specs.declared.format.Format.{Format}

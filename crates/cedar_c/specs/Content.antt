@@ -33,7 +33,7 @@ abbrev pub content_tree : Option AnyCedar → Tree
 content_tree None = empty_tree
 content_tree (Some a) = (dictionary_in a).state.tree
 
--- the tree that answers come from. A closed handle answers as one that holds no key
+-- the tree that results come from. A closed handle gives those of one that holds no key
 abbrev pub tree_in : Handle → Tree
 tree_in h = content_tree (content h)
 

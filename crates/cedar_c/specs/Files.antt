@@ -1,4 +1,4 @@
--- What a file's bytes are of, and the numbers that a refused one is answered by.
+-- What a file's bytes are of, and the numbers that are returned for a refused one.
 use Rattle.std.specs.Prelude.{◌≡◌, ◌⊎◌, ℕ, Bool, true, false, ◌==◌, List, [], ◌∷◌, slice_get, take, None, Option, Some}
 use Rattle.cedar_model.specs.Table.Layouts.{LayoutKind}
 use Rattle.cedar_model.specs.Table.TableFields.{Fields}
@@ -48,7 +48,7 @@ early_refusal layout slots limit bytes = first_refusal (header_refusal layout (t
 abbrev pub TellsHeader : Refusal → ℕ → Type 0
 TellsHeader r status = (status ≡ file_status r) ⊎ (status ≡ MEMORY)
 
--- just the number of a refusal is told
+-- just the number of a refusal is returned
 abbrev pub TellsJust : Refusal → ℕ → Type 0
 TellsJust r status = status ≡ file_status r
 

@@ -22,13 +22,13 @@ abbrev pub format_if : Bool → Format
 format_if false = Plain
 format_if true = Summed
 
--- after these calls the file is at rest, its records are of this format and end here, and it stands for this state of a dictionary
+-- after these calls the file is at rest, its records are of this format and end here, and it represents this state of a dictionary
 pub record IsKept (calls : List Call) (format : Format) (end : ℕ) (s : State) : Type 0 where
   pub rest : IsAtRest calls format end
   pub same : state_of (seen_after calls) ≡ Some s
 
--- Works that change the state which a file stands for whose records are of this format, and where they end. A crash at any moment, also where
--- one of them fails, leaves a file that stands for the one state or for the other.
+-- Works that change the state which a file represents whose records are of this format, and where they end. A crash at any moment, also
+-- where one of them fails, leaves a file that represents the one state or the other.
 pub record IsChangePlan (works : List Work) (format : Format) (from to : ℕ) (before after : State) : Type 0 where
   pub kept : (calls : List Call) → IsKept calls format from before → IsKept (all_done works calls) format to after
   pub any_moment : (calls later : List Call) → IsKept calls format from before → AreCarriedOut works calls later → CrashLeaves calls later (IsEither before after)
@@ -41,7 +41,7 @@ abbrev pub IsErasurePlan : List Work → Format → ℕ → ℕ → State → Li
 IsErasurePlan works format from to s key = IsChangePlan works format from to s (after_erase s key)
 
 -- Works that make a file of these bytes ready for changes, which was synced and then read: its records are of this format then, and end
--- here. A crash at any moment, also where one of them fails, leaves a file that stands for the same state.
+-- here. A crash at any moment, also where one of them fails, leaves a file that represents the same state.
 pub record IsOpening (bytes : List ℕ) (works : List Work) (format : Format) (end : ℕ) (s : State) : Type 0 where
   pub kept : IsKept (all_done works (open_call bytes ∷ [])) format end s
   pub any_moment : (later : List Call) → AreCarriedOut works (open_call bytes ∷ []) later → CrashLeaves (open_call bytes ∷ []) later (λ c. state_of c ≡ Some s)
@@ -54,13 +54,13 @@ store_status (error.Damaged at) = STORE_DAMAGED
 store_status (error.Refused e) = status_of e
 store_status _ = OTHER
 
--- where a damaged record begins, which an error tells; or what stood there
+-- where a damaged record begins, which an error writes; or what was written there before
 abbrev pub damage_of : ℕ → DurableError → ℕ
 damage_of found (error.Damaged at) = at
 damage_of found _ = found
 
--- The number says why a file of these bytes wasn't read as a dictionary, and what is told then is where a damaged record begins, or what was
--- found there.
+-- The number says why a file of these bytes wasn't read as a dictionary, and what is written then is where a damaged record begins, or what
+-- was found there.
 abbrev pub TellsWhy : List ℕ → ℕ → ℕ → ℕ → Type 0
 TellsWhy bytes found told status = (e : DurableError) × LoadCause bytes e × (status ≡ store_status e) × (told ≡ damage_of found e)
 

@@ -18,6 +18,6 @@ abbrev pub HoldsPart : Handle → Handle → List Entry → Type 0
 HoldsPart before after entries = (m : ℕ) × (m < length entries)
     × (state_in after ≡ option_map (λ s. all_stored s (take m entries)) (state_in before)) × (number_at (tree_in after) (path_at entries m) ≡ None)
 
--- nothing has changed, and this fault is told. `found` and `told` are the position before and after
+-- nothing has changed, and this fault is returned. `found` and `told` are the position before and after
 abbrev pub RefusesAll : Handle → Handle → ℕ → ℕ → ℕ → CedarError → Type 0
 RefusesAll before after found told status e = (content after ≡ content before) × TellsFault found told status e

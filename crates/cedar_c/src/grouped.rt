@@ -27,8 +27,8 @@ pub extern "C" fn cedar_plan_group(
     buffer: &mut [u8],
     plan: &mut Plan,
 ) -> u32
-    //= Once the plan of a group is carried out, a file that stood for some dictionary stands for the one with all changes of the group, in
-    //  their order, on the disk. A crash at any moment, even if a step fails, leaves the one or the other. [by IsGroup, IsChangePlan]
+    //= Once the plan of a group is carried out, a file that represented some dictionary represents the one with all changes of the group,
+    //  in their order, on the disk. A crash at any moment, even if a step fails, leaves the one or the other. [by IsGroup, IsChangePlan]
     ensures planned { result ≡ OK → IsGroup (works_of buffer.new plan.new) (format_if is_summed) end.old end.new
         (take size (drop (group_head (format_if is_summed)) buffer.old)) }
 

@@ -17,9 +17,9 @@ use cedar_store::{DurableError, words_of};
 use cedarwood::CedarError;
 use std::alloc::Global;
 
-/// Opens a handle with the dictionary that a file's bytes stand for. If the handle is open, the new one replaces the old one. The file was
-/// synced, and then read. It writes the plan by which the file is made ready, whose bytes it writes into the first places of a buffer, where
-/// the records end then, and whether they have sums. The plan of a file that is at rest has no step.
+/// Opens a handle with the dictionary that a file's bytes represent. If the handle is open, the new one replaces the old one. The file was
+/// synced, and then read. It writes the plan by which the file is made ready, whose bytes it writes into the first places of a buffer,
+/// where the records end then, and whether they have sums. The plan of a file that is at rest has no step.
 ///
 /// # Errors
 /// `NO_ROOM` if the buffer has fewer than 14 places, `STORE_FOREIGN` if the file is of another kind, `STORE_CORRUPT` if one of its records
@@ -37,12 +37,12 @@ pub extern "C" fn cedar_plan_open(
     buffer: &mut [u8],
     plan: &mut Plan,
 ) -> u32
-    //= A store that is opened has the dictionary that the file's bytes stand for, of the layout that was given. [with layout]
+    //= A store that is opened has the dictionary that the file's bytes represent, of the layout that was given. [with layout]
     ensures stands { result ≡ OK → (state_of bytes.now ≡ state_in handle.new) × IsSome (content handle.new) }
     ensures layout { result ≡ OK → layout_in handle.new ≡ Some (layout_if is_reduced) }
 
-    //= Once the plan of an opening is carried out, the file is at rest, on the disk, and stands for that dictionary. A crash at any moment,
-    //  even if a step fails, leaves a file that stands for it. [by IsOpening]
+    //= Once the plan of an opening is carried out, the file is at rest, on the disk, and represents that dictionary. A crash at any moment,
+    //  even if a step fails, leaves a file that represents it. [by IsOpening]
     ensures ready { result ≡ OK → IfSome (state_in handle.new) (IsOpening bytes.now (works_of buffer.new plan.new) (format_if is_summed.new) end.new) }
 
     //= A file is refused by its number as foreign, corrupt or damaged exactly as by a store, with the place of the damage, or for lack of
@@ -116,8 +116,8 @@ pub extern "C" fn cedar_plan_put(
     ensures untold { (result ≡ OK) ⊎ ((held.new ≡ held.old) × (before.new ≡ before.old) × (end.new ≡ end.old) × (plan.new ≡ plan.old)) }
     ensures layout { layout_in handle.new ≡ layout_in handle.old }
 
-    //= Once the plan of a put is carried out, a file that stood for the dictionary from before it stands for the one with it, on the disk.
-    //  A crash at any moment, even if a step fails, leaves the one or the other. [by IsChangePlan]
+    //= Once the plan of a put is carried out, a file that represented the dictionary from before it represents the one with it, on the
+    //  disk. A crash at any moment, even if a step fails, leaves the one or the other. [by IsChangePlan]
     ensures planned { result ≡ OK → IfSome (state_in handle.old) (λ s. IsChangePlan (works_of buffer.new plan.new) (format_if is_summed) end.old end.new s (after_put s key.now value)) }
 
     //= What a put without a sum that returns `OK` has written is the record of its change, which may follow those of a group without its
@@ -174,8 +174,8 @@ pub extern "C" fn cedar_plan_erase(
     ensures untold { (result ≡ OK) ⊎ ((held.new ≡ held.old) × (end.new ≡ end.old) × (plan.new ≡ plan.old)) }
     ensures layout { layout_in handle.new ≡ layout_in handle.old }
 
-    //= Once the plan of an erasure is carried out, a file that stood for the dictionary from before it stands for the one without the key,
-    //  on the disk. A crash at any moment, even if a step fails, leaves the one or the other. [by IsChangePlan]
+    //= Once the plan of an erasure is carried out, a file that represented the dictionary from before it represents the one without the
+    //  key, on the disk. A crash at any moment, even if a step fails, leaves the one or the other. [by IsChangePlan]
     ensures planned { result ≡ OK → IsTrue held.new
         → IfSome (state_in handle.old) (λ s. IsChangePlan (works_of buffer.new plan.new) (format_if is_summed) end.old end.new s (after_erase s key.now)) }
 
@@ -233,7 +233,7 @@ fn has_sums(extent: Extent) -> bool
     }
 }
 
-/// The dictionary that a file's bytes stand for, on the heap, and how far the file goes.
+/// The dictionary that a file's bytes represent, on the heap, and how far the file goes.
 fn replay_on_heap(
     alloc: Global,
     is_reduced: bool,
@@ -254,7 +254,7 @@ fn replay_on_heap(
 }
 
 impl AnyCedar {
-    /// The dictionary that a file's bytes stand for, and how far the file goes.
+    /// The dictionary that a file's bytes represent, and how far the file goes.
     #[tactic(auto, using(cedarwood::proofs::DictionaryLemmas::default_limit))]
     fn replay_file(
         alloc: Global,

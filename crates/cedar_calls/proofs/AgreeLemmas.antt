@@ -139,7 +139,7 @@ loaded_states : Result Dictionary CedarPersistenceError → List State
 loaded_states (Ok d) = d.state ∷ []
 loaded_states (Err e) = []
 
--- both are answered the same, and both make the same state or none
+-- both get the same results, and both make the same state or none
 LoadsAlike : Result Dictionary CedarPersistenceError → Result Dictionary CedarPersistenceError → Type 0
 LoadsAlike one two = (plain_load one ≡ plain_load two) × (loaded_states one ≡ loaded_states two)
 
@@ -191,7 +191,7 @@ loads_alike : (kind : LayoutKind) (slots limit : ℕ) (bytes : List ℕ) (one tw
 loads_alike kind slots limit bytes one two h g met also =
     told_alike slots bytes (header_answer (layout_byte kind) slots limit bytes) one two (told kind slots limit bytes one h.0 met) (told kind slots limit bytes two g.0 also) h.1 g.1
 
--- what was loaded stands behind the others
+-- what was loaded comes after the others
 load_joins : (before after : List Dictionary) (made : Result Dictionary CedarPersistenceError) (r : Result (Unit {0}) CedarPersistenceError) → Joins before made r after
     → (plain_load r ≡ plain_load made) × (states_of after ≡ states_of before ++ loaded_states made)
 unfolding loaded_states

@@ -8,7 +8,7 @@ use Rattle.cedarwood.specs.Dictionary.{Dictionary}
 use Rattle.cedarwood.specs.declared.error.CedarError.TheVariants.{Memory}
 use Rattle.cedar_calls.specs.Changes.{IsErasedBatch}
 
--- where there are as many places as results, nothing but these stands in them
+-- where there are as many places as results, nothing but these is in them
 pub each_filled : {Y : Type 0} (n : ℕ) (before after held results : List Y) → length before ≡ n → length held ≡ n → length results ≡ n
     → after ≡ results ++ drop n before → (after ≡ results) × (take n (after ++ drop (length after) held) ≡ results)
 each_filled n before after held results room size count h =
@@ -22,7 +22,7 @@ each_filled n before after held results room size count h =
 pub all_asked : {X : Type 0} (keys : List X) (n m : ℕ) → length keys ≡ n → m ≡ n → take m keys ≡ keys
 all_asked keys n m count room = ap (λ k. take k keys) (room ∙ sym count) ∙ take-length keys
 
--- where there are as many places as keys, nothing but the answers stands in them
+-- where there are as many places as keys, nothing but the answers is in them
 pub all_filled : {X Y : Type 0} (f : X → Y) (keys : List X) (n : ℕ) (before after held : List Y) → length keys ≡ n → length before ≡ n → length held ≡ n
     → after ≡ map f (take (length before) keys) ++ drop n before → take n (after ++ drop (length after) held) ≡ map f keys
 all_filled f keys n before after held count room size h =

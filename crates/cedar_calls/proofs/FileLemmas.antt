@@ -24,7 +24,7 @@ some_is x y h = cc
 abbrev state_on : Fields → State
 state_on T = record { tree = tree_of T; ordered = T.ordered }
 
--- two dictionaries that stand on the table of the same bytes have one state
+-- two dictionaries that are kept in the table of the same bytes have one state
 same_state : (slots v w : ℕ) (d e : Dictionary) (bytes : List ℕ) → IsOnTable slots d → IsTableFile v slots d.table bytes → IsOnTable slots e → IsTableFile w slots e.table bytes → e.state ≡ d.state
 same_state slots v w d e bytes on file also loaded =
     let same = one_formed_table slots v w d.table e.table file.formed loaded.formed file.fits loaded.fits (sym file.spelled ∙ loaded.spelled) in

@@ -77,7 +77,7 @@ module _ (key : List ℕ) where
 
   -- ---- a further dictionary
 
-  -- it stands behind the others with what it holds, if it was made
+  -- it comes after the others with what it holds, if it was made
   joined_goes : {E : Type 0} (before after : List Dictionary) (made : Result Dictionary E) (r : Result (Unit {0}) E) (number : Option ℤ) → Joins before made r after
       → IfOk made (λ d. number_in d ≡ number) → numbers_at key after ≡ if_made r (numbers_at key before ++ number ∷ []) (numbers_at key before)
   joined_goes before after (Ok d) r number j same =

@@ -1,4 +1,4 @@
--- What stands at an index of a list, and what is left without it.
+-- What is at an index of a list, and what is left without it.
 use Rattle.std.proofs.Common.{◌≡◌, ℕ, zero, suc, ◌<◌, ◌≤◌, List, [], ◌∷◌, length, map, Some, None, ap, refl, arith, slice_index_or}
 use Rattle.std.specs.List.{remove, slice_get}
 use Rattle.std.proofs.lemmas.Option.{slice_get_read}

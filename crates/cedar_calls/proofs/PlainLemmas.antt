@@ -94,7 +94,7 @@ error_in without (Err e) = e
 abbrev AreFaultless : List Entry → Type 0
 AreFaultless es = AllByRecursion (λ (e : Entry). fault e.0 e.1 ≡ None) es
 
--- an update that was accepted has no fault, and one that was refused, though not for memory or slots, has the fault that is told
+-- an update that was accepted has no fault, and one that was refused, though not for memory or slots, has the fault that is returned
 module _ (layout : LayoutKind) (slots : ℕ) (d d' : Dictionary) (key : List ℕ) (v : ℤ) where
   accepted : (f : Option CedarError) → fault key v ≡ f → IsUpdate layout slots d d' key v (Ok tt) → f ≡ None
   accepted None same h = refl

@@ -71,9 +71,9 @@ AreSameCalls [] [] = Unit {0}
 AreSameCalls (c ∷ calls) (d ∷ others) = IsSameCall c d × AreSameCalls calls others
 AreSameCalls calls others = ⊥
 
--- Runs agree: two runs of the same calls from the same states, none of them refused for memory or slots, are answered the same, and leave the
--- same states, whatever `max_trial` is and whatever the tables are. Where a load is among the calls, layout and limit of slots are the same, since
--- a file is of one layout
+-- Runs agree: two runs of the same calls from the same states, none of them refused for memory or slots, get the same answers, and leave
+-- the same states, whatever `max_trial` is and whatever the tables are. Where a load is among the calls, layout and limit of slots are the
+-- same, since a file is of one layout
 abbrev pub RunsAgree : {A B : Type 0} → List Call → List (Answer A) → List Call → List (Answer B) → Type 0
 RunsAgree calls answers others replies =
     (by_default : Bool) (layout other : LayoutKind) (slots most : ℕ) (before after start end : List Dictionary)

@@ -1,4 +1,4 @@
--- What a change of a dictionary answers, and the dictionary after it.
+-- What a change of a dictionary returns, and the dictionary after it.
 use Rattle.std.specs.Prelude.{◌≡◌, ℕ, ℤ, ◌+◌, ◌-◌, ◌*◌, ◌<◌, ◌≤◌, Bool, List, length, IfErr, IfOk, IfSome, IsOk, IsSome, IsTrue, ◌↔◌, None, OnErr, OnOk, Option, Result, Err, take, Vec}
 use Rattle.cedar_tree.specs.Tree.{number_at}
 use Rattle.cedar_tree.specs.Queries.{Entry}
@@ -29,7 +29,7 @@ pub record IsErased (before after : Dictionary) (key : List ℕ) : Type 0 where
   pub size : (after.size ≡ before.size) × (after.capacity ≡ before.capacity)
   pub max_trial : after.max_trial ≡ before.max_trial
 
--- a key was found, if it was held, and removed there: what it held is told
+-- a key was found, if it was held, and removed there: what it held is returned
 pub record IsErasedFound (before after : Dictionary) (key : List ℕ) (value : Option ℤ) : Type 0 where
   pub told : value ≡ number_at before.state.tree key
   pub erased : IsErased before after key
@@ -75,7 +75,7 @@ pub record IsReserved (slots n : ℕ) (before after : Dictionary) (result : Resu
   pub refused : IfErr result (LacksRoom slots before n)
   pub unchanged : OnErr result (after ≡ before)
 
--- what a change may answer of a dictionary of this layout that may have so many slots, and the dictionary after it
+-- what a change may return of a dictionary of this layout that may have so many slots, and the dictionary after it
 abbrev pub IsChange : {A : Type 0} → LayoutKind → ℕ → Dictionary → Change → Changed A → Dictionary → Type 0
 IsChange layout slots before (change.Update key v) (changed.Updated result) after = IsUpdate layout slots before after key.now v result
 IsChange layout slots before (change.Insert key v) (changed.Inserted result) after =

@@ -15,7 +15,7 @@ abbrev pub bytes_saved : {A : Type 0} → Reply A → Option (List ℕ)
 bytes_saved (reply.Saved (Ok file)) = Some file.items
 bytes_saved _ = None
 
--- What was saved of a dictionary loads as one with its tree and order, whenever that is, if the load answers `Ok`
+-- What was saved of a dictionary loads as one with its tree and order, whenever that is, if the load returns `Ok`
 abbrev pub SavesLoadAgain : {A : Type 0} → Reply A → Type 0
 SavesLoadAgain {A} r =
     (layout : LayoutKind) (slots limit : ℕ) (before kept middle after : List Dictionary) (index : ℕ) (d : Dictionary) (q : Question) (bytes : Bor (List ℕ))

@@ -65,7 +65,7 @@ abbrev pub if_made : {E X Y : Type 0} → Result X E → Y → Y → Y
 if_made (Ok x) made before = made
 if_made (Err e) made before = before
 
--- what a key holds after a change that was answered so: nothing of it but of this key is read. Of a build that was refused for memory or slots
+-- what a key holds after a change with this result: nothing of it but of this key is read. Of a build that was refused for memory or slots
 -- some first pairs count, and of one with a fault none
 abbrev pub IsHeldAfter : {A : Type 0} → List ℕ → Option ℤ → Change → Changed A → Option ℤ → Type 0
 IsHeldAfter key now (change.Update k v) (changed.Updated result) after = after ≡ if_made result (if is_path key k.now then Some v else now) now

@@ -1,4 +1,4 @@
--- What runs answer as far as trees go: neither places nor bytes nor settings but the order have a part in it.
+-- What runs return as far as trees go: neither places nor bytes nor settings but the order have a part in it.
 use Rattle.std.specs.Prelude.{◌≡◌, Bool, true, false, ℕ, ℤ, List, [], ◌∷◌, ◌++◌, ◌+◌, length, map, slice_get, slice_set, Option, option_map, Some, None, is_some, string_bytes, if◌then◌else◌, Result, Ok, Err}
 use Rattle.std.specs.List.{AllByRecursion, remove}
 use Rattle.std.specs.Str.{is_utf8}
@@ -36,7 +36,7 @@ use Rattle.cedar_calls.specs.declared.answer.Changed.TheVariants as changed
 use Rattle.cedar_calls.specs.declared.answer.Reply.{Reply}
 use Rattle.cedar_calls.specs.declared.answer.Reply.TheVariants as reply
 
--- an answer as far as it speaks of trees
+-- an answer, as far as trees decide it
 pub data PlainAnswer : Type 0 where
   missing : PlainAnswer
   done : PlainAnswer
@@ -87,12 +87,12 @@ abbrev pub comparable_count : Bool → ℕ → Option ℕ
 comparable_count true n = Some n
 comparable_count false n = None
 
--- the other figures tell of places
+-- the other figures depend on places
 abbrev pub plain_figure : Bool → Question → ℕ → PlainAnswer
 plain_figure by_default (question.Figure UsedSlots) n = slots_held_of_tree (comparable_count by_default n)
 plain_figure by_default q n = unsaid
 
--- what a question was answered. The bytes of a file tell of places.
+-- what a question returned. The bytes of a file depend on places.
 abbrev pub plain_reply : {A : Type 0} → Bool → Question → Reply A → PlainAnswer
 plain_reply by_default q (reply.Exact result) = found result
 plain_reply by_default q (reply.Value result) = numbered result
@@ -119,7 +119,7 @@ abbrev pub plain_load : {X : Type 0} → Result X CedarPersistenceError → Plai
 plain_load (Ok x) = done
 plain_load (Err e) = unloaded (refusal_of e)
 
--- what a call was answered
+-- what a call returned
 abbrev pub plain_answer : {A : Type 0} → Bool → Call → Answer A → PlainAnswer
 plain_answer by_default c answer.Missing = missing
 plain_answer by_default c (answer.Made result) = plain_result (λ _. done) result
@@ -128,7 +128,7 @@ plain_answer by_default c answer.Dropped = done
 plain_answer by_default c (answer.Changed result) = plain_effect result
 plain_answer by_default c (answer.Replied result) = plain_reply_to by_default c result
 
--- what some calls were answered
+-- what some calls returned
 abbrev pub plain_answers : {A : Type 0} → Bool → List Call → List (Answer A) → List PlainAnswer
 plain_answers by_default [] answers = []
 plain_answers by_default (c ∷ calls) [] = []
@@ -208,7 +208,7 @@ changed_state s (change.Reserve n) = s
 abbrev pub text_entries_of : List Entry → List (Option Entry)
 text_entries_of es = map (λ e. if is_utf8 e.0 then Some e else None) es
 
--- what a question is answered
+-- what a question returns
 abbrev pub reply_says : Bool → State → Question → PlainAnswer
 reply_says by_default s (question.Exact key) = found (exact s.tree key.now)
 reply_says by_default s (question.Get key) = numbered (number_at s.tree key.now)

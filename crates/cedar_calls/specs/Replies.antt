@@ -1,4 +1,4 @@
--- What a question to a dictionary is answered.
+-- What a question to a dictionary returns.
 use Rattle.std.specs.Prelude.{◌≡◌, Bool, true, false, ℕ, ℤ, ◌+◌, ◌-◌, ◌*◌, ◌/◌, ◌<◌, List, [], ◌∷◌, length, map, Option, option_map, Some, None, is_some, IsTrue, ◌↔◌, MatchResult, Result, string_bytes}
 use Rattle.std.specs.Str.{IsUtf8}
 use Rattle.cedar_tree.specs.Tree.{number_at}

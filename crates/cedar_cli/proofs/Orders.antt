@@ -1,4 +1,4 @@
--- What the dictionary's answers say of an order's reply.
+-- What the dictionary's results say of an order's reply.
 use Rattle.std.proofs.Common.{◌≡◌, ℕ, ℤ, List, [], ◌∷◌, ◌++◌, Option, Some, None, true, ◌==◌, refl, sym, ap, subst, ◌∙◌, length, append_assoc, length-append, arith}
 use Rattle.std.proofs.lemmas.Bool.{false≢true}
 use Rattle.std.specs.Prelude.{codes, Bool, false, ◌&&◌, int_le, pos, if◌then◌else◌, Result, Ok, Err, OnOk, OnErr, IfErr, IfSome, IsSome, is_err, MatchOption, option_map, position}
@@ -181,7 +181,7 @@ never_memory P (Err x) h f = let is = h.0 in cc
 pub none_reply : (t : Tree) (key : List ℕ) → None ≡ exact t key → codes "none" ≡ found_text (number_at t key) (length key)
 none_reply t key h = rw (exact_missed t key h) refl
 
--- what an erasure answers was written
+-- the answer of an erasure was written
 pub erased_written : (s : View) (key : List ℕ) (v : ℤ) (held holds : Option (List ℕ)) → number_at s.state.tree key ≡ Some v
     → Appends held holds (codes "after_erase" ++ 10 ∷ []) → Appends held holds (reply s (Some (Erase, key)) ++ 10 ∷ [])
 erased_written s key v held holds h p = subst (λ (l : List ℕ). Appends held holds (l ++ 10 ∷ [])) (erased_reply s key v h) p

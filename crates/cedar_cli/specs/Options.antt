@@ -76,7 +76,7 @@ abbrev pub is_new : List ℕ → List ℕ → Bool → Bool
 is_new word option given = bytes_eq word option && not given
 
 -- What some arguments ask for beside what has been asked: `--unordered`, `--v1-0`, `--reduced`, and `--load`, `--save` and `--limit`, each
--- with the argument after it as its path or its number. Each stands once at most, `--unordered` not beside `--load`, `--v1-0` only beside
+-- with the argument after it as its path or its number. Each occurs once at most, `--unordered` not beside `--load`, `--v1-0` only beside
 -- `--save`, and `--limit` only beside `--load`.
 abbrev pub request_besides : Request → List (List ℕ) → Option Request
 request_besides a [] = if is_excluded a then None else Some a

@@ -1,4 +1,4 @@
--- What a whole run writes and leaves, by what its devices tell.
+-- What a whole run writes and leaves, by what its devices report.
 use Rattle.std.specs.Prelude.{List, ℕ, Option}
 use Rattle.cedarwood.specs.Words.{Watched}
 use Rattle.cedar_model.specs.Table.Layouts.{LayoutKind}

@@ -108,7 +108,7 @@ view_after_order s (Some (Put v, key)) = if is_some (fault key v) then s else pu
 view_after_order s (Some (Erase, key)) = cut_in s key
 view_after_order s (Some (verb, key)) = s
 
--- What a device holds is known or not: `Some` bytes, or `None` where it doesn't tell. Below, `held` is what the
+-- What a device holds is known or not: `Some` bytes, or `None` where it doesn't report it. Below, `held` is what the
 -- writer held at first, and `holds` what it holds in the end.
 
 -- what the key held before is put back: it is taken away again, or holds that value
@@ -135,7 +135,7 @@ pub record Answers (layout : LayoutKind) (order : Option Order) (before after : 
   pub ok : OnOk result (Obeys order (view_of layout before) (view_of layout after) held holds)
   pub err : IfErr result (λ fault. Disobeys fault order (view_of layout before) (view_of layout after) held holds)
 
--- Lines are answered, or the writer failed, of which the tests before a call and after it tell; or memory or slots are wanting, and then the
+-- Lines are answered, or the writer failed, which the tests before a call and after it say; or memory or slots are wanting, and then the
 -- writer did not fail. The reader isn't asked.
 pub record AnswersOrFails (before after : Bool) (result : Result (Unit {0}) ScriptError) : Type 0 where
   pub unfailed : OnOk result (after ≡ before)
@@ -150,7 +150,7 @@ lists_all None = false
 lists_all (Some (Entries, key)) = true
 lists_all (Some (verb, key)) = false
 
--- An order may be told that memory is wanting: it lists all entries, and so copies keys, or the dictionary has no block spare and may have
+-- An order may fail for want of memory: it lists all entries, and so copies keys, or the dictionary has no block spare and may have
 -- more slots.
 abbrev pub MayLackMemory : ℕ → Option Order → Dictionary → Type 0
 MayLackMemory slots order d = (lists_all order ≡ true) ⊎ ((d.size ≡ d.capacity) × (d.capacity < slots))
@@ -159,7 +159,7 @@ MayLackMemory slots order d = (lists_all order ≡ true) ⊎ ((d.size ≡ d.capa
 abbrev pub LineMayLackMemory : ℕ → List ℕ → Dictionary → Type 0
 LineMayLackMemory slots line d = (8192 < length line) ⊎ MayLackMemory slots (order_of line) d
 
--- this fault may end a run at the first of these lines: if it is want of memory, the line may be told that
+-- this fault may end a run at the first of these lines: if it is want of memory, the line may fail with that
 abbrev pub MayStop : ℕ → Dictionary → ScriptError → List (List ℕ) → Type 0
 MayStop slots d Memory (line ∷ lines) = LineMayLackMemory slots line d
 MayStop slots d fault lines = Unit {0}

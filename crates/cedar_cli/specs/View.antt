@@ -6,7 +6,7 @@ use Rattle.cedar_tree.specs.State.{State, after_put, after_erase}
 use Rattle.cedar_model.specs.Table.Layouts.{LayoutKind, default_layout, reduced_layout}
 use Rattle.cedarwood.specs.Dictionary.{Dictionary, some_numbers}
 
--- its layout, the state that its answers come from, and the tree with just those numbers that have slots of their own
+-- its layout, the state that its results come from, and the tree with just those numbers that have slots of their own
 pub record View : Type 0 where
   pub layout : LayoutKind
   pub state : State
@@ -34,7 +34,7 @@ abbrev pub marked_by : LayoutKind → (List ℕ → Bool) → Tree → Tree
 marked_by default_layout test t = t
 marked_by reduced_layout test t = some_numbers test t
 
--- this state, where the numbers that have slots of their own are told by a test
+-- this state, where a test says which numbers have slots of their own
 abbrev pub with_state : View → (List ℕ → Bool) → State → View
 with_state s test state = record { layout = s.layout; state = state; marked = marked_by s.layout test state.tree }
 

@@ -105,7 +105,7 @@ pub fn run_script<L: Layout, const SLOTS: usize, A: Allocator + Copy, R: Read, W
     outcome
 }
 
-/// Runs each line of what the reader has left. A flush that fails doesn't end it, and is told in `flushes`.
+/// Runs each line of what the reader has left. A flush that fails doesn't end it, and is reported in `flushes`.
 fn answer_input<L: Layout, const SLOTS: usize, A: Allocator + Copy, R: Read, W: Write>(
     alloc: A,
     trie: &mut Trie<L, SLOTS, A>,

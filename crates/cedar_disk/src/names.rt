@@ -51,7 +51,7 @@ pub(crate) fn compaction_beside(path: &str) -> Option<ArrayString<PATH_LEN>>
     Some(beside)
 }
 
-/// What stands in a name before its suffix: nothing, or the number behind a full stop.
+/// What is in a name before its suffix: nothing, or the number behind a full stop.
 fn mark_for(number: usize) -> ArrayString<3>
     requires number { number < 100 }
     ensures mark { result.bytes ≡ mark_of number }

@@ -1,4 +1,5 @@
-//! A file and the calls on it. Whatever is done to its bytes and its name is done here, and each call of the system is noted with its answer.
+//! A file and the calls on it. Whatever is done to its bytes and its name is done here, and each call of the system is noted with its
+//! result.
 //!
 //! No contract can say what the system does. So this is believed: that each function here makes the call that its clause notes. The fields
 //! are private, so that no other module notes a call, or takes one that failed for one that was made.
@@ -59,7 +60,7 @@ pub(crate) struct Noted<T: Read + Write + Seek + OpenFile + Drop> {
     history: History,
 }
 
-/// The calls on a file that was made beside the one at a path: what was done there, each call with its answer. It occupies no memory.
+/// The calls on a file that was made beside the one at a path: what was done there, each call with its result. It occupies no memory.
 #[derive(Drop)]
 pub struct PathCalls {
     history: History,
@@ -214,7 +215,7 @@ impl<T: Read + Write + Seek + OpenFile + Drop> Noted<T> {
         self.history.note(&[kind, at as u64, u64::from(ok)], bytes);
     }
 
-    // Notes a call with its answer, and returns that.
+    // Notes a call with its result, and returns that.
     fn note_answer(
         &mut self,
         kind: u64,
@@ -457,7 +458,7 @@ fn write_on<T: Write>(file: &mut T, at: usize, bytes: &[u8]) -> Wrote
     wrote_of(at, bytes, file.write(bytes))
 }
 
-// What a call did, by its answer. A call that takes none of some bytes has failed. One that found no room has written nothing: if there is
+// What a call did, by its result. A call that takes none of some bytes has failed. One that found no room has written nothing: if there is
 // room for a part, the system takes that, and says how much.
 fn wrote_of(at: usize, _bytes: &[u8], answer: io::Result<usize>) -> Wrote
     requires offset { at < 2 ^ 63 }

@@ -22,7 +22,7 @@ pub struct Sent {
 impl Sent {
     ghost use Rattle.cedar_disk.specs.SpecialFiles.{sent_calls};
 
-    /// Something at a path, once it is open and the system has told what it is. Nothing was written to it.
+    /// Something at a path, once it is open and the system has said what it is. Nothing was written to it.
     ///
     /// # Errors
     /// `Unsupported` if it is a file.

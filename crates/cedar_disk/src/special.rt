@@ -20,7 +20,7 @@ pub struct Special<T: Write + Drop> {
 }
 
 /// Opens what is at `path` to be written to, unless it is a file: then nothing is opened. It is neither made nor cut. None if a file is
-/// there, or nothing, or if the system doesn't tell.
+/// there, or nothing, or if the system doesn't say.
 ///
 /// # Errors
 /// That of opening it. `Unsupported` if a file has come to be there meanwhile.

@@ -124,7 +124,7 @@ impl<'a, F: Files> NewFile<'a, F> {
         }
     }
 
-    /// Removes it, and tells why.
+    /// Removes it, and returns why.
     fn removed(self, error: io::Error) -> NotPlaced
         ensures { path_calls result.calls ≡ new_calls self.entry }
     {

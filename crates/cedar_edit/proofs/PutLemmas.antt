@@ -1,4 +1,4 @@
--- What a call answers that puts a key.
+-- What a call returns that puts a key.
 use Rattle.std.proofs.Common.{◌≡◌, ◌+◌, ◌*◌, ◌<◌, ℤ, ℕ, List, arith, Option, Result, Ok, Err, inl, inr, subst, sym}
 use Rattle.std.specs.Prelude.{IsErrAnd}
 use Rattle.cedar_tree.specs.Tree.{number_at}

@@ -1,4 +1,4 @@
--- What a load answers.
+-- What a load returns.
 use Rattle.std.specs.Prelude.{◌≡◌, ◌⊎◌, ℕ, Bool, true, false, List, take, Option, Some, None, MatchOption, Result, Ok, Err, IfErr, IfOk, IfSome, IsErrAnd}
 use Rattle.std.specs.Io.KnownBytes.{Consumes}
 use Rattle.cedar_model.specs.Meaning.WellFormed.{IsWellFormed}
@@ -33,7 +33,7 @@ pub record LoadsBy {X : Type 0} (table : X → Fields) (kind : LayoutKind) (slot
   -- whatever the reader does, a table comes only with just its bytes, and it is well-formed
   pub bytes : IfOk result (λ x. (version : ℕ) × IsVersion version × Consumes before after (table_bytes version (table x)))
   pub formed : IfOk result (λ x. IsWellFormed slots (table x))
-  -- a reader that tells its bytes and doesn't fail, as bytes in memory, gets the answer that they decide
+  -- a reader that reports its bytes and doesn't fail, as bytes in memory, gets the result that they decide
   pub answer : IfSome before (λ bytes. failed ≡ false → LoadAnswers table kind slots limit bytes result)
   pub io : IfErr result (λ e. IsIo e → failed ≡ true)
   pub lacks : IfErr result (LacksNoMore (Passes (layout_byte kind) slots limit before))

@@ -19,7 +19,7 @@ pub record RingOf (Link : ℕ → ℕ → Type 0) (test : ℕ → Bool) (first :
 abbrev pub HasRing : (ℕ → ℕ → Type 0) → (ℕ → Bool) → ℕ → Type 0
 HasRing Link test first = (xs : List ℕ) × RingOf Link test first xs
 
--- y may stand after x in such a ring
+-- y may be after x in such a ring
 abbrev pub IsAfter : (ℕ → ℕ → Type 0) → (ℕ → Bool) → ℕ → ℕ → Type 0
 IsAfter Link test x y = Link x y × (test y ≡ true)
 

@@ -12,7 +12,7 @@ pub record DecodesBy {A : Type 0} (layout slots limit : ℕ) (before after : Opt
   pub bytes : IfOk result (λ d. (front : List ℕ) × IsHeader layout front d.header
       × Consumes before after (front ++ listed_bytes (listed_in d.header) d.nodes.items d.n_infos.items d.blocks.items d.reject.items))
   pub file : IfOk result (λ d. IsFile slots limit d.header d.nodes.items d.n_infos.items d.blocks.items d.reject.items)
-  -- a reader that tells its bytes and doesn't fail gets the first refusal, if there is one
+  -- a reader that reports its bytes and doesn't fail gets the first refusal, if there is one
   pub answer : IfSome before (λ bytes. failed ≡ false → DecodeAnswers layout slots limit bytes result)
   pub at_end : OnOk result (failed ≡ false → IsAtEnd after)
   pub io : IfErr result (λ e. IsIo e → failed ≡ true)

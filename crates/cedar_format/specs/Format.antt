@@ -15,7 +15,7 @@ use Rattle.cedar_format.specs.Refusal.{Refusal, InvalidMagic, UnsupportedVersion
 use Rattle.cedar_format.specs.declared.error.CedarPersistenceError.{CedarPersistenceError}
 use Rattle.cedar_format.specs.Reading.{BeginsWithFront, LacksTable}
 
--- the number that stands at a place of the bytes, the lowest byte first
+-- the number at a position of the bytes, the lowest byte first
 abbrev pub u8_at : ℕ → List ℕ → ℕ
 u8_at at bytes = slice_index bytes at
 
@@ -32,7 +32,7 @@ u64_at at bytes = from_le_bytes w64 (drop at bytes)
 abbrev pub magic : List ℕ
 magic = 67 ∷ 69 ∷ 68 ∷ 65 ∷ 82 ∷ 87 ∷ 0 ∷ 0 ∷ []
 
--- the header that stands in the first 88 bytes
+-- the header in the first 88 bytes
 abbrev pub header_at : List ℕ → Header
 header_at bytes = record {
   minor = u16_at 10 bytes;

@@ -1,4 +1,4 @@
--- What reads and writes tell of the bytes that a reader has left and a writer holds, where those are known.
+-- What reads and writes say of the bytes that a reader has left and a writer holds, where those are known.
 use Rattle.std.specs.Prelude.{ℕ, ◌≡◌, ◌<◌, ◌/◌, ◌⊎◌, Bool, true, false, List, length, take, Option, Some, None, ⊤, Result, IfErr, IfOk, MatchResult}
 use Rattle.std.specs.Io.KnownBytes.{Consumes}
 use Rattle.cedar_format.specs.declared.error.CedarPersistenceError.{CedarPersistenceError}
@@ -21,7 +21,7 @@ abbrev pub IsIo : CedarPersistenceError → Type 0
 IsIo (Io cause) = ⊤
 IsIo _ = ⊥
 
--- where a success or an end of the input is answered, no read was broken off
+-- where a success or an end of the input is returned, no read was broken off
 abbrev pub TellsBreaks : {X : Type 0} → Bool → Bool → Result X CedarPersistenceError → Type 0
 TellsBreaks old new answer = MatchResult answer (λ x. new ≡ old) (λ e. e ≡ Truncated → new ≡ old)
 
@@ -36,7 +36,7 @@ abbrev pub IsLack : CedarPersistenceError → Type 0
 IsLack (AllocationFailed n) = ⊤
 IsLack _ = ⊥
 
--- what a byte behind the end answers, or a fault there
+-- what a byte behind the end makes a read return, or a fault there
 abbrev pub Trails : Option (List ℕ) → Bool → CedarPersistenceError → Type 0
 Trails left failed (Io cause) = failed ≡ true
 Trails None failed TrailingData = ⊤

@@ -17,7 +17,7 @@ ghost use Rattle.cedar_hex.specs.Words.{decode_of, decode_pairs, encode_lower, h
 pub fn decode_into(text: &[u8], room: &mut [u8]) -> Option<usize>
     requires { length text.now ≤ 2 * length room.old }
 
-    //= Digits are read as the bytes that they stand for, two digits each, in either case; an odd number of them and a text with another
+    //= Digits are read as the bytes that they represent, two digits each, in either case; an odd number of them and a text with another
     //  byte are refused (`decode_of`).
     ensures bytes { option_map (λ n. take n room.new) result ≡ result_ok (decode_of text.now) }
 

@@ -81,7 +81,7 @@ module _ {D : Type 0} (seen : D → List ℕ) (may_leave : D → List ℕ → Ty
         room = room;
       }
 
--- where the closed gate stands
+-- where the closed gate is
 pub front_ends : (file : List ℕ) (end : ℕ) → file ≡ take end file ++ 0 ∷ drop (end + 1) file → length (take end file) ≡ end
 front_ends file end split = omega (arith, ap length split, length-append (take end file) (0 ∷ drop (end + 1) file), length-take end file)
 
@@ -164,7 +164,7 @@ module _ (file : List ℕ) (f : Format) (end : ℕ) (at : HasRecords file f end)
       front_alone f (take end file) at.front.0 at.front.1
       ∙ sym (ap file_payloads (sym (take-append-drop end file)) ∙ headers.front_ends f (take end file) at.front.0 at.front.1 (drop end file) (closed_end f (drop end file) at.no_more))
 
-  -- nothing that counts stands behind the records
+  -- nothing that counts is behind the records
   behind_them : (c rest : List ℕ) → c ≡ take end file ++ rest → records_read f rest ≡ stands [] → file_payloads c ≡ file_payloads file
   behind_them c rest is ends =
       ap file_payloads is ∙ headers.front_ends f (take end file) at.front.0 at.front.1 rest ends ∙ sym (front_alone f (take end file) at.front.0 at.front.1) ∙ stays

@@ -17,7 +17,7 @@ torn_byte [] torn = empty_stands
 torn_byte (gate ∷ []) torn = byte_stands gate
 torn_byte (gate ∷ other ∷ rest) torn = absurd (omega (arith, torn.no_longer))
 
--- what stands behind the closed gate
+-- what follows the closed gate
 pub torn_frame : (c : List ℕ) → Torn 1 13 (0 ∷ []) c → file_payloads c ≡ Some []
 torn_frame [] torn = empty_stands
 torn_frame (gate ∷ rest) torn =

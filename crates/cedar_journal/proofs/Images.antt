@@ -12,7 +12,7 @@ use Rattle.cedar_journal.proofs.Crash.{settled_at}
 use Rattle.cedar_journal.proofs.Headers.{front_and, front_ends, header_is_front}
 use Rattle.cedar_journal.proofs.Readings.{no_pieces, opening_open, pieces_and, pieces_listed, pieces_whole, shut, written}
 
--- ---- what it stands for
+-- ---- what it represents
 
 module _ (records : List ℕ) (whole : AreWhole Summed records) where
   pub front_whole : IsFileFront Summed (journal_header Summed ++ records) (payloads_read (records_read Summed records))

@@ -45,7 +45,7 @@ pub record LeavesOnly {D : Type 0} (moment : D → ℕ) (left_since : D → ℕ 
   -- for a run that began earlier
   pub before : (t : ℕ) (c : List ℕ) → t ≤ moment old → left_since new t c → left_since old t c ⊎ P c
 
--- `Failed` is told only where the disk has failed since, and `NoRoom` only where a write has found no room
+-- `Failed` is reported only where the disk has failed since, and `NoRoom` only where a write has found no room
 pub record HasCause {T : Type 0} (before now : ℕ) (result : Result T DeviceError) : Type 0 where
   pub later : before ≤ now
   pub failed : IsErrOf result Failed → before < now

@@ -1,4 +1,4 @@
--- What a journal's file stands for. Its first record is the header, whose payload names what the file is, and the format of the others.
+-- What a journal's file represents. Its first record is the header, whose payload names what the file is, and the format of the others.
 use Rattle.std.specs.Prelude.{◌≡◌, ℕ, ◌-◌, ◌≤◌, ◌<◌, ◌&&◌, ◌||◌, ◌==◌, nat_eq, nat_le, Bool, true, false, List, [], ◌∷◌, ◌++◌, length, take, drop, get_or, slice_index, cond, Option, Some, None}
 use Rattle.std.specs.List.{starts_with}
 use Rattle.cedar_journal.specs.declared.format.Format.{Format}
@@ -17,7 +17,7 @@ abbrev pub magic_of : Format → List ℕ
 magic_of Plain = 67 ∷ 69 ∷ 68 ∷ 65 ∷ 82 ∷ 74 ∷ 0 ∷ 0 ∷ []
 magic_of Summed = 67 ∷ 69 ∷ 68 ∷ 65 ∷ 82 ∷ 74 ∷ 2 ∷ 253 ∷ []
 
--- what stands behind a header's gate, and the closed gate behind it
+-- what follows a header's gate, and the closed gate behind it
 abbrev pub header_frame : Format → List ℕ
 header_frame format = frame_body (magic_of format)
 
@@ -31,7 +31,7 @@ format_of file =
     cond (starts_with nat_eq file (journal_header Summed)) (Some Summed)
     (cond (starts_with nat_eq file (journal_header Plain)) (Some Plain) None)
 
--- A header that a crash has cut short: behind its gate, whatever that is, stands a front of what belongs there; or its gate is closed, and
+-- A header that a crash has cut short: its gate, whatever that is, is followed by a front of what belongs there; or its gate is closed, and
 -- there are no more bytes than a header and a closed gate have. An empty file is one.
 unfoldable pub is_begun : List ℕ → Bool
 is_begun file =
@@ -52,7 +52,7 @@ recovered_by None = None
 recovered_by (Some (damaged at)) = None
 recovered_by (Some (stands payloads)) = Some payloads
 
--- The payloads that a file stands for, whatever a crash made of it. None: it is refused.
+-- The payloads that a file represents, whatever a crash made of it. None: it is refused.
 unfoldable pub file_payloads : List ℕ → Option (List (List ℕ))
 file_payloads file = recovered_by (file_reading file)
 
@@ -61,7 +61,7 @@ abbrev pub with_payload : List ℕ → Option (List (List ℕ)) → Option (List
 with_payload payload None = None
 with_payload payload (Some payloads) = Some (payloads ++ payload ∷ [])
 
--- a file's header and whole records with these payloads, and no more: what follows is read as if it stood alone
+-- a file's header and whole records with these payloads, and no more: what follows is read as if it were alone
 abbrev pub IsFileFront : Format → List ℕ → List (List ℕ) → Type 0
 IsFileFront format front payloads = (rest : List ℕ) → file_reading (front ++ rest) ≡ Some (read_behind (length front) payloads (records_read format rest))
 

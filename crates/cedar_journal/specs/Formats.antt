@@ -49,7 +49,7 @@ records_read Summed bytes = read_first (length bytes) bytes
 abbrev pub AreUndamaged : Format → List ℕ → Type 0
 AreUndamaged format bytes = (payloads : List (List ℕ)) × (records_read format bytes ≡ stands payloads)
 
--- whole records with these payloads and no more: what follows them is read as if it stood alone
+-- whole records with these payloads and no more: what follows them is read as if it were alone
 abbrev pub ArePieces : Format → List ℕ → List (List ℕ) → Type 0
 ArePieces format front payloads = (rest : List ℕ) → records_read format (front ++ rest) ≡ read_behind (length front) payloads (records_read format rest)
 
@@ -71,12 +71,12 @@ overhead Summed = 9
 abbrev pub sum_of : List ℕ → ℕ
 sum_of payload = crc32c (length_bytes (length payload) ++ payload)
 
--- what stands between a record's gate and its payload
+-- what is between a record's gate and its payload
 abbrev pub record_head : Format → List ℕ → List ℕ
 record_head Plain payload = length_bytes (length payload)
 record_head Summed payload = length_bytes (sum_of payload) ++ length_bytes (length payload)
 
--- what stands behind a record's gate, and the closed gate behind it
+-- what follows a record's gate, and the closed gate behind it
 abbrev pub frame_of : Format → List ℕ → List ℕ
 frame_of format payload = record_head format payload ++ (payload ++ 0 ∷ [])
 

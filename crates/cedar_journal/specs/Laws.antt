@@ -4,7 +4,7 @@ use Rattle.cedar_journal.specs.declared.records.Extent.{Extent}
 use Rattle.cedar_journal.specs.Files.{file_payloads, HasExtent}
 use Rattle.cedar_journal.specs.Journal.{IsBeforeOrAfter, StandsForEither}
 
--- The file stands for some payloads. `extent_of` refuses exactly a file that doesn't.
+-- The file represents some payloads. `extent_of` refuses exactly a file that doesn't.
 abbrev pub IsAccepted : List ℕ → Type 0
 IsAccepted file = IsSome (file_payloads file)
 

@@ -50,13 +50,13 @@ impl<D: Device> Journal<D> {
     /// whole records, and gives a new file its header.
     ///
     /// # Errors
-    /// The device's, with the device. The file stands for the same payloads.
+    /// The device's, with the device. The file represents the same payloads.
     pub fn open(device: D, extent: Extent) -> Result<Journal<D>, (DeviceError, D)>
         // After a restart, a read returns what is on the disk.
         requires restarted { Only (D.seen device) (D.may_leave device) }
         requires extent { HasExtent (D.seen device) extent }
 
-        //= An opened journal is at rest and on the disk, and stands for the payloads that the file stood for. [also open_read]
+        //= An opened journal is at rest and on the disk, and represents the payloads that the file represented. [also open_read]
         ensures settled { IfOk result (λ journal. IsSettled D.seen D.may_leave journal.device journal.format journal.end
             × (file_payloads (D.seen journal.device) ≡ file_payloads (D.seen device))) }
 
@@ -143,7 +143,7 @@ impl<D: Device> Journal<D> {
         ensures any_moment { LeavesOnly D.moment D.left_since self.old.device self.new.device
             (λ c. file_payloads c ≡ file_payloads (D.seen self.old.device)) }
 
-        //= If the device had no room for a record, the file is at rest and on the disk, and stands for the same payloads. `NoRoom` is
+        //= If the device had no room for a record, the file is at rest and on the disk, and represents the same payloads. `NoRoom` is
         //  returned only if a write found no room. [with same_left, wanting]
         ensures no_room { IsErrOf result JournalError.NoRoom → IsSettled D.seen D.may_leave self.new.device self.new.format self.new.end }
         ensures same_left { IsErrOf result JournalError.NoRoom → file_payloads (D.seen self.new.device) ≡ file_payloads (D.seen self.old.device) }
@@ -180,7 +180,7 @@ impl<D: Device> Journal<D> {
     pub fn commit<A: Allocator>(&mut self, frame: &Frame<A>) -> Result<(), DeviceError>
         requires { IsStaged D.seen D.may_leave self.old.device self.old.format self.old.end (payload_of frame.now) }
 
-        //= Once a record is acknowledged, the file is at rest and on the disk, and stands for one more payload, this one. [with settled]
+        //= Once a record is acknowledged, the file is at rest and on the disk, and represents one more payload, this one. [with settled]
         ensures acknowledged { OnOk result (file_payloads (D.seen self.new.device) ≡ with_payload (payload_of frame.now) (file_payloads (D.seen self.old.device))) }
         ensures settled { OnOk result (IsSettled D.seen D.may_leave self.new.device self.new.format self.new.end) }
 
@@ -210,7 +210,7 @@ impl<D: Device> Journal<D> {
     pub fn append<A: Allocator>(&mut self, frame: &Frame<A>) -> Result<(), JournalError>
         requires { IsSettled D.seen D.may_leave self.old.device self.old.format self.old.end }
 
-        //= Once a record is appended, the file is at rest and on the disk, and stands for one more payload, this one. [with settled]
+        //= Once a record is appended, the file is at rest and on the disk, and represents one more payload, this one. [with settled]
         ensures acknowledged { OnOk result (file_payloads (D.seen self.new.device) ≡ with_payload (payload_of frame.now) (file_payloads (D.seen self.old.device))) }
         ensures settled { OnOk result (IsSettled D.seen D.may_leave self.new.device self.new.format self.new.end) }
 
@@ -218,7 +218,7 @@ impl<D: Device> Journal<D> {
         ensures any_moment { LeavesOnly D.moment D.left_since self.old.device self.new.device
             (IsBeforeOrAfter (file_payloads (D.seen self.old.device)) (payload_of frame.now)) }
 
-        //= If the device had no room for the record, it isn't appended: the file is at rest and on the disk, and stands for the payloads
+        //= If the device had no room for the record, it isn't appended: the file is at rest and on the disk, and represents the payloads
         //  from before; a crash leaves these. `NoRoom` is returned only if a write found no room. [with same_left, kept, wanting, end,
         //  format]
         ensures no_room { IsErrOf result JournalError.NoRoom → IsSettled D.seen D.may_leave self.new.device self.new.format self.new.end }
@@ -252,7 +252,7 @@ impl<D: ReplaceDevice> Journal<D> {
     pub fn replace<A: Allocator>(&mut self, image: &Image<A>) -> Result<(), ReplaceError>
         requires { IsSettled D.seen D.may_leave self.old.device self.old.format self.old.end }
 
-        //= Once the records of a journal are replaced, the file has the image's bytes, is at rest and on the disk, and stands for its
+        //= Once the records of a journal are replaced, the file has the image's bytes, is at rest and on the disk, and represents its
         //  payloads. [with settled, bytes, end]
         ensures replaced { OnOk result (file_payloads (D.seen self.new.device) ≡ Some (payloads_of image.now)) }
         ensures settled { OnOk result (IsSettled D.seen D.may_leave self.new.device self.new.format self.new.end) }

@@ -188,7 +188,7 @@ pub enum FileFault {
 /// # Errors
 /// `Foreign` if they are no journal's, `Damaged` if a record is damaged. A file of a single byte is taken for the beginning of one.
 pub fn extent_of(bytes: &[u8]) -> Result<Extent, FileFault>
-    //= `extent_of` returns how far a journal's file goes. It refuses exactly a file that stands for no payloads: as foreign one of another
+    //= `extent_of` returns how far a journal's file goes. It refuses exactly a file that represents no payloads: as foreign one of another
     //  kind, and as damaged one with a record that counts and isn't whole or has another sum, at the place of the first such record. [with
     //  refused, cause]
     ensures extent { IfOk result (λ extent. HasExtent bytes.now extent) }

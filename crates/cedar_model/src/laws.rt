@@ -1,11 +1,11 @@
-//! Laws of what a table stands for.
+//! Laws of what a table represents.
 
 ghost use Rattle.std.specs.Prelude.{if◌then◌else◌, ◌+◌, ◌↔◌, ◌≡◌, count_by, length, List, None, true, ℕ};
 ghost use Rattle.cedar_model.specs.Words.{Cells, cells_in, default_layout, Fields, Forest, HasMark, HoldsTree, is_held, IsWellFormed, KeepsMarks, labels, Leads, MarkedAt, marks, NoPlace, occurs, prefixes, range_with_len, size_of, slot_at, slots_named, slots_of_tree, tree_of, walk};
 
-/// Slots stand for one tree at most, and those of a table for the one that is read from it.
+/// Slots represent one tree at most, and those of a table the one that is read from it.
 pub fn one_tree()
-    //= Slots stand for one labelled tree at most, and a table's is `tree_of`. [with read]
+    //= Slots represent one labelled tree at most, and a table's is `tree_of`. [with read]
     ensures only { (size : ℕ) (slots : Cells) (f : Forest) (g : Forest) → HoldsTree size slots f → HoldsTree size slots g → f ≡ g }
     ensures read { (table : Fields) (f : Forest) → HoldsTree (size_of table) (cells_in table) f → tree_of table ≡ record { number = None; children = f } }
 {}
@@ -35,7 +35,7 @@ pub fn held_slots_are_counted()
     ensures marked { (limit : ℕ) (table : Fields) → IsWellFormed limit table → count_by (is_held (cells_in table)) (range_with_len 0 (size_of table)) ≡ 1 + length (prefixes (tree_of table)) + length (walk (marks table)) }
 {}
 
-/// Two tables that stand for one tree hold equally many slots, if each number is kept in the one as in the other: in a slot, or in
+/// Two tables that represent one tree hold equally many slots, if each number is kept in the one as in the other: in a slot, or in
 /// its node's own base field.
 pub fn slots_stay()
     //= Two well-formed tables with one tree, whose numbers are kept alike, hold equally many slots.

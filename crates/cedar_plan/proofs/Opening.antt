@@ -48,7 +48,7 @@ module _ (file : List ℕ) (f : Format) (end : ℕ) (records : HasRecords file f
   until_settled calls has =
       settled_at seen_after MayLeave calls f end (take end file) [] size records.front (has.seen ∙ is_gated) (λ c left. has.only c left ∙ sym has.seen)
 
-  -- only a closed gate stands behind the records
+  -- only a closed gate is behind the records
   module _ (closed : ends_closed file end ≡ true) where
     is_closed : file ≡ take end file ++ 0 ∷ []
     is_closed =

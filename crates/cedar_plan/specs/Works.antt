@@ -36,7 +36,7 @@ AreCarriedOut (work ∷ works) before after = FailsIn work before after ⊎ AreC
 abbrev pub append_works : Format → ℕ → List ℕ → List Work
 append_works format end payload = write_to (end + 1) (frame_of format payload) ∷ write_to end (opening format ∷ []) ∷ []
 
--- The file is cut behind its whole records, and a closed gate is written there; nothing is done if only that stands there. Of a new one
+-- The file is cut behind its whole records, and a closed gate is written there; nothing is done if only that is there. Of a new one
 -- nothing is left, and it gets a closed gate, the header behind that, and an open gate in the place of the closed one.
 abbrev pub opening_works : List ℕ → Extent → List Work
 opening_works file New = cut_to 0 ∷ write_to 0 (0 ∷ []) ∷ write_to 1 (header_frame Summed) ∷ write_to 0 (1 ∷ []) ∷ []

@@ -54,8 +54,8 @@ const NO_STEPS: Plan = Plan {
 };
 
 /// Returns the plan that opens a file of these bytes and this extent. The plan's bytes begin with those of `HEADER`. What a crash has left
-/// after the whole records is cut off, and a closed gate is written there; a new file gets its header. If only a closed gate stands after the
-/// records, the plan has no step.
+/// after the whole records is cut off, and a closed gate is written there; a new file gets its header. If only a closed gate comes after
+/// the records, the plan has no step.
 pub fn plan_opening(extent: Extent, bytes: &[u8]) -> Plan
     requires extent { HasExtent bytes.now extent }
     //= The plan of an opening cuts the file after its whole records and writes a closed gate there; of a new file it leaves only the

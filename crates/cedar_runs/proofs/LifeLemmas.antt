@@ -13,7 +13,7 @@ use Rattle.cedar_runs.proofs.RunLemmas.{run_failed, run_held, run_known}
 one_state : (a b : State) → Some a ≡ Some b → a ≡ b
 one_state a b is = cc
 
--- a file stands for the one end of a session or for the other
+-- a file represents the one end of a session or the other
 abbrev Ends : State → Session → List ℕ → Type 0
 Ends s session file = (has_last : Bool) × (state_of file ≡ Some (after_session s session has_last))
 

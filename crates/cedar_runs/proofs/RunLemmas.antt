@@ -8,7 +8,7 @@ use Rattle.cedar_runs.specs.declared.call.StoreCall.{StoreCall}
 use Rattle.cedar_runs.specs.declared.call.StoreCall.TheVariants as call
 use Rattle.cedar_runs.specs.declared.call.Outcome.{Outcome}
 
--- what stands behind the calls of a list
+-- what follows the calls of a list
 abbrev pub blank_call : StoreCall
 blank_call = call.Update (record { ref_ptr = (0, 0); now = [] }) (pos 0)
 

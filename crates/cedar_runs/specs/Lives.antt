@@ -7,11 +7,11 @@ use Rattle.cedar_runs.specs.Runs.{IsStoreRun, failed_after_all, held_after_all, 
 use Rattle.cedar_runs.specs.declared.call.StoreCall.{StoreCall}
 use Rattle.cedar_runs.specs.declared.call.Outcome.{Outcome}
 
--- a crash while a device is opened leaves a file that stands for the same dictionary
+-- a crash while a device is opened leaves a file that represents the same dictionary
 abbrev pub KeepsState : {D : Type 0} → (D → List ℕ) → (D → ℕ) → (D → ℕ → List ℕ → Type 0) → D → D → Type 0
 KeepsState seen moment left_since device end = (file : List ℕ) → left_since end (moment device) file → state_of file ≡ state_of (seen device)
 
--- The store of a device was opened. The file stands for its dictionary, and so does what a crash leaves, then and while it is opened.
+-- The store of a device was opened. The file represents its dictionary, and so does what a crash leaves, then and while it is opened.
 pub record BeginsSession {D : Type 0} (seen : D → List ℕ) (moment : D → ℕ) (left_since : D → ℕ → List ℕ → Type 0) (may_leave : D → List ℕ → Type 0) (device : D) (first : Point D) : Type 0 where
   pub usable : first.failed ≡ false
   pub made : state_of (seen device) ≡ Some first.held
@@ -61,7 +61,7 @@ after_life s [] ends = s
 after_life s (session ∷ sessions) [] = s
 after_life s (session ∷ sessions) (has_last ∷ ends) = after_life (after_session s session has_last) sessions ends
 
--- The file at the end of a life stands for what the life made of the dictionary that the first file stood for.
+-- The file at the end of a life represents what the life made of the dictionary that the first file represented.
 abbrev pub AcknowledgedCallsStay : {D : Type 0} → (D → List ℕ) → (D → ℕ) → (D → ℕ → List ℕ → Type 0) → (D → List ℕ → Type 0) → Type 0
 AcknowledgedCallsStay seen moment left_since may_leave = (sessions : List Session) (before after : List ℕ) (s : State) → state_of before ≡ Some s
     → IsLife seen moment left_since may_leave sessions before after

@@ -68,7 +68,7 @@ abbrev pub under_way : Bool → State → State → State
 under_way true held after = held
 under_way false held after = after
 
--- A crash leaves a file that stands for what counts for sure, or for the dictionary. These are one, unless the store has failed.
+-- A crash leaves a file that represents what counts for sure, or the dictionary. These are one, unless the store has failed.
 pub record IsKnown {D : Type 0} (may_leave : D → List ℕ → Type 0) (sure : State) (p : Point D) : Type 0 where
   pub one : p.failed ≡ false → sure ≡ p.held
   pub left : (file : List ℕ) → may_leave p.device file → IsEither sure p.held file

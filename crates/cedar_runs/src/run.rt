@@ -18,8 +18,8 @@ pub fn begin_session<T: Made<A>, A: Allocator + Copy, D: Device>(
 ) -> Result<Store<T, A, D>, (DurableError, D)>
     requires limit { T.limit }
     requires restarted { Only (D.seen device) (D.may_leave device) }
-    //= An opening begins a session: the dictionary is the one that the file stands for, and a crash while the file is opened, or once it
-    //  was opened, leaves a file that stands for it. The same holds of a crash if it isn't opened. [with ready, refused]
+    //= An opening begins a session: the dictionary is the one that the file represents, and a crash while the file is opened, or once it
+    //  was opened, leaves a file that represents it. The same holds of a crash if it isn't opened. [with ready, refused]
     ensures begins { IfOk result (λ store. BeginsSession D.seen D.moment D.left_since D.may_leave device (point_of T.state store)) }
     ensures ready { IfOk result (λ store. IsReadyStore D.seen D.may_leave T.state store) }
     ensures refused { IfErr result (λ e. KeepsState D.seen D.moment D.left_since device e.1) }
@@ -40,8 +40,8 @@ pub fn run_store_calls<T: Words, A: Allocator + Copy, D: ReplaceDevice>(
     ensures ready { IsReadyStore D.seen D.may_leave T.state store.new }
     //= Calls of a store are a run: one outcome for each call comes after those that were there, and each call begins with the dictionary
     //  and the disk that the one before it left. [with count; by AddsStoreRun, IsStoreRun]
-    //= A crash at any moment of a call leaves a file that stands for the dictionary after the calls that were acknowledged before it, or
-    //  for that with the call under way. Once it is acknowledged, only for the dictionary with it. [by IsCallStep, IsKnown]
+    //= A crash at any moment of a call leaves a file that represents the dictionary after the calls that were acknowledged before it, or
+    //  the one with the call under way. Once it is acknowledged, it represents only the dictionary with it. [by IsCallStep, IsKnown]
     //= A call in which nothing was to be done, or that was refused, leaves the dictionary as it was, and what a crash may leave. [by
     //  IsCallStep]
     //= If the device fails in a call, the dictionary has the change, and a crash leaves it with or without it. So it stays until a

@@ -120,7 +120,7 @@ batch_at bytes at none same long =
     let size : at ≡ records_length (payloads_in bytes) = omega (arith, long, ap records_length none) in
     ap (λ n. nat_eq n (length bytes)) size ∙ sym (provided _ (each_change (payloads_in bytes)) all)
 
--- ---- what a caller is told
+-- ---- what a caller gets
 
 pub batch_is : (o : Option Kind) (n : ℕ) → n ≡ 2 → IfSome o (λ kind. kind ≡ Batch) → IfSome o (λ kind. is_kind n kind)
 batch_is None n two is = tt

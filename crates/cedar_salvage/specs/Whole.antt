@@ -25,7 +25,7 @@ is_kind operation Batch = operation ≡ 2
 abbrev pub payload_there : List ℕ → List ℕ
 payload_there bytes = take (four_at bytes 5) (drop 9 bytes)
 
--- A whole record of version 2 stands at the start: its gate is open, all of it is there and has its sum, and its payload is a change.
+-- A whole record of version 2 is at the start: its gate is open, all of it is there and has its sum, and its payload is a change.
 unfoldable pub is_whole : List ℕ → Bool
 is_whole bytes = not (get_or bytes 0 0 == 0) && (is_summed bytes && is_change (payload_there bytes))
 
@@ -55,7 +55,7 @@ salvaged_by (Some format) file = found_of format (drop 13 file)
 salvaged_by None file = found_in file
 
 -- What is saved of a file. Version 2: each whole record behind the header. Version 1, which has no sums: the records up to one that is no
--- change. No header: each whole record of version 2 that stands anywhere.
+-- change. No header: each whole record of version 2 that is anywhere.
 abbrev pub salvage_of : List ℕ → List (List ℕ)
 salvage_of file = salvaged_by (format_of file) file
 
@@ -99,6 +99,6 @@ cut_of file (Until format end) = take 13 file ++ drop end file
 abbrev pub IsCutOf : List ℕ → List ℕ → Type 0
 IsCutOf file kept = (extent : Extent) × HasExtent file extent × ((cuts_records file extent ≡ true) ⊎ TakesLong file extent) × (kept ≡ cut_of file extent)
 
--- The file stands for no records, and an opening refuses it; or it would cut off no whole record.
+-- The file represents no records, and an opening refuses it; or it would cut off no whole record.
 abbrev pub CutsNone : List ℕ → Type 0
 CutsNone file = (file_payloads file ≡ None) ⊎ ((extent : Extent) × HasExtent file extent × (cuts_records file extent ≡ false))

@@ -26,7 +26,7 @@ pub enum Kind {
 
 /// Returns what change a payload is, or None if it is none.
 pub fn kind_of(payload: &[u8]) -> Option<Kind>
-    //= A payload is told to be a change exactly if it is one, and of which kind. [with kind]
+    //= A payload is found to be a change exactly if it is one, and of which kind. [with kind]
     ensures change { is_some result ≡ is_change payload.now }
     ensures kind { IfSome result (λ kind. is_kind (get_or payload.now 0 0) kind) }
 {

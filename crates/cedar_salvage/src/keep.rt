@@ -67,7 +67,7 @@ where
     //  [with durable]
     ensures kept { IfOk result (λ kept. IfSome kept (λ k. IsCutOf (D.seen device.old) (seen_after (device_calls k.device)))) }
     ensures durable { IfOk result (λ kept. IfSome kept (λ k. Only (seen_after (device_calls k.device)) (MayLeave (device_calls k.device)))) }
-    //= Nothing is kept only if the opening would cut off no whole record, or if the file stands for no records.
+    //= Nothing is kept only if the opening would cut off no whole record, or if the file represents no records.
     ensures none { IfOk result (λ kept. IfNone kept (CutsNone (D.seen device.old))) }
     //= The store's file stays as it was. [with restarted, time]
     ensures seen { D.seen device.new ≡ D.seen device.old }

@@ -84,7 +84,7 @@ fn push_of<A: Allocator + Copy>(
     }
 }
 
-/// What stands behind the header of a file.
+/// What follows the header of a file.
 fn behind_header(bytes: &[u8]) -> &[u8]
     ensures { result.now ≡ drop 13 bytes.now }
 {

@@ -1,7 +1,7 @@
 -- Lists of which only a front was written yet.
 use Rattle.std.specs.Prelude.{ℕ, List, ◌++◌, ◌-◌, length, replicate}
 
--- all items, how many of them stand in memory, and for how many there is room
+-- all items, how many of them are in memory, and for how many there is room
 pub record Items (T : Type 0) : Type 0 where
   pub items : List T
   pub used : ℕ

@@ -11,7 +11,7 @@ use Rattle.cedar_slots.specs.declared.records.NodeRecord.{NodeRecord}
 use Rattle.cedar_slots.specs.Slots.{AllFree, blank_info, blank_node, FreeRing, info_at, is_free, node_record_at, SlotFields, SlotLink}
 use Rattle.cedar_slots.specs.Ring.{first_of}
 
--- the slots, the blocks in which they stand, and the reject values, as a file has them too
+-- the slots, the blocks that they are in, and the reject values, as a file has them too
 pub record PlaceFields : Type 0 where
   pub slots : SlotFields
   pub blocks : BlockFields
@@ -70,7 +70,7 @@ pub record Shaped (table : PlaceFields) : Type 0 where
 abbrev pub IsPowerOfTwo : ℕ → Type 0
 IsPowerOfTwo n = (k : ℕ) × (n ≡ 2 ^ k)
 
--- the free slots stand in rings, the blocks in lists, a search stays in range, and the rest is blank
+-- the free slots are in rings, the blocks in lists, a search stays in range, and the rest is blank
 pub record Sound (table : PlaceFields) : Type 0 where
   pub shaped : Shaped table
   pub doubled : IsPowerOfTwo (length table.blocks.records)
@@ -146,7 +146,7 @@ pub record IsFreePlace (table : PlaceFields) (slot : ℕ) : Type 0 where
 abbrev pub NoneFree : PlaceFields → Type 0
 NoneFree table = (slot : ℕ) → 0 < slot / 256 → slot / 256 < table.blocks.active → is_free table.slots.nodes slot ≡ false
 
--- the block b stands in the open list
+-- the block b is in the open list
 pub record IsOpenBlock (blocks : BlockFields) (b : ℕ) : Type 0 where
   pub not_root : 0 < b
   pub is_active : b < blocks.active
@@ -158,7 +158,7 @@ pub record IsBase (table : PlaceFields) (base : ℕ) (labels : List ℕ) : Type 
   pub is_active : base / 256 < table.blocks.active
   pub free : AllFree table.slots.nodes base labels
 
--- a free slot of the block b from which each label's slot is free, if the first label stands on it
+-- a free slot of the block b from which each label's slot is free, if the first label is on it
 pub record IsStart (table : PlaceFields) (b slot : ℕ) (labels : List ℕ) : Type 0 where
   pub free : is_free table.slots.nodes slot ≡ true
   pub here : slot / 256 ≡ b

@@ -1,5 +1,5 @@
 //! The slots of a double-array trie and where new ones are found: the rings of free slots, the blocks of 256
-//! slots, and the three lists of blocks. Nothing here knows what the slots stand for.
+//! slots, and the three lists of blocks. Nothing here knows what the slots represent.
 #![tactic(auto)]
 
 mod blocks;

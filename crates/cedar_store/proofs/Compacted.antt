@@ -93,9 +93,9 @@ pub none_left : (o : Option State) → option_map (λ s. all_stored s []) o ≡ 
 none_left None = refl
 none_left (Some s) = refl
 
--- ---- what the file stands for
+-- ---- what the file represents
 
--- a record more, of a file that stands for any state or for none
+-- a record more, of a file that represents any state or none
 pub state_more : (file c p : List ℕ) → file_payloads c ≡ with_payload p (file_payloads file) → state_of c ≡ option_and_then (λ s. after s p) (state_of file)
 state_more file c p more = ap (option_and_then (after_payloads new_state)) more ∙ with_one (file_payloads file)
   where
@@ -122,7 +122,7 @@ pub still_usable : {X E : Type 0} (r : Result X E) (failed : Bool) (base end : �
 still_usable (Ok x) failed base end done = done.0
 still_usable (Err e) failed base end done = tt
 
--- the change of a record that was told of any state
+-- the change of a record that was given for any state
 pub change_of_one : (o : Option State) (s t : State) (p : List ℕ) → option_and_then (λ u. after u p) o ≡ Some t → o ≡ Some s → after s p ≡ Some t
 change_of_one o s t p stands is = sym (ap (option_and_then (λ u. after u p)) is) ∙ stands
 

@@ -32,7 +32,7 @@ pub none_refused : (changes : List Change) (n : ℕ) → AllByRecursion IsFaultl
 none_refused [] n all = refl
 none_refused (c ∷ changes) n all = ap (λ o. fault_at n o (first_refused (n + 1) changes)) all.0 ∙ none_refused changes (n + 1) all.1
 
--- ---- what is told is so
+-- ---- what is reported is so
 
 record IsFirst (n : ℕ) (changes : List Change) (e : DurableError) : Type 0 where
   place : ℕ
@@ -76,7 +76,7 @@ first_cause changes end e is =
 
 -- ---- as it is handed on
 
--- a change that was tested has the fault that was told, or none
+-- a change that was tested has the fault that was reported, or none
 pub has_fault : (o : Option CedarError) (r : Result (Unit {0}) CedarError) (f : CedarError) → IfSome o (λ e. r ≡ Err e) → (o ≡ None → IsOk r) → r ≡ Err f → o ≡ Some f
 has_fault None r f faulty sound is = absurd (false≢true (subst IsOk is (sound refl)))
 has_fault (Some e) r f faulty sound is = let same : ◌≡◌ {A = Result (Unit {0}) CedarError} (Err e) (Err f) = sym faulty ∙ is in cc

@@ -34,7 +34,7 @@ with_one (Some ps) p s is = replayed_more ps p new_state ∙ ap (option_and_then
 pub state_added : (file c payload : List ℕ) (s t : State) → state_of file ≡ Some s → after s payload ≡ Some t → file_payloads c ≡ with_payload payload (file_payloads file) → state_of c ≡ Some t
 state_added file c payload s t is told more = ap (option_and_then (after_payloads new_state)) more ∙ with_one (file_payloads file) payload s is ∙ told
 
--- what a crash leaves of the records stands for the state from before, or for the one after the change
+-- what a crash leaves of the records represents the state from before, or the one after the change
 pub either : (file c payload : List ℕ) (s t : State) → state_of file ≡ Some s → after s payload ≡ Some t → IsBeforeOrAfter (file_payloads file) payload c → IsEither s t c
 either file c payload s t is told outcome = ⊎_elim
     (λ before. inl (ap (option_and_then (after_payloads new_state)) before ∙ is))
@@ -61,7 +61,7 @@ pub stops : (ps : List (List ℕ)) (s : State) → has_no_change ps ≡ true →
 stops [] s e = absurd (false≢true e)
 stops (p ∷ ps) s e = has ps (stops ps) s (changes_of p) e
 
--- a corrupt file stands for no dictionary
+-- a corrupt file represents no dictionary
 pub stands_for_none : (file : List ℕ) → IsCorrupt file → state_of file ≡ None
 stands_for_none file bad = ap (option_and_then (after_payloads new_state)) bad.1 ∙ stops bad.0 new_state bad.2
 

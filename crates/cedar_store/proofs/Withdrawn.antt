@@ -12,11 +12,11 @@ use Rattle.cedar_store.specs.Told.{change_told, changes_told}
 use Rattle.cedar_store.specs.declared.change.Change.{Change as ToldChange}
 use Rattle.cedar_store.specs.declared.change.Change.TheVariants as told
 
--- what stands behind the changes that are told
+-- what follows the changes that are given
 abbrev pub blank : ToldChange
 blank = told.Update (record { ref_ptr = (0, 0); now = [] }) (pos 0)
 
--- a change that is told stands at its place
+-- a change that is given is at its place
 pub told_at : (changes : List ToldChange) (i : ℕ) → i < length changes → change_at (changes_told changes) i ≡ change_told (get_or changes i blank)
 told_at changes i low = get_or-map change_told changes i blank (erase_at []) low
 

@@ -52,12 +52,12 @@ change_fault (erase_at key) = None
 abbrev pub IsFaultless : Change → Type 0
 IsFaultless c = change_fault c ≡ None
 
--- that it has this fault is told with its index; if it has none, what is told of those behind it
+-- that it has this fault is reported with its index; if it has none, what is reported of those behind it
 abbrev pub fault_at : ℕ → Option CedarError → Option DurableError → Option DurableError
 fault_at n (Some e) later = Some (RefusedAt n e)
 fault_at n None later = later
 
--- the first of some changes that has a fault, as it is told; the first of them has this index
+-- the first of some changes that has a fault, as it is reported; the first of them has this index
 abbrev pub first_refused : ℕ → List Change → Option DurableError
 first_refused n [] = None
 first_refused n (c ∷ changes) = fault_at n (change_fault c) (first_refused (n + 1) changes)
@@ -90,7 +90,7 @@ abbrev pub batch_length : List Change → ℕ
 batch_length [] = 1
 batch_length (c ∷ changes) = 5 + change_length c + batch_length changes
 
--- the record of a change stands behind some bytes
+-- the record of a change is behind some bytes
 pub record IsRecorded (c : Change) (before after : List ℕ) : Type 0 where
   pub payload : List ℕ
   pub behind : after ≡ before ++ record_of payload

@@ -28,8 +28,8 @@ LoadCause file error.Corrupt = IsCorrupt file
 LoadCause file (error.Refused e) = IsSome (file_payloads file) × IsShortage e
 LoadCause file _ = ⊥
 
--- Why a file wasn't opened: as above, or there was no memory for its bytes, or the device failed, which has told so often before and now that
--- it did.
+-- Why a file wasn't opened: as above, or there was no memory for its bytes, or the device failed, which has reported so often before and
+-- now that it did.
 abbrev pub OpenCause : List ℕ → ℕ → ℕ → DurableError → Type 0
 OpenCause file before now (error.Device e) = e ≡ Failed → before < now
 OpenCause file before now (error.Refused e) = (e ≡ cedar.Memory) ⊎ (IsSome (file_payloads file) × IsShortage e)
@@ -60,7 +60,7 @@ PayloadCause n error.TooLong = 4294967296 ≤ n
 PayloadCause n (error.Refused e) = e ≡ cedar.Memory
 PayloadCause n _ = ⊥
 
--- the device failed, which has told so often before and now that it did
+-- the device failed, which has reported so often before and now that it did
 abbrev pub IsOfDevice : ℕ → ℕ → DurableError → Type 0
 IsOfDevice before now (error.Device e) = e ≡ Failed → before < now
 IsOfDevice before now _ = ⊥

@@ -47,7 +47,7 @@ abbrev pub records_length : List (List ℕ) → ℕ
 records_length [] = 0
 records_length (payload ∷ payloads) = 5 + length payload + records_length payloads
 
--- the changes of records that stand one behind another, with nothing behind the last of them
+-- the changes of records that are one behind another, with nothing behind the last of them
 unfoldable pub batch_of : List ℕ → Option (List Change)
 batch_of bytes = cond (records_length (payloads_in bytes) == length bytes) (each_change (payloads_in bytes)) None
 

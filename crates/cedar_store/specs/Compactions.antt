@@ -26,7 +26,7 @@ abbrev pub compacted_length : List Entry → ℕ
 compacted_length [] = 14
 compacted_length (e ∷ entries) = 14 + length e.0 + compacted_length entries
 
--- behind some payloads stands one more, the put of a value at a key
+-- some payloads are followed by one more, the put of a value at a key
 pub record IsPutBehind (key : List ℕ) (v : ℤ) (before after : List (List ℕ)) : Type 0 where
   pub payload : List ℕ
   pub behind : after ≡ before ++ payload ∷ []
@@ -49,8 +49,8 @@ IsBeforeReplacing Memory = Unit {0}
 IsBeforeReplacing TooLong = Unit {0}
 IsBeforeReplacing _ = ⊥
 
--- Why a file wasn't compacted: no file was made in memory; or the device kept the old one, or failed, which has told so often before and now
--- that it did.
+-- Why a file wasn't compacted: no file was made in memory; or the device kept the old one, or failed, which has reported so often before
+-- and now that it did.
 abbrev pub CompactCause : ℕ → ℕ → CompactError → Type 0
 CompactCause before now (Kept e) = e ≡ device.Failed → before < now
 CompactCause before now Failed = before < now

@@ -1,4 +1,4 @@
--- The dictionary that a file stands for.
+-- The dictionary that a file represents.
 use Rattle.std.specs.Prelude.{◌≡◌, ◌⊎◌, ℕ, Bool, true, false, ◌||◌, not, is_some, List, [], ◌∷◌, Option, Some, option_and_then}
 use Rattle.cedar_journal.specs.Files.{file_payloads, with_payload}
 use Rattle.cedar_tree.specs.State.{State, new_state}
@@ -17,11 +17,11 @@ has_no_change (payload ∷ payloads) = not (is_some (changes_of payload)) || has
 abbrev pub IsCorrupt : List ℕ → Type 0
 IsCorrupt file = (payloads : List (List ℕ)) × (file_payloads file ≡ Some payloads) × (has_no_change payloads ≡ true)
 
--- the file stands for one state or for another
+-- the file represents one state or another
 abbrev pub IsEither : State → State → List ℕ → Type 0
 IsEither before after file = (state_of file ≡ Some before) ⊎ (state_of file ≡ Some after)
 
--- the file stands for this state
+-- the file represents this state
 abbrev pub StandsFor : State → List ℕ → Type 0
 StandsFor state file = state_of file ≡ Some state
 

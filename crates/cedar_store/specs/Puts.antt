@@ -1,4 +1,4 @@
--- What a put answers, and what it leaves.
+-- What a put returns, and what it leaves.
 use Rattle.std.specs.Prelude.{◌≡◌, ℕ, ℤ, List, None, IfSome, IfErr, OnOk, OnErr, Result, Err}
 use Rattle.cedar_tree.specs.Tree.{number_at}
 use Rattle.cedar_tree.specs.State.{after_put, State}

@@ -1,4 +1,4 @@
--- The errors of a journal as a store tells them, and the changes that it is told.
+-- The errors of a journal as a store reports them, and the changes that it is given.
 use Rattle.std.specs.Prelude.{List, map}
 use Rattle.cedar_journal.specs.declared.frame.FrameError.{FrameError}
 use Rattle.cedar_journal.specs.declared.frame.FrameError.TheVariants as frame

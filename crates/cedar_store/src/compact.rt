@@ -24,18 +24,18 @@ impl<T: Words, A: Allocator + Copy, D: ReplaceDevice> Store<T, A, D> {
     pub fn compact(&mut self) -> Result<(), CompactError>
         requires ready { IsReadyStore D.seen D.may_leave T.state self.old }
 
-        //= A file that was compacted has one record for each entry and nothing else. It stands for the dictionary, on the disk, and the
+        //= A file that was compacted has one record for each entry and nothing else. It represents the dictionary, on the disk, and the
         //  dictionary is as it was. So a store that had failed goes on. [with ready, words]
         ensures compacted { OnOk result ((self.new.failed ≡ false)
             × (length (D.seen self.new.journal.device) ≡ compacted_length (walk (T.state self.old.words).tree))) }
         ensures ready { IsReadyStore D.seen D.may_leave T.state self.new }
         ensures words { self.new.words ≡ self.old.words }
 
-        //= A compaction leaves the rule as it was, and what came of it is told from then on. [with told]
+        //= A compaction leaves the rule as it was, and what came of it is reported from then on. [with told]
         ensures rule { self.new.compaction ≡ self.old.compaction }
         ensures told { self.new.last_compaction ≡ Some result }
 
-        //= A crash at any moment of a compaction leaves a file that stands for the dictionary. If the store had failed before, it leaves
+        //= A crash at any moment of a compaction leaves a file that represents the dictionary. If the store had failed before, it leaves
         //  such a file or what it might have left before. [with any_moment_failed]
         ensures any_moment { self.old.failed ≡ false → CrashLeavesState D.moment D.left_since T.state self.old self.new }
         ensures any_moment_failed { CrashLeavesStateOrOld D.moment D.left_since D.may_leave T.state self.old self.new }
@@ -203,7 +203,7 @@ impl<T: Words, A: Allocator + Copy, D: ReplaceDevice> Store<T, A, D> {
         }
     }
 
-    /// Replaces the file by one that stands for the dictionary, whatever the file has that is there.
+    /// Replaces the file by one that represents the dictionary, whatever the file has that is there.
     fn put_in_place(&mut self, image: &Image<A>) -> Result<(), ReplaceError>
         requires made { after_payloads new_state (payloads_of image.now) ≡ Some (T.state self.old.words) }
         ensures ready { IsReadyStore D.seen D.may_leave T.state self.old → IsReadyStore D.seen D.may_leave T.state self.new }

@@ -18,17 +18,17 @@ pub(crate) const PUT: u8 = 1;
 /// The operation of a payload that makes several changes.
 pub const BATCH: u8 = 2;
 
-/// Returns the dictionary that a file's bytes stand for, and how far the file goes.
+/// Returns the dictionary that a file's bytes represent, and how far the file goes.
 ///
 /// # Errors
-/// `Foreign` if the file is of another kind, `Damaged` if a record is damaged, `Corrupt` if one is not a change, `Refused` if memory or slots
-/// were refused.
+/// `Foreign` if the file is of another kind, `Damaged` if a record is damaged, `Corrupt` if one is not a change, `Refused` if memory or
+/// slots were refused.
 pub fn words_of<T: Made<A>, A: Allocator>(
     alloc: A,
     bytes: &[u8],
 ) -> Result<(T, Extent), DurableError>
     requires limit { T.limit }
-    //= A file's bytes are read as the dictionary that they stand for. They are refused exactly as by an opening.
+    //= A file's bytes are read as the dictionary that they represent. They are refused exactly as by an opening.
     //  [with extent, cause]
     ensures made { IfOk result (λ found. state_of bytes.now ≡ Some (T.state found.0)) }
     ensures extent { IfOk result (λ found. HasExtent bytes.now found.1) }
@@ -40,14 +40,14 @@ pub fn words_of<T: Made<A>, A: Allocator>(
     Ok((words, extent))
 }
 
-/// Returns the dictionary that a store's bytes stand for, for whoever only looks. Nothing is written, so the bytes may be those that
+/// Returns the dictionary that a store's bytes represent, for whoever only looks. Nothing is written, so the bytes may be those that
 /// `read_file` of `cedar_disk` has read while another program changes the store.
 ///
 /// # Errors
 /// As of [`words_of`].
 pub fn read_store<T: Made<A>, A: Allocator>(alloc: A, bytes: &[u8]) -> Result<T, DurableError>
     requires limit { T.limit }
-    //= A store's bytes that are only looked at give the dictionary that they stand for, and are refused as by an opening. [with cause]
+    //= A store's bytes that are only looked at give the dictionary that they represent, and are refused as by an opening. [with cause]
     ensures made { IfOk result (λ words. state_of bytes.now ≡ Some (T.state words)) }
     ensures cause { IfErr result (λ error. LoadCause bytes.now error) }
 {

@@ -35,7 +35,7 @@ pub type CedarStore<A, D> = Store<Cedar<A>, A, D>;
 /// The store of a dictionary of the reduced layout.
 pub type ReducedStore<A, D> = Store<ReducedCedar<A>, A, D>;
 
-/// Reads a file, and returns the dictionary that it stands for, how far it goes, and its bytes.
+/// Reads a file, and returns the dictionary that it represents, how far it goes, and its bytes.
 fn read_words<T: Made<A>, A: Allocator + Copy, D: Device>(
     alloc: A,
     device: &mut D,
@@ -79,26 +79,26 @@ impl<T: Made<A>, A: Allocator + Copy, D: Device> Store<T, A, D> {
     /// closed gate. A new file gets its header.
     ///
     /// # Errors
-    /// With the device: `Foreign` if the file is of another kind, `Damaged` if a record is damaged, `Corrupt` if one is not a change, `Refused`
-    /// if memory or slots were refused, also the memory for the file's bytes; then nothing has been written. `Device` if the device failed; the
-    /// file stands for the same dictionary.
+    /// With the device: `Foreign` if the file is of another kind, `Damaged` if a record is damaged, `Corrupt` if one is not a change,
+    /// `Refused` if memory or slots were refused, also the memory for the file's bytes; then nothing has been written. `Device` if the
+    /// device failed; the file represents the same dictionary.
     pub fn open(alloc: A, device: D) -> Result<Self, (DurableError, D)>
         requires limit { T.limit }
         // After a restart, what is read is what is on the disk.
         requires restarted { Only (D.seen device) (D.may_leave device) }
 
-        //= An opened store is ready, and its dictionary is the one that the file stood for. So no store is opened of a file of another
+        //= An opened store is ready, and its dictionary is the one that the file represented. So no store is opened of a file of another
         //  kind, or of one with a record that is no change. [with made, sound]
         ensures ready { IfOk result (λ store. (store.failed ≡ false) × IsReadyStore D.seen D.may_leave T.state store) }
         ensures made { IfOk result (λ store. state_of (D.seen device) ≡ Some (T.state store.words)) }
         ensures sound { IfOk result (λ _. IsCorrupt (D.seen device) → ⊥) }
 
         //= A store that was opened compacts its file by itself once it is longer than twice what its entries take, and 64 KiB. No
-        //  compaction is told yet. [with told]
+        //  compaction is reported yet. [with told]
         ensures rule { IfOk result (λ store. store.compaction ≡ Compaction.Beyond 2 65536) }
         ensures told { IfOk result (λ store. store.last_compaction ≡ None) }
 
-        //= A crash at any moment while it is opened leaves a file that stands for the same dictionary, even if it isn't opened. [with
+        //= A crash at any moment while it is opened leaves a file that represents the same dictionary, even if it isn't opened. [with
         //  any_moment_err]
         ensures any_moment { IfOk result (λ store. LeavesOnly D.moment D.left_since device store.journal.device
             (λ c. state_of c ≡ state_of (D.seen device))) }
@@ -209,7 +209,7 @@ impl<T: Words, A: Allocator + Copy, D: ReplaceDevice> Store<T, A, D> {
     pub fn insert_bytes(&mut self, key: &[u8], value: i32) -> Result<Option<i32>, DurableError>
         requires ready { IsReadyStore D.seen D.may_leave T.state self.old }
 
-        //= An acknowledged insert or update has stored the value in the dictionary, and the file stands for it, on the disk. [with ready;
+        //= An acknowledged insert or update has stored the value in the dictionary, and the file represents it, on the disk. [with ready;
         //  also insert, update_bytes, update]
         ensures stored { OnOk result (HasState T.state self.new (after_put (T.state self.old.words) key.now value)) }
         ensures ready { IsReadyStore D.seen D.may_leave T.state self.new }
@@ -217,7 +217,7 @@ impl<T: Words, A: Allocator + Copy, D: ReplaceDevice> Store<T, A, D> {
         //= An insert returns the value that the key held before. [also insert]
         ensures held { IfOk result (λ held. held ≡ number_at (T.state self.old.words).tree key.now) }
 
-        //= A crash at any moment of an insert or update leaves a file that stands for the dictionary from before it, with the change or
+        //= A crash at any moment of an insert or update leaves a file that represents the dictionary from before it, with the change or
         //  without. [also insert, update_bytes, update]
         ensures any_moment { CrashLeavesEither D.moment D.left_since T.state self.old self.new (after_put (T.state self.old.words) key.now value) }
 
@@ -227,7 +227,8 @@ impl<T: Words, A: Allocator + Copy, D: ReplaceDevice> Store<T, A, D> {
         ensures untouched { self.old.failed ≡ true → self.new ≡ self.old }
 
         //= A change leaves the rule as it was. It adds one record to those of the file, and leaves them, unless the rule is another one
-        //  than `Never`: then the file may have been made short instead, which is told. [with recorded; also insert, update_bytes, update]
+        //  than `Never`: then the file may have been made short instead, which is reported. [with recorded; also insert, update_bytes,
+        //  update]
         ensures rule { self.new.compaction ≡ self.old.compaction }
         ensures recorded { OnOk result (IsRecordedIn D.seen self.old self.new (put_at key.now value ∷ [])) }
 
@@ -240,8 +241,8 @@ impl<T: Words, A: Allocator + Copy, D: ReplaceDevice> Store<T, A, D> {
         ensures cause { IfErr result (IsChangeCause D.faults self.old self.new (fault key.now value) (length key.now + 5)) }
 
         //= After an error of the device the store has failed. After `NoRoom` it hasn't: the dictionary is as it was, and so is where the
-        //  records end; the file stands for it, on the disk. After any other, the dictionary, the file and the store are as they were. [also
-        //  insert, update_bytes, update]
+        //  records end; the file represents it, on the disk. After any other, the dictionary, the file and the store are as they were.
+        //  [also insert, update_bytes, update]
         ensures err { IfErr result (LeavesStore T.state self.old self.new (after_put (T.state self.old.words) key.now value)) }
     {
         if self.failed {
@@ -339,14 +340,14 @@ impl<T: Words, A: Allocator + Copy, D: ReplaceDevice> Store<T, A, D> {
     pub fn erase_bytes(&mut self, key: &[u8]) -> Result<bool, DurableError>
         requires ready { IsReadyStore D.seen D.may_leave T.state self.old }
 
-        //= An acknowledged erasure has removed the key from the dictionary, and the file stands for it, on the disk. It returns whether the
+        //= An acknowledged erasure has removed the key from the dictionary, and the file represents it, on the disk. It returns whether the
         //  key was held. If it wasn't, the file doesn't change. [with ready, answer, missed; also erase]
         ensures erased { IfOk result (λ held. HasState T.state self.new (if held then after_erase (T.state self.old.words) key.now else (T.state self.old.words))) }
         ensures ready { IsReadyStore D.seen D.may_leave T.state self.new }
         ensures answer { IfOk result (λ held. held ≡ is_some (number_at (T.state self.old.words).tree key.now)) }
         ensures missed { IfOk result (λ held. held ≡ false → self.new.journal ≡ self.old.journal) }
 
-        //= A crash at any moment of an erasure leaves a file that stands for the dictionary from before it, with the change or without.
+        //= A crash at any moment of an erasure leaves a file that represents the dictionary from before it, with the change or without.
         //  [also erase]
         ensures any_moment { CrashLeavesEither D.moment D.left_since T.state self.old self.new (after_erase (T.state self.old.words) key.now) }
 
@@ -362,8 +363,8 @@ impl<T: Words, A: Allocator + Copy, D: ReplaceDevice> Store<T, A, D> {
         //  back, or if the device failed. [also erase]
         ensures cause { IfErr result (IsEraseCause D.faults self.old self.new (length key.now + 1)) }
 
-        //= After an error of the device the store has failed. After `NoRoom` it hasn't: the dictionary is as it was, and the file stands
-        //  for it. After any other, the dictionary, the file and the store are as they were. [also erase]
+        //= After an error of the device the store has failed. After `NoRoom` it hasn't: the dictionary is as it was, and the file
+        //  represents it. After any other, the dictionary, the file and the store are as they were. [also erase]
         ensures err { IfErr result (LeavesStore T.state self.old self.new (after_erase (T.state self.old.words) key.now)) }
     {
         if self.failed {
@@ -411,13 +412,13 @@ impl<T: Words, A: Allocator + Copy, D: ReplaceDevice> Store<T, A, D> {
     pub fn apply_batch(&mut self, changes: &[Change<'_>]) -> Result<(), DurableError>
         requires ready { IsReadyStore D.seen D.may_leave T.state self.old }
 
-        //= Once a batch is acknowledged, the dictionary is as all of its changes leave it, one after another, and the file stands for that,
+        //= Once a batch is acknowledged, the dictionary is as all of its changes leave it, one after another, and the file represents that,
         //  on the disk. A batch of no changes leaves the file as it was. [with ready, nothing]
         ensures made { OnOk result (HasState T.state self.new (all_changed (T.state self.old.words) (changes_told changes.now))) }
         ensures ready { IsReadyStore D.seen D.may_leave T.state self.new }
         ensures nothing { OnOk result (changes.now ≡ [] → self.new.journal ≡ self.old.journal) }
 
-        //= A crash at any moment of a batch leaves a file that stands for the dictionary from before it, or for the one with all of its
+        //= A crash at any moment of a batch leaves a file that represents the dictionary from before it, or the one with all of its
         //  changes.
         ensures any_moment { CrashLeavesEither D.moment D.left_since T.state self.old self.new (all_changed (T.state self.old.words) (changes_told changes.now)) }
 
@@ -439,7 +440,7 @@ impl<T: Words, A: Allocator + Copy, D: ReplaceDevice> Store<T, A, D> {
         ensures cause { IfErr result (IsBatchCause D.faults self.old self.new (changes_told changes.now)) }
 
         //= After an error of the device the store has failed and the dictionary has all of a batch. After `NoRoom` it hasn't: the
-        //  dictionary is as it was, and the file stands for it. After any other, the dictionary, the file and the store are as they were.
+        //  dictionary is as it was, and the file represents it. After any other, the dictionary, the file and the store are as they were.
         ensures err { IfErr result (LeavesStore T.state self.old self.new (all_changed (T.state self.old.words) (changes_told changes.now))) }
     {
         if self.failed {

@@ -25,14 +25,14 @@ pub struct Table<L: Layout, const SLOTS: usize, A: Allocator> {
 impl<L: Layout, const SLOTS: usize, A: Allocator> Table<L, SLOTS, A> {
     ghost use Rattle.cedar_table.specs.Words.{AddsBlock, block_at, capacity_of, cells, cells_without, check_at, empty_tree, fields, Gives, HasPlaces, Held, InfoWritten, is_held, IsNewPlaces, IsPlace, IsSlotLimit, IsTable, IsWellFormed, MakesBlocks, MayClaim, MayRefuse, Memory, NodeWritten, NoPlace, range_with_len, reading, reject_at, SameFrame, SameHeld, SameSettings, SameSlots, size_of, Takes, tree_of};
 
-    /// A table with one block, in which the root alone is held. It stands for the empty tree.
+    /// A table with one block, in which the root alone is held. It represents the empty tree.
     pub fn new(alloc: A, ordered: bool, max_trial: i32) -> Result<Self, Shortage>
     where
         A: Copy,
         requires tried { pos 1 ≤ℤ max_trial }
         requires limit { IsSlotLimit SLOTS }
 
-        //= A new table is well-formed and stands for the empty tree; only the root is held. [with tree, sound, bare]
+        //= A new table is well-formed and represents the empty tree; only the root is held. [with tree, sound, bare]
         ensures well_formed { IfOk result (λ table. IsWellFormed SLOTS (fields table)) }
         ensures tree { IfOk result (λ table. tree_of (fields table) ≡ empty_tree) }
         ensures sound { IfOk result (λ table. IsTable SLOTS (fields table).places) }

@@ -19,7 +19,7 @@ ArePathsKeys pairs = AllByRecursion (λ pair. IsKey pair.0) pairs
 abbrev pub IsTreeOf : List Entry → Tree → Type 0
 IsTreeOf pairs t = IsSound t × IsAscending t.children × (walk t ≡ pairs)
 
--- x stands in a list, and y later in it
+-- x is in a list, and y later in it
 abbrev pub ComesBefore : {X : Type 0} → List X → X → X → Type 0
 ComesBefore {X} xs x y = (before : List X) × (after : List X) × (xs ≡ before ++ x ∷ after) × Contains after y
 

@@ -27,7 +27,7 @@ abbrev pub CutStaysLocal : Type 0
 CutStaysLocal =
     (t : Tree) (k : List ℕ) (q : List ℕ) → IsSoundBelow t.children → (q ≢ k) → number_at (cut t k) q ≡ number_at t q
 
--- of two puts at a path the later one stands
+-- of two puts at a path the later one counts
 abbrev pub LaterPutStands : Type 0
 LaterPutStands =
     (t : Tree) (ordered : Bool) (k : List ℕ) (v : ℤ) (w : ℤ) → put (put t ordered k v) ordered k w ≡ put t ordered k w
@@ -89,7 +89,7 @@ abbrev pub CutKeepsAscending : Type 0
 CutKeepsAscending =
     (t : Tree) (k : List ℕ) → IsAscending t.children → IsAscending (cut t k).children
 
--- an entry stands in the walk exactly if it is held
+-- an entry is in the walk exactly if it is held
 abbrev pub WalkHasHeld : Type 0
 WalkHasHeld =
     (t : Tree) (k : List ℕ) (v : ℤ) → IsSoundBelow t.children → (Contains (walk t) (k, v) ↔ (number_at t k ≡ Some v))

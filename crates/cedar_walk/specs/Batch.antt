@@ -1,4 +1,4 @@
--- Where a look-up stands that is one of several in step.
+-- How far a look-up is that is one of several in step.
 use Rattle.std.specs.Prelude.{◌≡◌, ℕ, ◌<◌, List, [], drop, get_or, length, map, Option, Some, None}
 use Rattle.std.specs.Borrow.{Bor}
 use Rattle.cedar_tree.specs.Tree.{Tree, number_at}

@@ -1,4 +1,4 @@
--- Where a walk along a query stands in a table.
+-- How far a walk along a query is in a table.
 use Rattle.std.specs.Prelude.{◌≡◌, ℕ, ◌-◌, ◌<◌, ◌≤◌, List, [], ◌∷◌, length, MatchOption, take, Option, Some, None}
 use Rattle.cedar_tree.specs.Tree.{Tree}
 use Rattle.cedar_tree.specs.Queries.{node_at}

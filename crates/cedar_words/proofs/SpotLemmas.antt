@@ -25,7 +25,7 @@ none_behind t place text e k low =
     no_bytes [] h = refl
     no_bytes (b ∷ q) h = absurd (omega (arith, h))
 
--- a place at which no key begins may stand before them
+-- a position at which no key begins may come before them
 leftmost_from : (t : Tree) (text : List ℕ) (place : ℕ) (spots : List Spot) → longest t (drop place text) ≡ None → IsLeftmost t text (place + 1) spots → IsLeftmost t text place spots
 leftmost_from t text place [] none is = λ k low. elim (eqb_tells place k) [
   | inl same ↦ ap (λ p. longest t (drop p text)) (sym same.1) ∙ none
@@ -74,7 +74,7 @@ leftmost_behind t text zero place (b ∷ rest) e h =
 pub keywords_leftmost : (t : Tree) (text : List ℕ) → IsLeftmost t text 0 (keywords_in t text)
 keywords_leftmost t text = leftmost_behind t text 0 0 text refl (omega arith)
 
--- nothing stands where no byte is left
+-- nothing is found where no byte is left
 no_spots : (t : Tree) (place : ℕ) (q : List ℕ) → length q ≡ 0 → spots_from t place q ≡ []
 no_spots t place [] h = refl
 no_spots t place (b ∷ q) h = absurd (omega (arith, h))

@@ -1,4 +1,4 @@
--- Keys that stand in a text.
+-- Keys that are in a text.
 use Rattle.std.specs.Prelude.{◌≡◌, ℕ, ◌+◌, ◌-◌, ◌<◌, ◌≤◌, ℤ, List, [], ◌∷◌, ◌++◌, length, drop, take, map, Option, Some, None, option_map}
 use Rattle.std.specs.List.{filter_map}
 use Rattle.cedarwood.specs.Tree.{Tree, number_at}

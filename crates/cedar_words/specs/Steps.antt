@@ -53,12 +53,12 @@ pub record AreCostsOver (tree : Tree) (unknown : ℕ → ℕ) (text costs : List
 abbrev pub AreCosts : Tree → (ℕ → ℕ) → List ℕ → List ℕ → Type 0
 AreCosts tree unknown text costs = (length costs ≡ length text + 1) × AreCostsOver tree unknown text costs
 
--- what a byte tells of a step: 255 nothing, 0 that it goes over one byte without a number, and else how many bytes its key has, whose
+-- what a byte says of a step: 255 nothing, 0 that it goes over one byte without a number, and else how many bytes its key has, whose
 -- number isn't negative
 abbrev pub IsMark : Step → ℕ → Type 0
 IsMark step mark = (mark ≡ 255) ⊎ MatchOption step.value (mark ≡ 0) (λ v. (mark ≡ step.len) × (v ≡ pos (unsigned_abs v)) × (unsigned_abs v < 2 ^ 31))
 
--- what tells of the best step over so many of the last bytes
+-- what says which step over so many of the last bytes is the best
 abbrev pub mark_at : List ℕ → ℕ → ℕ
 mark_at marks left = slice_index_or marks left 0
 

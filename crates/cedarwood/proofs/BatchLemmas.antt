@@ -91,7 +91,7 @@ sizes_of s t (k ∷ ks) answers h =
 
 -- ---- erasures, a key at a time
 
--- the key at an index is erased, and answered
+-- the key at an index is erased, and its result is known
 pub erasure_more : (s t u : Dictionary) (keys : List (Bor (List ℕ))) (answers : List Bool) (i : ℕ) (d : Bor (List ℕ)) (held : Bool) → i < length keys → i < length answers
     → IsErasures s t (take i (keys_of keys)) (take i answers) → IsErasure t u (get_or keys i d).now held → IsErasures s u (take (i + 1) (keys_of keys)) (take (i + 1) (set answers i held))
 erasure_more s t u keys answers i d held h room so_far last =

@@ -27,7 +27,7 @@ module _ (one two : CedarBuilder) (ordered : one.ordered ≡ two.ordered) (max_t
       → IsSortedBuild layout slots two pairs made
   built_alike layout slots pairs made is = record { faulty = is.faulty; sorted = sorted_alike layout pairs made is.sorted; refused = is.refused }
 
--- what a table lacked is told as itself
+-- what a table lacked is reported as itself
 lacked : (e : Shortage) (P : Type 0) → (e ≡ shortage.Memory) ⊎ ((e ≡ shortage.SlotLimit) × P) → (told e ≡ Memory) ⊎ ((told e ≡ SlotLimit) × P)
 lacked e P (inl memory) = inl (ap told memory)
 lacked e P (inr limit) = inr (ap told limit.0, limit.1)

@@ -61,7 +61,7 @@ module _ (slots n : ℕ) (T T' : Fields) (d : Dictionary) (same : dictionary_of 
   asks_for_none well (Ok x) h room = refl
   asks_for_none well (Err e) h room = absurd (never_with_room well e h room)
 
-  -- past the limit it is the limit that is told
+  -- past the limit it is the limit that is reported
   pub tells_limit : IsWellFormed slots T' → size_of T' ≡ size_of T → (r : Result (Unit {0}) Shortage) → OnOk r (size_of T' + 256 * n ≤ capacity_of T') → IfErr r (table.LacksBlocks T slots n)
       → slots < d.size + 256 * n → told_outcome r ≡ Err SlotLimit
   tells_limit well size (Ok x) spare h past = absurd (limit_is_kept well size spare past)

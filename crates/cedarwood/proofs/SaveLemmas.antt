@@ -54,7 +54,7 @@ written_through contents bytes before after made filled flushed inner unused gro
 
 -- ---- where it was written
 
--- a path and what follows, told apart
+-- a path and what follows, kept apart
 told_apart : (p q b c : List ℕ) → address p ++ b ≡ address q ++ c → (p ≡ q) × (b ≡ c)
 told_apart p q b c is =
     let long : length p ≡ length q = ap (λ (l : List ℕ). get_or l 0 0) is in
@@ -62,7 +62,7 @@ told_apart p q b c is =
     let same : p ≡ q = sym (take-append_seam p b) ∙ ap (λ n. take n (p ++ b)) long ∙ ap (λ l. take (length q) l) rest ∙ take-append_seam q c in
     (same, append_cancel_left q b c (ap (λ l. l ++ b) (sym same) ∙ rest))
 
--- what was written behind a path, where nothing stood before
+-- what was written behind a path, where nothing was before
 pub lands : (path whole p b q c : List ℕ) → p ≡ path → b ≡ [] → address q ++ c ≡ (address p ++ b) ++ whole → (q ≡ path) × (c ≡ whole)
 lands path whole p b q c is empty grown =
     told_apart q path c whole

@@ -89,7 +89,7 @@ pub first_fault : {X : Type 0} (f rest whole : Option CedarError) (r r' : Result
 first_fault None rest whole r r' e is faulty sound was same = absurd (not_both r e (sound refl) was)
 first_fault (Some x) rest whole r r' e is faulty sound was same = subst (λ o. IfSome o (λ y. r' ≡ Err y)) (sym is) (sym same ∙ faulty)
 
--- a fault that a test answered is handed on
+-- a fault that a test returned is handed on
 pub fault_handed_on : {X Y : Type 0} (f : Option CedarError) (r : Result X CedarError) (r' : Result Y CedarError) (e : CedarError) → IfSome f (λ x. r ≡ Err x) → (f ≡ None → IsOk r) → r ≡ Err e → r' ≡ Err e → IfSome f (λ x. r' ≡ Err x)
 fault_handed_on None r r' e faulty sound was is = absurd (not_both r e (sound refl) was)
 fault_handed_on (Some x) r r' e faulty sound was is = let same : e ≡ x = cc in subst (λ y. r' ≡ Err y) same is

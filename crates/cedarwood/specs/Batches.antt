@@ -1,4 +1,4 @@
--- What a batch of updates or of erasures answers, and what it leaves.
+-- What a batch of updates or of erasures returns, and what it leaves.
 use Rattle.std.specs.Prelude.{◌≡◌, ◌↔◌, ℕ, ◌<◌, pos, Bool, IsTrue, List, [], ◌∷◌, fold, get_or, is_some, length, Some, take, IsSome, Result, Ok, Err}
 use Rattle.cedar_tree.specs.Queries.{Entry}
 use Rattle.cedar_tree.specs.State.{State, after_erase}
@@ -25,7 +25,7 @@ pub record StopsAt (layout : LayoutKind) (slots : ℕ) (before after : Dictionar
       × IsUpdate layout slots between after (pair_at entries refusal.index).0 (pair_at entries refusal.index).1 (Err refusal.error)
 
 -- the pairs are stored by updates one after another, each of the dictionary that the one before it left; one that is refused is
--- the last, and its place is told
+-- the last, and its index is returned
 abbrev pub IsUpdates : LayoutKind → ℕ → Dictionary → Dictionary → List Entry → Result (Unit {0}) RefusedPair → Type 0
 IsUpdates layout slots before after entries (Ok x) = IsBuild layout slots before entries (Ok tt) after
 IsUpdates layout slots before after entries (Err refusal) = StopsAt layout slots before after entries refusal

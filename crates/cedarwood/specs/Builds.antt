@@ -1,4 +1,4 @@
--- What keeps pairs from being stored, and what a build of them answers and leaves.
+-- What keeps pairs from being stored, and what a build of them returns and leaves.
 use Rattle.std.specs.Prelude.{◌≡◌, ◌<◌, ◌⊎◌, ℕ, zero, suc, List, [], ◌∷◌, fold, length, take, Option, None, Result, Ok, Err}
 use Rattle.cedar_tree.specs.Queries.{Entry}
 use Rattle.cedar_tree.specs.State.{after_put, State}
@@ -41,7 +41,7 @@ pub record IsRefusedBuild (slots : ℕ) (before after : Dictionary) (entries : L
   pub memory : refusal ≡ Memory → (after.size ≡ after.capacity) × (after.capacity < slots)
   pub limit : refusal ≡ SlotLimit → after.size ≡ slots
 
--- whether a call succeeded, without its answer
+-- whether a call succeeded, without its result
 abbrev pub outcome : {X : Type 0} → Result X CedarError → Result (Unit {0}) CedarError
 outcome (Ok x) = Ok tt
 outcome (Err e) = Err e

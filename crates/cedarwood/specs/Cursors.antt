@@ -1,4 +1,4 @@
--- Where cursors over the entries of a range stand in a table, and what a caller sees of them.
+-- How far cursors over the entries of a range are in a table, and what a caller sees of them.
 use Rattle.std.specs.Prelude.{◌≡◌, ℕ, ℤ, List, [], ◌++◌, filter, map, MatchOption, None, Option, Some}
 use Rattle.std.specs.Coded.{Coded, code_by, coded×, coded_ℕ, coded_ℤ, coded_list}
 use Rattle.std.proofs.Common.{refl}
@@ -26,7 +26,7 @@ cursor_code =
     (λ p. record { key = p.0; left = p.1.0; room = p.1.1 })
     (λ _. refl)
 
--- where it stands before the node of its first entry, if there is one
+-- where it is before it comes to the node of its first entry, if there is one
 abbrev pub place_before : Option Numbered → CursorPlace
 place_before None = End
 place_before (Some next) = Before next

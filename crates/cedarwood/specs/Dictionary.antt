@@ -12,7 +12,7 @@ use Rattle.cedarwood.specs.TableCode.{fields_code}
 use Rattle.cedarwood.specs.declared.figures.MemoryStats.{MemoryStats}
 use Rattle.cedar_model.specs.Meaning.WellFormed.{is_value}
 
--- the state that its answers come from, the tree with just those numbers that have slots of their own, how many failed searches
+-- the state that its results come from, the tree with just those numbers that have slots of their own, how many failed searches
 -- close a block, how many slots are in use and there are, and the table that it is kept in, which is what a file has of it
 pub record Dictionary : Type 0 where
   pub state : State

@@ -1,4 +1,4 @@
--- How a dictionary is made, and what is answered where it isn't.
+-- How a dictionary is made, and what is returned where it isn't.
 use Rattle.std.specs.Prelude.{◌≡◌, ◌⊎◌, ℕ, ◌+◌, ◌*◌, ◌≤◌, List, [], length, None, true, pos, IfErr, IfOk, IfSome, MatchResult, Result, Err}
 use Rattle.std.specs.Int.Signed.{≤ℤ_refl}
 use Rattle.cedar_tree.specs.Tree.{empty_tree}
@@ -28,7 +28,7 @@ pub record IsEmpty (settings : CedarBuilder) (d : Dictionary) : Type 0 where
 abbrev pub IsNew : CedarBuilder → Result Dictionary CedarError → Type 0
 IsNew settings made = MatchResult made (IsEmpty settings) (λ e. e ≡ Memory)
 
--- a new one stands in the place of another, or there was no memory for it and the other stays
+-- a new one has replaced another, or there was no memory for it and the other stays
 abbrev pub IsRenewed : CedarBuilder → Dictionary → Dictionary → Result (Unit {0}) CedarError → Type 0
 IsRenewed settings before after result = MatchResult result (λ _. IsEmpty settings after) (λ e. (e ≡ Memory) × (after ≡ before))
 
@@ -36,7 +36,7 @@ IsRenewed settings before after result = MatchResult result (λ _. IsEmpty setti
 -- key: so slots are wanted only by many of these
 pub record IsSorted (layout : LayoutKind) (settings : CedarBuilder) (pairs : List Entry) (d : Dictionary) : Type 0 where
   pub tree : d.state.tree ≡ asc pairs
-  -- where a number may stand in its node's own slot, just those of keys that begin longer ones have slots of their own; by default
+  -- where a number may be kept in its node's own slot, just those of keys that begin longer ones have slots of their own; by default
   -- all have
   pub marks : SortedMarks layout (asc pairs) d.marked
   pub ordered : d.state.ordered ≡ settings.ordered

@@ -31,7 +31,7 @@ pub record IsCompact (n : ℕ) (d : Dictionary) : Type 0 where
 pub record IsRebuilt (layout : LayoutKind) (before made : Dictionary) : Type 0 where
   pub state : made.state ≡ before.state
   pub max_trial : made.max_trial ≡ before.max_trial
-  -- where a number may stand in its node's own slot, just those of keys that begin longer ones have slots of their own; by default
+  -- where a number may be kept in its node's own slot, just those of keys that begin longer ones have slots of their own; by default
   -- all have
   pub marks : SortedMarks layout before.state.tree made.marked
   pub marked : IsMarked made
@@ -73,7 +73,7 @@ entry_of T place = (path_to T place.depth place.slot, place.number)
 abbrev pub IsEntryPlace : Fields → Numbered → Type 0
 IsEntryPlace T place = IsBelow (cells_in T) [] place.depth place.slot × (number_below T [] place.depth place.slot ≡ Some place.number)
 
--- some entries stand at these nodes
+-- some entries are at these nodes
 pub record ArePlaces (T : Fields) (entries : List Entry) (places : List Numbered) : Type 0 where
   pub same : entries ≡ map (entry_of T) places
   pub each : AllByRecursion (IsEntryPlace T) places

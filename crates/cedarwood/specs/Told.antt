@@ -1,4 +1,4 @@
--- What a table lacked, as a call on a dictionary tells it.
+-- What a table lacked, as a call on a dictionary reports it.
 use Rattle.cedar_slots.specs.declared.shortage.Shortage.{Shortage}
 use Rattle.cedar_slots.specs.declared.shortage.Shortage.TheVariants as shortage
 use Rattle.cedarwood.specs.declared.error.CedarError.{CedarError}

@@ -1,4 +1,4 @@
--- What an update answers, and what it leaves.
+-- What an update returns, and what it leaves.
 use Rattle.std.specs.Prelude.{◌≡◌, ◌⊎◌, ℕ, ℤ, ◌+◌, ◌-◌, ◌*◌, ◌<◌, ◌≤◌, false, List, [], ◌∷◌, length, None, IfSome, IsSome, IsOk, IfErr, OnOk, OnErr, Result, Err}
 use Rattle.cedar_tree.specs.Tree.{has_label, number_at}
 use Rattle.cedar_tree.specs.Queries.{slots_of_tree}
@@ -25,7 +25,7 @@ pub record IsUpdate (layout : LayoutKind) (slots : ℕ) (before after : Dictiona
   pub unchanged : IsSome (fault key v) → after ≡ before
   pub ok : OnOk result (after.state ≡ after_put before.state key v)
   pub err : OnErr result (after.state ≡ before.state)
-  -- which numbers have slots of their own: by default all. Where a number may stand in its node's own slot, the numbers of the key's
+  -- which numbers have slots of their own: by default all. Where a number may be kept in its node's own slot, the numbers of the key's
   -- fronts move into slots, and the key's has one if longer keys are held; all others stay where they are. A refused update moves none
   pub by_default : OnOk result (layout ≡ default_layout → after.marked ≡ after.state.tree)
   pub marks : OnOk result (layout ≡ reduced_layout → MarksPut before.state.tree before.marked after.marked key)

@@ -63,7 +63,7 @@ impl<L: Layout, const SLOTS: usize, A: Allocator + Copy> Trie<L, SLOTS, A> {
         //= It replaces the present dictionary by a rebuilt one, unless that has more slots. A rebuilt one has at most one block for each
         //  byte of a key, beside the first one. [by rebuilt, IsRebuilt, size]
         //= Of a rebuilt one at most 255 slots outside the first block are free, and 256 others for each entry, but for one of those with
-        //  each first byte. So there are no more slots afterwards than so few blocks need, which the tree tells. [by slots, bounded,
+        //  each first byte. So there are no more slots afterwards than so few blocks need, which the tree decides. [by slots, bounded,
         //  most_capacity]
         //= In a rebuilt one of the reduced layout exactly the numbers of keys that begin longer ones have slots of their own. [by marks,
         //  SortedMarks]

@@ -11,7 +11,7 @@ use std::fs;
 /// How many bytes a page of memory has.
 const PAGE: u64 = 4096;
 
-/// Measures saves and loads that are wanted, and tells the file's size.
+/// Measures saves and loads that are wanted, and prints the file's size.
 pub(crate) fn all(
     rt: &HostRuntime,
     alloc: Global,

@@ -9,7 +9,7 @@ use std::alloc::Global;
 /// How many keys a call of many look-ups has.
 const TOGETHER: usize = 256;
 
-/// Measures the look-ups that are wanted. Each is made once before, one by one, and has to answer the same again.
+/// Measures the look-ups that are wanted. Each is made once before, one by one, and has to return the same again.
 pub(crate) fn all(
     rt: &HostRuntime,
     alloc: Global,

@@ -3,7 +3,7 @@
 //! each measure a line `measure TAB nanoseconds TAB operations TAB sum`. With 0 passes each measure is made once and no clock is read: its
 //! nanoseconds are 0.
 //!
-//! What is timed stands in a function whose name begins with `measured`, and nothing else does: callgrind counts these functions alone.
+//! What is timed is in a function whose name begins with `measured`, and nothing else is: callgrind counts these functions alone.
 #![tactic(auto)]
 
 mod changes;

@@ -1,4 +1,4 @@
-//! What is measured, how often, and how it is timed and told.
+//! What is measured, how often, and how it is timed and printed.
 
 use anyhow::Result;
 use std::time::{CpuClock, Duration};
@@ -47,7 +47,7 @@ pub(crate) struct Watch {
     begun: Option<Duration>,
 }
 
-/// What a measure has answered: of how many operations, and the sum.
+/// What a measure has returned: of how many operations, and the sum.
 #[derive(Clone, Copy)]
 pub(crate) struct Answered {
     pub(crate) operations: usize,

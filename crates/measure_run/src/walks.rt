@@ -85,7 +85,7 @@ fn measured_prefixes(cedar: &Cedar<Global>, text: &[u8]) -> Answered {
     Answered { operations, sum }
 }
 
-/// All keys that begin with each of some prefixes. A result is told with how many bytes it has behind the prefix.
+/// All keys that begin with each of some prefixes. A result comes with how many bytes it has behind the prefix.
 #[inline(never)]
 fn measured_predictions(cedar: &Cedar<Global>, prefixes: &[&[u8]]) -> Answered {
     let mut sum: u64 = 0;

@@ -7,7 +7,7 @@ use crate::node::Node;
 use std::alloc::{AllocError, Allocator};
 use std::marker::Model;
 
-/// A labelled tree, each node of which owns its children. A caller sees the tree that it stands for.
+/// A labelled tree, each node of which owns its children. A caller sees the tree that it represents.
 #[derive(Drop)]
 pub struct PlainTree<A: Allocator> {
     root: Node<A>,

@@ -50,7 +50,7 @@ pub(crate) const COMMANDS: [Name; 17] = [
 pub(crate) struct Said {
     pub name: &'static str,
     pub about: &'static str,
-    /// What stands behind its options.
+    /// What follows its options.
     pub notes: &'static str,
 }
 

@@ -96,7 +96,8 @@ fn load_layout<'m, L: Layout, R: Read + Drop>(
     }
 }
 
-/// Makes the dictionary that a store's file stands for. The file isn't locked and doesn't change, so another program may change it meanwhile.
+/// Makes the dictionary that a store's file represents. The file isn't locked and doesn't change, so another program may change it
+/// meanwhile.
 fn load_store<'m, R: Read + Drop>(
     alloc: Global,
     path: &'m str,

@@ -63,7 +63,7 @@ signed_ascii (b ∷ bs) h =
           ]) refl k
     ]) refl h
 
--- a call that answered no value failed
+-- a call that returned no value failed
 pub failed : {T E : Type 0} (P : T → Type 0) (N : Type 0) (Q : E → Type 0) (r : Result T E) → MatchResult r P (λ e. N × Q e) → None ≡ result_ok r → N
 failed P N Q (Ok x) m e = absurd (cc)
 failed P N Q (Err x) m e = m.0

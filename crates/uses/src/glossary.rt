@@ -8,7 +8,7 @@ use cedarwood::{Cedar, CedarError};
 use std::alloc::{AllocError, Global};
 use std::marker::Model;
 
-/// Terms, each with the number of what explains it. They are texts: so where one stands in a text, it is a part of that text.
+/// Terms, each with the number of what explains it. They are texts: so where one is in a text, it is a part of that text.
 ///
 /// A contract sees the state of its dictionary.
 #[derive(Drop)]

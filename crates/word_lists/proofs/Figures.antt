@@ -1,4 +1,4 @@
--- Numbers in figures, and what stands before and behind a line's first tab.
+-- Numbers in figures, and what comes before and behind a line's first tab.
 use Rattle.std.proofs.Common.{◌≡◌, ℕ, ℤ, pos, negsuc, w32, List, [], ◌∷◌, Option, Some, None, true, false, cond, ◌&&◌, refl, sym, ap, ◌∙◌, arith, length, ◌≤◌, ◌<◌, nat_eq, of_z, to_z}
 use Rattle.std.proofs.lemmas.Bool.{eqb-true, false≢true, leb-true, le-leb}
 use Rattle.std.proofs.lemmas.Int.{ints, to_z-of_z}
@@ -59,7 +59,7 @@ parsed text (Err e) h = no_value text h
 pub not_text : (text : List ℕ) → (IsUtf8 text → ⊥) → None ≡ figures_number text
 not_text text h = no_value text (λ p. h (IsUtf8-from_ascii text (signed_ascii text p.0.1)))
 
--- the first place of a byte, as a search answers it
+-- the first position of a byte, as a search returns it
 pub first_byte : (b : ℕ) (text : List ℕ) (found : Option ℕ) → IsFirstByte (is_byte b) text found → found ≡ position (is_byte b) text
 first_byte b text None none = sym (rw at_end (grind (arith, common_steps))) where
   at_end : position_or_len (is_byte b) text ≡ length text
@@ -71,7 +71,7 @@ first_byte b text (Some at) first = sym (rw at_first (grind (arith, common_steps
   at_first : position_or_len (is_byte b) text ≡ at
   at_first = position_or_len_is (is_byte b) text at 0 (omega arith) (λ k low. not_true (first.0.before k (omega arith) low)) (λ _. first.1)
 
--- where a tab is found, it stands within the line
+-- where a tab is found, it is within the line
 pub tab_within : (line : List ℕ) (found : Option ℕ) → found ≡ position is_tab line → IfSome found (λ at. at < length line)
 tab_within line None e = tt
 tab_within line (Some at) e = (position-Some is_tab line at 0 (sym e)).0

@@ -29,7 +29,7 @@ first_plain b (x ∷ []) h = refl
 first_plain b (x ∷ (high ∷ [])) h = refl
 first_plain b (x ∷ (high ∷ (low ∷ rest))) h = ap (λ t. cond (t && (x == 120)) (named_of (decode_sized (high ∷ low ∷ []) 1)) (b, 1)) h
 
--- stands for itself
+-- represents itself
 pub read_plain : (text : List ℕ) → ((i : ℕ) → i < length text → (get_or text i 0 == 92) ≡ false) → read_as text ≡ text
 read_plain [] h = refl
 read_plain (b ∷ text) h =

@@ -89,20 +89,20 @@ fault_told held (errors.InvalidMaxTrial v) = tt
 fault_told held (errors.DuplicateKey i) = tt
 fault_told held (errors.KeysNotSorted i) = tt
 
--- what a refused entry leaves, where it is told of
+-- what a refused entry leaves, where it is reported
 pub refused_state : (X : Type 0) (o : Option CedarError) (word : List ℕ) (v : ℤ) (s t : State) (e : CedarError)
     → IfSome o (λ f. ◌≡◌ {A = Result X CedarError} (Err e) (Err f)) → (o ≡ None → IsShortage e) → t ≡ s → OnOk (line_refusal e) (t ≡ stored_by o s word v)
 refused_state X None word v s t e fine short same = short_refused (t ≡ after_put s word v) e (short refl)
 refused_state X (Some f) word v s t e fine short same = on_ok (line_refusal e) same
 
--- and what is told
+-- and what is reported
 pub refused_told : (X : Type 0) (o : Option CedarError) (held : Bool) (e : CedarError)
     → IfSome o (λ f. ◌≡◌ {A = Result X CedarError} (Err e) (Err f)) → (o ≡ None → IsShortage e) → IfOk (line_refusal e) (λ told. told ≡ told_by o held)
 refused_told X None held e fine short = short_told (λ told. told ≡ told_by None held) e (short refl)
 refused_told X (Some f) held e fine short =
     subst (λ (x : CedarError). IfOk (line_refusal x) (λ told. told ≡ told_by (Some f) held)) (sym (same_error e f fine)) (fault_told held f)
 
--- what an entry that is stored leaves, and what is told of it
+-- what an entry that is stored leaves, and what is reported of it
 pub stored_state : (o : Option CedarError) (word : List ℕ) (v : ℤ) (s t : State) → IfSome o (λ f. ◌≡◌ {A = Result (Unit {0}) CedarError} (Ok tt) (Err f)) → t ≡ after_put s word v
     → t ≡ stored_by o s word v
 stored_state None word v s t fine h = h
@@ -119,7 +119,7 @@ store_same e f h = cc
 pub update_err : {e f : CedarError} → e ≡ f → ◌≡◌ {A = Result (Unit {0}) CedarError} (Err e) (Err f)
 update_err h = ap (λ e. Err e) h
 
--- whether a word was held, as an erasure answers it
+-- whether a word was held, as an erasure returns it
 pub held_is : (held : Bool) (o : Option ℤ) → (IsTrue held ↔ IsSome o) → held ≡ is_some o
 held_is true (Some v) h = refl
 held_is false None h = refl

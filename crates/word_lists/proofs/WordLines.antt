@@ -67,7 +67,7 @@ lines_begun a b entries came (e ∷ later) whole some written = (
   written,
 )
 
--- some bytes stand as they are, and so does the next one
+-- some bytes are written as they are, and so is the next one
 pub plain_more : (t : Bool) (bytes done rest : List ℕ) (x : ℕ) → bytes ≡ done ++ rest → rest ≡ x ∷ drop 1 rest → escape t done ≡ done → is_plain t x ≡ true
     → (y : List ℕ) × (bytes ≡ y ++ take (length rest - 1) (drop 1 rest)) × (escape t y ≡ y)
 plain_more t bytes done rest x e first same plain = (

@@ -7,7 +7,7 @@ use Rattle.hex.specs.Hex.{encode_lower}
 use Rattle.cedar_tree.specs.Queries.{Entry}
 use Rattle.cedar_tree.specs.Tree.{Tree, number_at}
 
--- whether a byte of a word stands as it is: no tab, no byte 10, no backslash, and below 128 where the word isn't UTF-8
+-- whether a byte of a word is written as it is: no tab, no byte 10, no backslash, and below 128 where the word isn't UTF-8
 abbrev pub is_plain : Bool → ℕ → Bool
 is_plain text b = not (b == 9) && (not (b == 10) && (not (b == 92) && (text || ltb b 128)))
 

@@ -1,4 +1,4 @@
--- Texts by the words of a dictionary: the words that one begins with, the words that stand in it, and its cuts.
+-- Texts by the words of a dictionary: the words that one begins with, the words that are in it, and its cuts.
 use Rattle.std.specs.Prelude.{ℕ, ℤ, ◌+◌, ◌-◌, ◌^◌, ◌<◌, ltb, nat_le, Bool, ◌==◌, ◌&&◌, ◌||◌, not, if◌then◌else◌, Option, Some, None, List, [], ◌∷◌, ◌++◌, map, length, take, drop, get_or, is_some, decimal, codes, int_le, pos, unsigned_abs}
 use Rattle.cedar_tree.specs.Queries.{Entry, front}
 use Rattle.cedar_tree.specs.Tree.{Tree}
@@ -49,16 +49,16 @@ abbrev pub characters : List ℕ → ℕ
 characters [] = 0
 characters (b ∷ bytes) = characters_begun b + characters bytes
 
--- whether a sign stands before a token: none before the first one, and none before a byte without a number that goes on with a
+-- whether a sign comes before a token: none before the first one, and none before a byte without a number that goes on with a
 -- character
 abbrev pub is_parted : List ℕ → Token → Bool
 is_parted text t = ltb 0 t.0 && (is_some t.2 || not (continues_character (get_or text t.0 0)))
 
--- what stands before a token: the sign, or nothing
+-- what comes before a token: the sign, or nothing
 abbrev pub parting : List ℕ → List ℕ → Token → List ℕ
 parting sign text t = if is_parted text t then sign else []
 
--- a token, and what stands before it
+-- a token, and what comes before it
 abbrev pub parted_token : List ℕ → List ℕ → Token → List ℕ
 parted_token sign text t = parting sign text t ++ text_part text t.0 t.1
 
@@ -150,7 +150,7 @@ OnCheapestLine tree unknown sign line P = (tokens : List Token) × IsCheapestCut
 abbrev pub tab_field : ℕ → List ℕ
 tab_field number = decimal number ++ 9 ∷ []
 
--- the line of a word that stands in a text: the number of the text's line, the column, the word and its number, with tabs between them.
+-- the line of a word that is in a text: the number of the text's line, the column, the word and its number, with tabs between them.
 -- A column is one more than how many characters begin before the word
 abbrev pub spot_line : ℕ → List ℕ → Spot → List ℕ
 spot_line number text s = tab_field number ++ (tab_field (1 + characters (take s.0 text)) ++ entry_line (text_part text s.0 s.1, s.2))
@@ -160,7 +160,7 @@ abbrev pub spot_lines : ℕ → List ℕ → List Spot → List ℕ
 spot_lines number text [] = []
 spot_lines number text (s ∷ spots) = spot_line number text s ++ spot_lines number text spots
 
--- those of all words that stand in a line, and those of its keywords
+-- those of all words that are in a line, and those of its keywords
 abbrev pub match_lines : Tree → ℕ → List ℕ → List ℕ
 match_lines tree number line = spot_lines number (body_of line) (spots_from tree 0 (body_of line))
 

@@ -51,7 +51,7 @@ pub trait LineFaults {
 
     /// Hears of a line: its number, counted from 1, its bytes without those that end it, and what is wrong with it.
     fn tell(&mut self, number: u64, line: &[u8], fault: LineFault)
-        //= What a reporter was told, if it says so, has one line more then: its number, its bytes and its fault. [by Adds]
+        //= What a reporter heard, if it says so, has one line more then: its number, its bytes and its fault. [by Adds]
         ensures { Adds (told self.old) (told self.new) ((number, line.now, fault) ∷ []) };
 }
 

@@ -93,7 +93,7 @@ fn plain_pair(line: &[u8], number: u64) -> Option<(&[u8], i32)>
     Some((word, value))
 }
 
-/// Whether a text stands for itself, since it has no backslash.
+/// Whether a text represents itself, since it has no backslash.
 fn is_literal(text: &[u8]) -> bool
     ensures { IsTrue result → read_as text.now ≡ text.now }
 {

@@ -124,7 +124,7 @@ leaves_keep T ls (l ∷ w) held childless =
     let none_there = ap (λ (u : Tree). is_some (number_at u w)) (leaves_are_bare ls l) ∙ ap is_some (number_at-empty w) in
     absurd (false≢true (sym none_there ∙ held))
 
--- they stand where they stood, and the node's own where it has to
+-- they are kept as they were, and the node's own where it has to be
 pub last_kept : (layout : LayoutKind) (size size' : ℕ) (T T' : Cells) (f : Forest) (path : List ℕ) (a : ℕ) (number : Option ℤ) (ls : List ℕ) → layout ≡ reduced_layout → (path ≡ [] → ⊥) → node_at (root_of f) path ≡ empty_tree → IsAt T path a → T.stored a ≡ AtBase 0
     → Fills size size' T T' a number ls → KeepsOwn layout T' a number ls → KeepsLast T f → KeepsLast T' (edit_at path (λ _. number) (λ _. leaves ls) f)
 last_kept layout size size' T T' f [] a number ls reduced some bare at leaf fills own kept w held childless = absurd (some refl)

@@ -38,7 +38,7 @@ module _ (d : ℕ) (e : Entry) (es : List Entry) (t : Tree) (k : IsTreeOfSpan d 
       let test : nat_lt d (length e.0) ≡ true = grind (arith, nat_tests) in
       sym first.0 ∙ ap (λ b. cond b None (Some e.1)) test
 
-  -- where the first key goes on, all entries stand below the labels
+  -- where the first key goes on, all entries are below the labels
   pub lists_on : Lists d (e ∷ es) t.children
   lists_on =
       let first = number_first d t.number t.children e es k.walks k.sound in

@@ -1,4 +1,4 @@
--- The tree of sorted pairs, and a table that stands for it.
+-- The tree of sorted pairs, and a table that represents it.
 use Rattle.std.proofs.Common.{◌≡◌, ℕ, ◌<◌, ◌∙◌, sym, ap, refl, subst, inl, inr, arith, Bool, true, false, ◌==◌, Option, Some, None, List, [], ◌∷◌, ◌++◌, length}
 use Rattle.std.specs.Prelude.{ℤ, negsuc, IfSome}
 use Rattle.std.specs.List.{AllByRecursion}

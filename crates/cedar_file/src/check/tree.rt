@@ -1,4 +1,4 @@
-//! Tests of whether the held slots of a table stand for a tree.
+//! Tests of whether the held slots of a table represent a tree.
 
 ghost use Rattle.std.specs.Prelude.{◌*◌, ◌+◌, ◌/◌, ◌<◌, ◌^◌, ◌↔◌, ◌≡◌, ◌≢◌, ◌≤◌, count_by, IfOk, IsTrue, MatchOption, OnErr, OnOk, pos, ℕ};
 ghost use Rattle.cedar_file.specs.Words.{AtBase, base_in, base_of, block_at, cells, ComesBackIn, fields, GoesDown, GoesOn, GoesUp, HasRoom, is_held, is_value, IsTable, IsWellFormed, LooksLikeRoot, MeetsNode, OwnNumber, range_with_len, reading, size_of, StepsDown, StepsUp, walk_start};
@@ -367,7 +367,7 @@ fn count_held<L: Layout, const SLOTS: usize, A: Allocator, C: Ledger>(
     1 + table.size() - free
 }
 
-/// Tests whether the held slots stand for a tree: they are exactly those of its nodes and numbers, with values in range, labels
+/// Tests whether the held slots represent a tree: they are exactly those of its nodes and numbers, with values in range, labels
 /// in their order and as many entries as the table says. A slot is met once on the walk over the nodes, since it has one owner:
 /// so if as many were met as are held, these are all. It allocates nothing.
 pub fn check_tree<L: Layout, const SLOTS: usize, A: Allocator, C: Ledger>(

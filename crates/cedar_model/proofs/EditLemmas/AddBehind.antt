@@ -186,7 +186,7 @@ labels_inserted l (child m n u rest) = elim (cases_lt l m) [
       ∙ sym (ap (λ t. cond t (l ∷ m ∷ labels rest) (m ∷ with_ascending_label l (labels rest))) b)
 ]
 
--- the new leaf stands at the path, at its ascending place
+-- the new leaf is at the path, at its ascending place
 pub added_behind : (size : ℕ) (T T' : Cells) (f : Forest) (m : ℕ) (p : List ℕ) (l : ℕ) → HoldsTree size T f → OnPath T (m ∷ p) → AddsBehind size T T' (slot_at T (m ∷ p)) l
     → ((n : Option ℤ) (ls : List ℕ) → Node size T (slot_at T (m ∷ p)) n ls → Ascends ls)
     → (j : ℕ) (v : List ℕ) → follow_on (j ∷ v) [] ≡ m ∷ p → HoldsTree size T' (edit_at (j ∷ v) (λ n. n) (λ u. insert_ascending u l empty_tree) f)

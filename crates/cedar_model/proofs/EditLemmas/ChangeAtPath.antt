@@ -49,7 +49,7 @@ distinct_grown : (size : ℕ) (T : Cells) (s : ℕ) (f : Forest) → DistinctLis
 distinct_grown size T s none d g = tt
 distinct_grown size T s (child l n u rest) d g = (d.0, distinct_grown size T (below T s l) u (node_distinct size T (below T s l) n (labels u) g.0) g.1, distinct_grown size T s rest d.1 g.2)
 
--- what stands last before a common tail
+-- what comes last before a common tail
 append_tail : (xs ys q : List ℕ) (l m : ℕ) → xs ++ (l ∷ q) ≡ ys ++ (m ∷ q) → l ≡ m
 append_tail [] [] q l m e = cc
 append_tail [] (y ∷ ys) q l m e = absurd (omega (arith, ap length e, length-append ys (m ∷ q)))

@@ -106,7 +106,7 @@ module _ (size : ℕ) (T T' : Cells) (l : ℕ) where
   label_added_at_root true f w u (inr k) = added_behind_at_root size T T' f l w k.1 (labels_ascend f (u refl))
   label_added_at_root false f w u (inr k) = let no = k.0 in cc
 
-  -- wherever the node stands
+  -- wherever the node is
   pub label_added : (ordered : Bool) (f : Forest) (w : List ℕ) (a : ℕ) → HoldsTree size T f → (ordered ≡ true → IsAscending f) → IsAt T w a → AddsLabel size ordered T T' a l → HoldsTree size T' (edit_at w (λ n. n) (add_leaf ordered l) f)
   label_added ordered f [] a h u at k = label_added_at_root ordered f h u (subst (λ s. AddsLabel size ordered T T' s l) (sym at.1) k)
   label_added ordered f (j ∷ v) a h u at k =

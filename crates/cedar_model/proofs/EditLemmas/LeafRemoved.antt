@@ -59,7 +59,7 @@ patched_child T x q n = let b : nat_eq q x ≡ false = grind (arith, nat_tests) 
 is_same : (x : ℕ) → nat_eq x x ≡ true
 is_same x = grind (arith, nat_tests)
 
--- what stands in the patched table stands in the table
+-- what is in the patched table is in the table
 module _ (size : ℕ) (T : Cells) (f : Forest) (x : ℕ) (gone : (c : ℕ) → T.check x ≡ pos c → ⊥) (alone : (q : ℕ) → T.check q ≡ pos x → ⊥) (not_root : x ≡ 0 → ⊥) (w : HoldsTree size (patched T x) f) where
   same_family : (s : ℕ) (h : Head) (ls : List ℕ) → (s ≡ x → ⊥) → Family size (patched T x) s h ls → Family size T s h ls
   same_family s h ls n k =

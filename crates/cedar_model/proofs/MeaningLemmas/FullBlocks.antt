@@ -25,7 +25,7 @@ use Rattle.cedar_model.proofs.MeaningLemmas.HeldCount.{count_is_used}
 use Rattle.cedar_model.proofs.MeaningLemmas.OneTree.{family_distinct, family_no_zero}
 use Rattle.cedar_slots.proofs.RingsLemmas.InBlock.{xor_block}
 
--- ---- how often a label stands among those of a node
+-- ---- how often a label is among those of a node
 
 occurs_among : (x : ℕ) (xs : List ℕ) → 0 < occurs x xs → Among xs x
 occurs_among x [] h = absurd (omega arith)
@@ -34,7 +34,7 @@ occurs_among x (y ∷ ys) h = elim (cases_eq x y) [
   | inr n ↦ inr (occurs_among x ys (omega (arith, h, occurs_other x y ys n)))
 ]
 
--- each member of a list that has none twice stands in it once
+-- each member of a list that has none twice is in it once
 distinct_once : (x : ℕ) (xs : List ℕ) → DistinctList xs → Among xs x → occurs x xs ≡ 1
 distinct_once x [] d a = absurd a
 distinct_once x (y ∷ ys) d a = elim (cases_eq x y) [

@@ -85,7 +85,7 @@ entries_named T s (child l n u rest) =
     at_most_one None = omega arith
     at_most_one (Some v) = omega arith
 
--- ---- where each number stands in a slot of its own
+-- ---- where each number is in a slot of its own
 
 number_length : (T : Cells) (s : ℕ) (n : Option ℤ) → own_number (T.stored s) ≡ None → number_in T s ≡ n → length (number_slots T s) ≡ length (own_entry n)
 number_length T s n none_own reads = by_test (has_number_slot T s) refl
@@ -120,7 +120,7 @@ slots_length size T root own s (child l n u rest) mine g =
       length-append (own_entry n) (walk_forest u),
     )
 
--- ---- wherever the numbers stand
+-- ---- wherever the numbers are kept
 
 mark_length : (T : Cells) (s : ℕ) (n : Option ℤ) → number_in T s ≡ n → length (number_slots T s) ≡ length (own_entry (cond (has_number_slot T s) n None))
 mark_length T s n reads = by_test (has_number_slot T s) refl

@@ -1,4 +1,4 @@
--- A table whose slots stand for a tree is well-formed with that tree.
+-- A table whose slots represent a tree is well-formed with that tree.
 use Rattle.std.proofs.Common.{◌≡◌, ℕ, ◌<◌, length, refl, ap, sym, ◌∙◌, subst, inl, inr, None, cond, true, false, arith, ℤ}
 use Rattle.std.specs.Prelude.{pos, negsuc, nat_lt}
 use Rattle.std.proofs.lemmas.Bool.{cases_lt}
@@ -32,7 +32,7 @@ in_use T q c e = elim (cases_lt q (size_of T)) [
 pub tree_of_is : (T : Fields) (f : Forest) → HoldsTree (size_of T) (cells_in T) f → tree_of T ≡ record { number = None; children = f }
 tree_of_is T f w = tree_is (size_of T) (cells_in T) f (in_use T) w
 
--- the root of a well-formed table stands for its tree
+-- the root of a well-formed table represents its tree
 pub root_place : (slots : ℕ) (T : Fields) → IsWellFormed slots T → Stands (size_of T) (cells_in T) 0 (tree_of T)
 unfolding tree_read
 root_place slots T w = root_stands (size_of T) (cells_in T) (tree_of T).children w.stands.stands

@@ -147,7 +147,7 @@ pub record CanAdd (size : ℕ) (T : Cells) (a l : ℕ) : Type 0 where
   pub root : (c : ℕ) → T.check 0 ≡ pos c → ⊥
   pub not_own : T.check a ≡ pos a → ⊥
 
--- slot x with label l stands in its chain behind slot b
+-- slot x with label l is in its chain behind slot b
 pub record LinkedBehind (T T' : Cells) (b x l : ℕ) : Type 0 where
   pub stored : (q : ℕ) → T'.stored q ≡ T.stored q
   pub base : (q : ℕ) → T'.base q ≡ T.base q
@@ -220,7 +220,7 @@ pub record IsLabelOf (T : Cells) (a m b : ℕ) : Type 0 where
   pub owner : T.check b ≡ pos a
   pub is : b ≡ below T a m
 
--- slot b stands in a's chain before a label l that is put behind it: the chain begins there, or it is a smaller label's
+-- slot b is in a's chain before a label l that is put behind it: the chain begins there, or it is a smaller label's
 -- in an ordered table
 abbrev pub IsBehind : Cells → Bool → ℕ → ℕ → ℕ → Type 0
 IsBehind T ordered a l b = IsLead T a b ⊎ ((ordered ≡ true) × (m : ℕ) × (m < l) × IsLabelOf T a m b)
@@ -246,11 +246,11 @@ abbrev pub AddsLabel : ℕ → Bool → Cells → Cells → ℕ → ℕ → Type
 AddsLabel size ordered T T' a l =
     (AddsFirst size T T' a l × (ordered ≡ true → FirstIs T a (IsPlaceFor l))) ⊎ ((ordered ≡ true) × AddsBehind size T T' a l)
 
--- slot b stands in a's chain: before all labels, or it is a label's
+-- slot b is in a's chain: before all labels, or it is a label's
 abbrev pub IsLink : Cells → ℕ → ℕ → Type 0
 IsLink T a b = IsLead T a b ⊎ ((m : ℕ) × IsLabelOf T a m b)
 
--- slot b stands in a's chain right before label l
+-- slot b is in a's chain right before label l
 pub record LeadsTo (size : ℕ) (T : Cells) (a l b : ℕ) : Type 0 where
   pub inside : b < size
   pub link : IsLink T a b

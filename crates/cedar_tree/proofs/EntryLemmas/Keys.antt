@@ -1,4 +1,4 @@
--- That what a sound tree holds stands at keys, and that its entries make it again.
+-- That what a sound tree holds is at keys, and that its entries make it again.
 use Rattle.std.proofs.Common.{List, None, Option, Some, [], arith, cond, false, get_or, length, not, refl, suc, sym, true, ℕ, ℤ, ◌+◌, ◌<◌, ◌==◌, ◌||◌, ◌∙◌, ◌∷◌, ◌≡◌, ◌≤◌}
 use Rattle.std.specs.List.{AllByRecursion, Contains, position_or_len}
 use Rattle.std.proofs.lemmas.Bool.{eqb-false, eqb-true, false≢true}
@@ -24,7 +24,7 @@ held_path t (l ∷ k) v s h =
     let bounds = label_bounds t.children l s (held_label t.children l k v h) in
     (bounds.0, bounds.1, held_path (subtree t.children l) k v (sound_subtree t.children l s) h)
 
--- what is held stands at a key
+-- what is held is at a key
 pub held_key : (t : Tree) (k : List ℕ) (v : ℤ) → IsSound t → number_at t k ≡ Some v → IsKey k
 held_key t [] v s h = absurd (none-some (sym s.0 ∙ h)) where
   none-some : ◌≡◌ {A = Option ℤ} None (Some v) → ⊥

@@ -151,7 +151,7 @@ missing-fronts t (l ∷ k) s =
     let label = missing_label t.children l s in
     omega arith
 
--- and a node stands just where a key that is held begins with the path
+-- and there is a node just where a key that is held begins with the path
 pub front_of_node : (t : Tree) (p : List ℕ) → IsSoundBelow t.children → 0 < length p → is_bare (node_at t p) ≡ false → IsFront t p
 front_of_node t p s long h = let key = front_of_key t p s h in (long, key.0, key.1, key.2)
 

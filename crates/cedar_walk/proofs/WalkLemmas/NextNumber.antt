@@ -61,7 +61,7 @@ module _ (size : ℕ) (T : Cells) (s : ℕ) (t : Tree) (k : Stands size T s t) (
       by_head (own u) f y n = let z : AtBase b ≡ OwnNumber u = sym e ∙ y.based in cc
       by_head top f y n = cc
 
-  -- where the number stands in the node's own field there is none
+  -- where the number is kept in the node's own field there is none
   pub none_held : (u : ℤ) → T.stored s ≡ OwnNumber u → 0 ≡ first_sibling_label t.children
   none_held u e = by_head k.head t.children k.family (k.number ∙ has)
     where

@@ -48,7 +48,7 @@ impl<L: Layout, const SLOTS: usize, A: Allocator + Copy> Trie<L, SLOTS, A> {
         }
     }
 
-    /// `save_to_path`, which tells what it did: proofs about a caller can go by the calls that were made.
+    /// `save_to_path`, which returns what it did: proofs about a caller can go by the calls that were made.
     ///
     /// ```
     /// match cedar.save_to_path_noted(files, "words.cedar") {
@@ -162,7 +162,7 @@ impl<L: Layout, const SLOTS: usize, A: Allocator + Copy> Trie<L, SLOTS, A> {
         requires limit { IsLimit SLOTS }
 
         //= A load by path does with the file that it has opened, from its first byte on, what a load from a reader promises: a table comes
-        //  only with just the file's bytes, as far as they are known, and these decide the answer; or there was no memory for the buffer.
+        //  only with just the file's bytes, as far as they are known, and these decide the result; or there was no memory for the buffer.
         //  No contract of the system's files says which bytes these are. [by LoadsOpened]
         ensures loads { LoadsOpened (λ trie. trie.table) L.kind SLOTS memory_limit (R.remaining file) result }
     {

@@ -124,7 +124,7 @@ fn persistence_error(fault: Unwritten) -> CedarPersistenceError
     }
 }
 
-/// What is told where there is no memory for a buffer.
+/// What is returned where there is no memory for a buffer.
 pub(crate) fn no_room() -> CedarPersistenceError
     ensures { result ≡ AllocationFailed 8192 }
 {

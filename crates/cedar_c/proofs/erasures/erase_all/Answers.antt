@@ -7,7 +7,7 @@ use Rattle.cedar_c.specs.declared.erasures.Key.{Key}
 use Rattle.cedar_c.proofs.ErasedLemmas.{erased_fewer, erased_more, told_more}
 use Rattle.cedar_c.proofs.erasures.erase_all.Goals as goal
 
--- what stands behind the keys
+-- what follows the keys
 abbrev blank : Key
 blank = record { key = record { ref_ptr = (0, 0); now = [] } }
 

@@ -3,7 +3,7 @@ use Rattle.cedarwood.specs.Batches.{held_in_turn, keys_erased}
 use Rattle.cedar_c.specs.Pairs.{named_keys}
 use Rattle.cedar_c.proofs.erasures.erase_all.Given as goal
 
--- the keys before this one are erased, and as many as there is room for are told
+-- the keys before this one are erased, and the results of as many as there is room for are written
 abbrev pub invariant-loop-index : goal.invariant-loop-index
 invariant-loop-index g l =
     (l.trie.state ≡ keys_erased l.fn.trie.state (take l.index (named_keys l.keys)))

@@ -4,7 +4,7 @@ use Rattle.cedar_tree.specs.Queries.{walk}
 use Rattle.cedar_calls.specs.Replies.{AreTexts}
 use Rattle.cedar_calls.proofs.reply.some_texts.Given as goal
 
--- whatever texts stand for the entries that are left, those that were collected and these stand for all entries; and there is room
+-- whatever texts represent the entries that are left, those that were collected and these represent all entries; and there is room
 abbrev pub invariant-loop-entry : goal.invariant-loop-entry
 invariant-loop-entry g l =
     ((later : List (Option (List ℕ × ℤ))) → AreTexts later l.entry-iterator

@@ -9,7 +9,7 @@ use Rattle.cedar_store.specs.Changes.{after_payloads}
 use Rattle.cedar_store.specs.Compactions.{compacted_length}
 use Rattle.cedar_store.proofs.compact.image_of.Given as goal
 
--- what is left makes of what the file stands for what all entries make of a new dictionary
+-- what is left makes of what the file represents what all entries make of a new dictionary
 abbrev pub invariant-loop-entry : goal.invariant-loop-entry
 invariant-loop-entry g l = record {
   made : option_map (λ s. all_stored s l.entries) (after_payloads new_state (payloads_of l.image)) ≡ Some (all_stored new_state l.fn.entries);

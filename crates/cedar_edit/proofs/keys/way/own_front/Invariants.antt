@@ -6,7 +6,7 @@ use Rattle.cedar_table.specs.Table.Views.{cells, fields}
 use Rattle.cedar_model.specs.Table.TableFields.{size_of}
 use Rattle.cedar_edit.proofs.keys.way.own_front.Given as goal
 
--- the labels so far lead to the node, and none of the nodes before it stands in the way
+-- the labels so far lead to the node, and none of the nodes before it is in the way
 abbrev pub invariant-loop-length : goal.invariant-loop-length
 invariant-loop-length g l = record {
   inside : l.node < size_of (fields l.table);

@@ -5,7 +5,7 @@ use Rattle.cedar_walk.specs.Batch.{keys_of}
 use Rattle.cedarwood.proofs.BatchLemmas.{all_answers, all_erasures, behind_stay, erasure_more, sizes_of, state_of}
 use Rattle.cedarwood.proofs.trie.Trie.erase_batch.Goals as goal
 
--- what stands behind the keys
+-- what follows the keys
 abbrev blank : Bor (List ℕ)
 blank = record { ref_ptr = (0, 0); now = [] }
 

@@ -15,7 +15,7 @@ loop-left-init g c =
       back = subst (λ (ps : List Numbered). IsPutBack g.L.Layout.kind c.args.self.now.state.ordered c.args.self.now.max_trial (map (entry_of T) ps) c.args.self.now) (sym (drop_all (length places) places (omega arith))) c.requires.empty;
     }
 
--- what stands behind the places
+-- what follows the places
 abbrev blank : Numbered
 blank = record { slot = 0; depth = 0; number = pos 0 }
 

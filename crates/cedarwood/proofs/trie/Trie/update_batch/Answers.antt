@@ -7,7 +7,7 @@ use Rattle.cedarwood.proofs.BatchLemmas.{all_built, entry_count, update_more, up
 use Rattle.cedarwood.proofs.BuildLemmas.{built, kept}
 use Rattle.cedarwood.proofs.trie.Trie.update_batch.Goals as goal
 
--- what stands behind the pairs
+-- what follows the pairs
 abbrev blank : Pair
 blank = (record { ref_ptr = (0, 0); now = [] }, pos 0)
 
