@@ -5,14 +5,14 @@
  *
  * The rules for the caller. Nothing checks them, and breaking one is undefined behaviour, as with any C library:
  *
- * - Each pointer points to what its type says: a key to `length` bytes that can be read; matches, found and buffers to `room` places; pairs
- *   and keys to `count` of them, whose bytes are such. Each has at most PTRDIFF_MAX bytes. Memory that is only written to needn't be
+ * - Each pointer points to what its type says: a key to `length` bytes that can be read; matches, found and buffers to `room` elements;
+ *   pairs and keys to `count` of them, whose bytes are such. Each has at most PTRDIFF_MAX bytes. Memory that is only written to needn't be
  *   initialised.
  * - What two parameters point to doesn't overlap, except where both are only read. During the call nobody else writes it, and nobody else
  *   reads what the call may write.
  * - A pointer may be null where its length, room or count is 0. position, held, before, needed and erased may be null where the caller
- *   doesn't want them. No other pointer may be null. The proofs are about pointers that aren't null, and about places that are initialised;
- *   that the calls do the same with others is tested.
+ *   doesn't want them. No other pointer may be null. The proofs are about pointers that aren't null, and about elements that are
+ *   initialised; that the calls do the same with others is tested.
  * - A `cedar_dictionary` is initialised with CEDAR_CLOSED or cedar_closed(), and only these calls change it. It may be moved. Its fields
  *   are neither read nor written by the program.
  * - A call that takes a const dictionary only reads it. Any number of threads may make such calls at the same time, each with its own copy
@@ -135,7 +135,7 @@ uint32_t cedar_load_reduced(cedar_dictionary *d, const uint8_t *bytes, size_t le
  * layout. A file that names neither fails with CEDAR_FILE_LAYOUT, unless something before that byte is wrong. */
 uint32_t cedar_load_any(cedar_dictionary *d, const uint8_t *bytes, size_t length, size_t memory_limit);
 
-/* Writes the file of *d to the beginning of a buffer, and its number of bytes to *needed; the other places keep their content. The file
+/* Writes the file of *d to the beginning of a buffer, and its number of bytes to *needed; the other elements keep their content. The file
  * lists the slots and blocks in use, or all of them if is_full, as format 1.0 does. Returns CEDAR_OK; CEDAR_IS_CLOSED; CEDAR_NO_ROOM if the
  * file has more than room bytes (call with room 0 to learn how many); or CEDAR_MEMORY, since it allocates a copy of the file. After an
  * error the buffer is as it was. */
@@ -211,8 +211,8 @@ typedef struct cedar_key {
 
 /* Removes some keys, one after another, and returns how many of them were held. held[i] becomes whether keys[i] was held, as cedar_erase
  * would return it: of a key that is listed twice only the first one was. If `room` is below `count`, only that of the first `room` keys is
- * written, and none with room 0; places behind the last key stay. It is faster than as many calls of cedar_erase if the table is large and
- * the keys come in no order. It allocates nothing. Returns 0 if *d is closed, and then all places stay. */
+ * written, and none with room 0; elements behind the last key stay. It is faster than as many calls of cedar_erase if the table is large
+ * and the keys come in no order. It allocates nothing. Returns 0 if *d is closed, and then all elements stay. */
 size_t cedar_erase_all(cedar_dictionary *d, const cedar_key *keys, size_t count, bool *held, size_t room);
 
 /* Removes each key that begins with a prefix, and writes their number to *erased. The empty prefix removes all keys. It neither allocates
@@ -255,8 +255,8 @@ typedef struct cedar_match {
 } cedar_match;
 
 /* Finds the keys that are prefixes of a text, shortest first. The first `room` of them, or all if there are fewer, are written to
- * matches[0] and on; the other places keep their content. Returns how many there are, never more than the text has bytes: if that is above
- * room, call again with more room. It goes along the text once, and allocates nothing. Returns 0 if closed. */
+ * matches[0] and on; the other elements keep their content. Returns how many there are, never more than the text has bytes: if that is
+ * above room, call again with more room. It goes along the text once, and allocates nothing. Returns 0 if closed. */
 size_t cedar_prefixes(const cedar_dictionary *d, const uint8_t *text, size_t length, cedar_match *matches, size_t room);
 
 /* Writes the longest key that is a prefix of a text to *found, and returns whether there is one; if not, *found isn't written. It goes
@@ -270,16 +270,16 @@ bool cedar_longest_prefix(const cedar_dictionary *d, const uint8_t *text, size_t
 size_t cedar_predictions(const cedar_dictionary *d, const uint8_t *text, size_t length, cedar_match *matches, size_t room);
 
 /* As cedar_prefixes and cedar_predictions, without the first *next keys, in pieces: as many as are left, and there is room for, are written
- * to matches[0] and on; the other places keep their content. They return how many were written, and add it to *next, so that the same call
- * goes on. Begin with *next 0; a result below room means that nothing is left. Don't change the dictionary between two pieces, or they may
- * not belong together. Each call walks past the first *next again, and no further than what it writes; it allocates nothing. They return 0
- * if closed. */
+ * to matches[0] and on; the other elements keep their content. They return how many were written, and add it to *next, so that the same
+ * call goes on. Begin with *next 0; a result below room means that nothing is left. Don't change the dictionary between two pieces, or they
+ * may not belong together. Each call walks past the first *next again, and no further than what it writes; it allocates nothing. They
+ * return 0 if closed. */
 size_t cedar_prefixes_from(const cedar_dictionary *d, const uint8_t *text, size_t length, size_t *next, cedar_match *matches, size_t room);
 size_t cedar_predictions_from(const cedar_dictionary *d, const uint8_t *text, size_t length, size_t *next, cedar_match *matches,
                               size_t room);
 
 /* Writes the bytes of all keys to the beginning of a buffer, one key after another in iteration order, and their number of bytes to
- * *needed; the other places keep their content. cedar_predictions with the empty text finds the value and the length of each key in the
+ * *needed; the other elements keep their content. cedar_predictions with the empty text finds the value and the length of each key in the
  * same order. Returns CEDAR_OK; CEDAR_IS_CLOSED; CEDAR_NO_ROOM if the keys have more than room bytes; or CEDAR_MEMORY, since it allocates a
  * copy of them. After an error the buffer is as it was. */
 uint32_t cedar_keys(const cedar_dictionary *d, uint8_t *buffer, size_t room, size_t *needed);
@@ -295,42 +295,42 @@ typedef struct cedar_found {
  * `behind` has no byte, the page begins with the first entry. To go on, copy the last key of a page and pass it as `behind`. It begins with
  * the prefix, and needn't be held any more; after a key without the prefix the page ends at the first key without it.
  *
- * found[0] and on say where each key begins among the bytes, how many bytes it has, and its value; the other places keep their content. The
- * keys are written to bytes[0] and on, one after another, and the other bytes may be written to as well. *count is the number of entries
- * written: as many as there was room for. With a place or more, 0 says that no key with the prefix comes next: if `behind` has no byte, or
- * begins with the prefix, none is left then. A page costs a look-up or two and its own entries, and allocates nothing. The dictionary may
- * be changed between two pages.
+ * found[0] and on say where each key begins among the bytes, how many bytes it has, and its value; the other elements keep their content.
+ * The keys are written to bytes[0] and on, one after another, and the other bytes may be written to as well. *count is the number of
+ * entries written: as many as there was room for. With an element or more, 0 says that no key with the prefix comes next: if `behind` has
+ * no byte, or begins with the prefix, none is left then. A page costs a look-up or two and its own entries, and allocates nothing. The
+ * dictionary may be changed between two pages.
  *
- * Returns CEDAR_OK; CEDAR_IS_CLOSED; CEDAR_NOT_ASCENDING if `behind` has a byte and labels don't ascend; or CEDAR_NO_ROOM if there is a
- * place and the next key has more than `room` bytes: then *needed is how many. That next key may be one without the prefix, behind the
+ * Returns CEDAR_OK; CEDAR_IS_CLOSED; CEDAR_NOT_ASCENDING if `behind` has a byte and labels don't ascend; or CEDAR_NO_ROOM if there is an
+ * element and the next key has more than `room` bytes: then *needed is how many. That next key may be one without the prefix, behind the
  * last one with it or before the first: so CEDAR_NO_ROOM may come where nothing that is wanted is left. After an error nothing else is
  * written. */
 uint32_t cedar_entries_from(const cedar_dictionary *d, const uint8_t *prefix, size_t prefix_length, const uint8_t *behind,
                             size_t behind_length, cedar_found *found, size_t places, uint8_t *bytes, size_t room, size_t *count,
                             size_t *needed);
 
-/* Finds all keys in a text, from the place *next on: place after place, and at each place the shortest first. It writes them to found[0]
- * and on, and returns how many it wrote; the other places may be written to as well. The keys of a place are returned by the same call: if
- * there is no room left for them, the call ends and *next is this place, so that calling again with this *next goes on. If it then returns
- * 0, the place has more keys than room; it never has more than the longest key has bytes. At the end *next is the text's length. It
- * allocates nothing. It finds nothing in a closed dictionary. Begin with *next 0, and go on while *next is below length. */
+/* Finds all keys in a text, from the position *next on: position after position, and at each the shortest first. It writes them to found[0]
+ * and on, and returns how many it wrote; the other elements may be written to as well. The keys of a position are returned by the same
+ * call: if there is no room left for them, the call ends and *next is this position, so that calling again with this *next goes on. If it
+ * then returns 0, the position has more keys than room; it never has more than the longest key has bytes. At the end *next is the text's
+ * length. It allocates nothing. It finds nothing in a closed dictionary. Begin with *next 0, and go on while *next is below length. */
 size_t cedar_scan(const cedar_dictionary *d, const uint8_t *text, size_t length, size_t *next, cedar_found *found, size_t room);
 
-/* Cuts a text into tokens, from the place *next on, where a token begins: at each place the longest key that begins there, or otherwise one
+/* Cuts a text into tokens, from the position *next on, where a token begins: at each the longest key that begins there, or otherwise one
  * byte, with the value -1. With room 1 or more each call goes on. Otherwise as cedar_scan. */
 size_t cedar_segment(const cedar_dictionary *d, const uint8_t *text, size_t length, size_t *next, cedar_found *found, size_t room);
 
-/* Finds the keywords of a text, leftmost longest, from the place *next on, where a token begins: of the keys that begin first the longest,
- * then the same from its end on, so that none overlap. The bytes between them aren't reported. Otherwise as cedar_segment. */
+/* Finds the keywords of a text, leftmost longest, from the position *next on, where a token begins: of the keys that begin first the
+ * longest, then the same from its end on, so that none overlap. The bytes between them aren't reported. Otherwise as cedar_segment. */
 size_t cedar_keywords(const cedar_dictionary *d, const uint8_t *text, size_t length, size_t *next, cedar_found *found, size_t room);
 
 /* Cuts a whole text into keys and single bytes whose costs have the least sum. It writes these tokens to found[0] and on, and their number
- * to *needed; the other places keep their content. A key costs its value. A byte without a key has the value -1 and costs `unknown`; if
+ * to *needed; the other elements keep their content. A key costs its value. A byte without a key has the value -1 and costs `unknown`; if
  * by_characters, a byte from 128 to 191, which continues a character of UTF-8, costs nothing. Of cuts with the same cost it picks the one
  * with the longer token where they first differ, and with a key rather than a byte. A sum above 2^64 - 1 counts as 2^64 - 1, which no least
  * sum of a text of fewer than 2^32 bytes reaches; if every cut costs 2^64 or more, it is one of them. There are never more tokens than
  * bytes. Returns CEDAR_OK; CEDAR_IS_CLOSED; CEDAR_NO_ROOM if there are more than room tokens (a call with room 0 says how many, and costs
- * as much); or CEDAR_MEMORY: it allocates 9 bytes for each byte of the text, and a list of the tokens. After an error the places are as
+ * as much); or CEDAR_MEMORY: it allocates 9 bytes for each byte of the text, and a list of the tokens. After an error the elements are as
  * they were. */
 uint32_t cedar_cheapest(const cedar_dictionary *d, const uint8_t *text, size_t length, uint32_t unknown, bool by_characters,
                         cedar_found *found, size_t room, size_t *needed);

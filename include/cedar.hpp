@@ -8,7 +8,7 @@
 //     d.save_to_path("words.cedar");
 //
 // A key is a nonempty byte string without byte 0, a value a whole number from 0 to 2147483645: it may be handed over in any type of
-// integers, and one that is out of this range is refused and not cut. All lengths, places and positions are bytes, counted from 0. Keys,
+// integers, and one that is out of this range is refused and not cut. All lengths and positions are bytes, counted from 0. Keys,
 // texts and files are read during the call only, unless a member's comment says otherwise.
 //
 // Errors. A call that is refused throws roskvidh::error, which has a status of cedar.h; std::bad_alloc ("memory" below) if memory runs out;
@@ -355,15 +355,15 @@ public:
     /// Returns an iterator that stands at the first key above this one, or end(): the next key.
     const_iterator upper_bound(std::string_view key) const { return const_iterator(first_behind(key, std::nullopt, false)); }
 
-    /// Calls `callable(occurrence)` for each key in a text: place after place, and at each place the shortest first. If `callable` returns
+    /// Calls `callable(occurrence)` for each key in a text: position after position, and at each the shortest first. If `callable` returns
     /// a bool, false ends the scan. Up to 256 keys are found ahead, so what `callable` stores or erases shows later or never. It allocates
-    /// only if more than 256 keys begin at one place.
+    /// only if more than 256 keys begin at one position.
     template <class Callable>
     void scan(std::string_view text, Callable &&callable) const {
         told(cedar_scan, text, [&callable](const cedar_found &one) { return detail::tell(callable, one); });
     }
 
-    /// Calls `callable(token)` for the tokens that a text is cut into: at each place the longest key that begins there, or otherwise one
+    /// Calls `callable(token)` for the tokens that a text is cut into: at each position the longest key that begins there, or otherwise one
     /// byte, which has no value. If `callable` returns a bool, false ends it. Otherwise as scan, except that it allocates nothing.
     template <class Callable>
     void segment(std::string_view text, Callable &&callable) const {
@@ -477,7 +477,7 @@ private:
         return found;
     }
 
-    // Tells a text in pieces. Where none fits, one place has more keys than there is room.
+    // Tells a text in pieces. Where none fits, one position has more keys than there is room.
     template <class Tell>
     void told(text_walk call, std::string_view text, Tell tell) const {
         std::array<cedar_found, 256> first{};

@@ -33,7 +33,7 @@ public:
     /// The status of cedar.h, such as CEDAR_NUL_BYTE.
     std::uint32_t status() const noexcept { return status_; }
 
-    /// For CEDAR_NUL_BYTE, the place of the first byte 0 in the key. For CEDAR_DUPLICATE_KEY and CEDAR_KEYS_NOT_SORTED, the index of the
+    /// For CEDAR_NUL_BYTE, the position of the first byte 0 in the key. For CEDAR_DUPLICATE_KEY and CEDAR_KEYS_NOT_SORTED, the index of the
     /// pair. For CEDAR_STORE_DAMAGED, the byte of the file at which the damaged record begins. Otherwise nothing.
     std::optional<std::size_t> position() const noexcept { return position_; }
 

@@ -195,7 +195,7 @@ private:
         return {places, std::min(places * std::max<std::size_t>(twice_a_key, 16), most_room.bytes)};
     }
 
-    // The bytes of the keys, one after another, stand behind the places.
+    // The bytes of the keys, one after another, are behind the elements.
     char *text() const noexcept { return reinterpret_cast<char *>(found_.get() + room_.places); }
 
     std::string_view key_of(const cedar_found &one) const noexcept { return {text() + one.place, one.length}; }

@@ -58,7 +58,7 @@ fn cut_lines(alloc: Global, scale: Scale, digest: &mut Digest) -> Result<()> {
     Ok(())
 }
 
-/// Returns the bytes of a file of words, whose values are their places in a list.
+/// Returns the bytes of a file of words, whose values are their indexes in a list.
 fn save_words(alloc: Global, words: &[&[u8]]) -> Result<Vec<u8>> {
     let pairs = pairs_of(alloc, words)?;
     let cedar = Cedar::from_pairs_bytes(alloc, &pairs)?;
@@ -79,7 +79,7 @@ fn add_tokens(digest: &mut Digest, tokens: &[(usize, usize, Option<i32>)]) {
     }
 }
 
-/// Searches lines of a log for keywords: for all, for those that don't overlap, and for those that begin at each place.
+/// Searches lines of a log for keywords: for all, for those that don't overlap, and for those that begin at each position.
 fn filter_lines(alloc: Global, scale: Scale, digest: &mut Digest) -> Result<()> {
     let mut random = scale.random(2);
     let words = keywords(alloc, &mut random, scale.of(100_000))?;
@@ -124,7 +124,7 @@ fn filter_lines(alloc: Global, scale: Scale, digest: &mut Digest) -> Result<()> 
     Ok(())
 }
 
-/// Adds the keys that begin at each place of a line.
+/// Adds the keys that begin at each position of a line.
 fn add_prefixes(digest: &mut Digest, cedar: &Cedar<Global>, line: &[u8]) {
     for place in 0..line.len() {
         let mut found = cedar.common_prefix_iter_bytes(&line[place..]);

@@ -8,7 +8,7 @@ use Rattle.cedar_c.specs.Scans.{WritesOn, found_keyword, found_keywords, found_s
 use Rattle.cedar_c.specs.declared.scans.Found.{Found}
 
 module _ (t : Tree) (text : List ℕ) (next : ℕ) (xs : List Found) (count : ℕ) where
-  -- a key at the place is the next keyword
+  -- a key at the position is the next keyword
   pub keyword_told : (found : ℤ × ℕ) → next < length text → count < length xs → longest t (drop next text) ≡ Some found
       → WritesOn (found_keywords t) text next (next + (found.1 + 1)) (take count xs) (take (count + 1) (set xs count (found_spot next found)))
   keyword_told found low room is =

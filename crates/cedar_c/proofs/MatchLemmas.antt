@@ -1,4 +1,4 @@
--- A buffer that is filled a place at a time.
+-- A buffer that is filled an element at a time.
 use Rattle.std.proofs.Common.{◌≡◌, ℕ, ◌+◌, ◌-◌, ◌<◌, ◌≤◌, ◌^◌, List, [], ◌∷◌, ◌++◌, length, take, drop, set, add-one, Bool, refl, sym, ap, subst, ◌∙◌, arith}
 use Rattle.std.specs.Prelude.{ℤ, nat_eq, Option, None, option_map}
 use Rattle.std.specs.List.{Contains, filter, last_or, starts_with}
@@ -19,7 +19,7 @@ use Rattle.cedar_c.specs.declared.walks.Match.{Match}
 use Rattle.cedar_c.specs.Matches.{filled_matches, match_of}
 use Rattle.cedar_c.proofs.ClosedLemmas.{closed_is_empty}
 
--- the next place is written
+-- the next element is written
 pub written : (ms : List Match) (p : ℕ) (d : Match) (x : ℤ × ℕ) (rest : List (ℤ × ℕ)) → p < length ms
     → take (p + 1) (set ms p (match_of x)) ++ filled_matches (drop (p + 1) (set ms p (match_of x))) rest ≡ take p ms ++ filled_matches (drop p ms) (x ∷ rest)
 written ms p d x rest h =

@@ -34,7 +34,7 @@ place_told t text all before now next was some is =
     ∙ sym (append_assoc before (map (found_spot next) (front t (drop next text))) (found_spots t (next + 1) (drop (next + 1) text)))
     ∙ ap (λ n. n ++ found_spots t (next + 1) (drop (next + 1) text)) (sym is)
 
--- the token at a place comes first
+-- the token at a position comes first
 pub token_first : (t : Tree) (place : ℕ) (text : List ℕ) (found : Option (ℤ × ℕ)) → 0 < length text → longest t text ≡ found
     → found_tokens t place text ≡ found_token (place, len_of found, found_number found) ∷ found_tokens t (place + len_of found) (drop (len_of found) text)
 token_first t place text found h is =

@@ -1,4 +1,4 @@
--- A page of entries with their keys, written into two buffers: places, and the bytes of the keys.
+-- A page of entries with their keys, written into two buffers: elements, and the bytes of the keys.
 use Rattle.std.specs.Prelude.{◌≡◌, ◌⊎◌, ◌+◌, ◌-◌, ◌<◌, ◌++◌, ℕ, suc, zero, false, true, List, [], ◌∷◌, drop, if◌then◌else◌, length, nat_eq, nat_lt, None, Option, Some, IfSome}
 use Rattle.std.specs.List.{filter, starts_with}
 use Rattle.std.specs.Cmp.Lexicographic.{slice_cmp}
@@ -33,7 +33,7 @@ abbrev pub following : Tree → List ℕ → List ℕ → List Entry
 following t prefix [] = entries_with t prefix
 following t prefix (b ∷ behind) = entries_behind_key t (b ∷ behind)
 
--- the first of some entries, as long as their keys begin with a prefix, and there are places and room for bytes
+-- the first of some entries, as long as their keys begin with a prefix, and there are elements and room for bytes
 abbrev pub page_of : List ℕ → ℕ → ℕ → List Entry → List Entry
 page_of prefix zero room es = []
 page_of prefix (suc places) room [] = []
@@ -52,7 +52,7 @@ bytes_lacking zero room es = None
 bytes_lacking (suc places) room [] = None
 bytes_lacking (suc places) room (e ∷ es) = if nat_lt room (length e.0) then Some (length e.0) else None
 
--- a page of these entries is written, of which there are `count`: the first places have where their keys are, and the others are as they
+-- a page of these entries is written, of which there are `count`: the first elements have where their keys are, and the others are as they
 -- were; the first bytes are those of the keys, and the others may be anything
 pub record WritesPage (prefix : List ℕ) (entries : List Entry) (found told : List Found) (bytes written : List ℕ) (count : ℕ) : Type 0 where
   pub number : count ≡ length (page_of prefix (length found) (length bytes) entries)

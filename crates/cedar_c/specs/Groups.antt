@@ -23,7 +23,7 @@ abbrev pub IsGroup : List Work → Format → ℕ → ℕ → List ℕ → Type 
 IsGroup works format from to records =
     (changes : List Change) (s : State) → batch_of records ≡ Some changes → IsChangePlan works format from to s (all_changed s changes)
 
--- the number says why records of n bytes aren't made one, for a file of this format whose records end here, in so many places
+-- the number says why records of n bytes aren't made one, for a file of this format whose records end here, in so many elements
 abbrev pub LacksGroup : Format → ℕ → ℕ → ℕ → ℕ → Type 0
 LacksGroup format end n places status =
     ((status ≡ STORE_FULL) × (2 ^ 60 ≤ end)) ⊎ ((status ≡ STORE_TOO_LONG) × (2 ^ 32 ≤ n + 1)) ⊎ ((status ≡ NO_ROOM) × (places < n + group_head format + 1))

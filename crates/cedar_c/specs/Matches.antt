@@ -28,12 +28,12 @@ predicted_keys t text = map (λ e. (e.1, length e.0)) (filter (λ e. starts_with
 abbrev pub match_of : ℤ × ℕ → Match
 match_of found = record { value = found.0; length = found.1 }
 
--- the first places have what was found, one after another, as far as there are places; the others are as they were
+-- the first elements have what was found, one after another, as far as there are elements; the others are as they were
 abbrev pub filled_matches : List Match → List (ℤ × ℕ) → List Match
 filled_matches [] found = []
 filled_matches (m ∷ matches) [] = m ∷ matches
 filled_matches (m ∷ matches) (x ∷ found) = match_of x ∷ filled_matches matches found
 
--- the same behind the first places
+-- the same behind the first elements
 abbrev pub filled_from : ℕ → List Match → List (ℤ × ℕ) → List Match
 filled_from place matches found = take place matches ++ filled_matches (drop place matches) found

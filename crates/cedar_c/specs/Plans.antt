@@ -68,7 +68,7 @@ TellsWhy bytes found told status = (e : DurableError) × LoadCause bytes e × (s
 abbrev pub MayCut : List ℕ → Type 0
 MayCut bytes = (extent : Extent) × HasExtent bytes extent × ((cuts_records bytes extent ≡ true) ⊎ TakesLong bytes extent)
 
--- the number says why no record of this format was made of a payload of n bytes, for a file whose records end here, in so many places
+-- the number says why no record of this format was made of a payload of n bytes, for a file whose records end here, in so many elements
 abbrev pub LacksRecord : Format → ℕ → ℕ → ℕ → ℕ → Type 0
 LacksRecord format end n places status =
     ((status ≡ STORE_FULL) × (2 ^ 60 ≤ end)) ⊎ ((status ≡ STORE_TOO_LONG) × (2 ^ 32 ≤ n)) ⊎ ((status ≡ NO_ROOM) × (places < n + overhead format + 1))

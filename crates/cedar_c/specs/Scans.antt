@@ -1,11 +1,11 @@
--- What a text has at all of its places, written into a buffer.
+-- What a text has at all of its positions, written into a buffer.
 use Rattle.std.specs.Prelude.{◌≡◌, ℕ, ◌+◌, ℤ, negsuc, List, [], ◌∷◌, ◌++◌, drop, map, Option, Some, None}
 use Rattle.cedar_tree.specs.Tree.{Tree}
 use Rattle.cedar_tree.specs.Queries.{front}
 use Rattle.cedar_words.specs.Words.{Spot, Token, keywords_of, tokens_behind}
 use Rattle.cedar_c.specs.declared.scans.Found.{Found}
 
--- a key that was found at a place
+-- a key that was found at a position
 abbrev pub found_spot : ℕ → ℤ × ℕ → Found
 found_spot place found = record { place = place; length = found.1 + 1; value = found.0 }
 
@@ -22,7 +22,7 @@ number_or_none (Some v) = v
 abbrev pub found_token : Token → Found
 found_token t = record { place = t.0; length = t.1; value = number_or_none t.2 }
 
--- the tokens of a text, of which these bytes are left from a place on
+-- the tokens of a text, of which these bytes are left from a position on
 abbrev pub found_tokens : Tree → ℕ → List ℕ → List Found
 found_tokens tree place rest = map found_token (tokens_behind tree 0 place rest)
 
@@ -30,7 +30,7 @@ found_tokens tree place rest = map found_token (tokens_behind tree 0 place rest)
 abbrev pub found_keyword : Spot → Found
 found_keyword s = record { place = s.0; length = s.1; value = s.2 }
 
--- the keywords of a text, of which these bytes are left from a place on
+-- the keywords of a text, of which these bytes are left from a position on
 abbrev pub found_keywords : Tree → ℕ → List ℕ → List Found
 found_keywords tree place rest = map found_keyword (keywords_of (tokens_behind tree 0 place rest))
 

@@ -215,15 +215,15 @@ impl AnyCedar {
 }
 
 /// Writes a page of the entries whose keys begin with a prefix and come after `behind`, in iteration order: where their keys begin, how
-/// long they are and their values into the places, and the keys one after another into the bytes. It writes how many they are: as many as
-/// there are places and room for. With a place or more, 0 says that no key with the prefix comes next: if `behind` is empty or begins with
-/// the prefix, none is left then. If `behind` is empty, the page begins with the first entry. It looks `behind` up, visits no entry before
-/// the page, and allocates nothing.
+/// long they are and their values into the elements, and the keys one after another into the bytes. It writes how many they are: as many as
+/// there are elements and room for. With an element or more, 0 says that no key with the prefix comes next: if `behind` is empty or begins
+/// with the prefix, none is left then. If `behind` is empty, the page begins with the first entry. It looks `behind` up, visits no entry
+/// before the page, and allocates nothing.
 ///
 /// # Errors
 /// `CLOSED` if the handle is closed; `NOT_ASCENDING` if `behind` isn't empty and the labels of the dictionary don't ascend; `NO_ROOM` if
-/// there is a place and the next key has more bytes than there is room for: then it writes how many. That next key may be one without the
-/// prefix, after the last one with it or before the first. After an error nothing else is written.
+/// there is an element and the next key has more bytes than there is room for: then it writes how many. That next key may be one without
+/// the prefix, after the last one with it or before the first. After an error nothing else is written.
 #[unsafe(no_mangle)]
 pub extern "C" fn cedar_entries_from(
     handle: &mut Reading,
@@ -237,12 +237,12 @@ pub extern "C" fn cedar_entries_from(
     ensures closed { (result ≡ CLOSED) ↔ (shown_in handle.old ≡ None) }
 
     //= A page of entries has those after a key by bytes, or from the first one on if no key is given, in iteration order, as long as their
-    //  keys begin with the prefix, and there are places and room for their bytes. `count` is how many. Each place has where its key is, its
-    //  length and its value, and the other places don't change. The keys are one after another in the first bytes. [by page, TellsEntries,
-    //  following, page_of]
+    //  keys begin with the prefix, and there are elements and room for their bytes. `count` is how many. Each element has where its key is,
+    //  its length and its value, and the other elements don't change. The keys are one after another in the first bytes. [by page,
+    //  TellsEntries, following, page_of]
     //= It is refused exactly if the handle is closed, with `NOT_ASCENDING` if a key is given and labels don't ascend, and otherwise with
-    //  `NO_ROOM` if there is a place and the first key to come, with the prefix or without it, has more bytes than there is room for: `need`
-    //  is how many. Then nothing else is written. [with closed, closed_stays]
+    //  `NO_ROOM` if there is an element and the first key to come, with the prefix or without it, has more bytes than there is room for:
+    //  `need` is how many. Then nothing else is written. [with closed, closed_stays]
     ensures page { IfSome (shown_in handle.old) (PageOf prefix.now behind.now found.old found.new keys.old keys.new count.old count.new need.old need.new result) }
     ensures closed_stays { result ≡ CLOSED → WritesNothing found.old found.new keys.old keys.new count.old count.new × (need.new ≡ need.old) }
     ensures kept { handle.new ≡ handle.old }

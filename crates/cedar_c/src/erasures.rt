@@ -81,8 +81,8 @@ impl AnyCedar {
 }
 
 /// Removes some keys, one after another, and returns how many of them were held. `held[i]` becomes whether `keys[i]` was held then, for as
-/// many keys as there is room for; places after the last key stay. If the table is large, a few keys are looked up in step before they are
-/// removed, which is faster if they come in no order. It allocates nothing. On a closed handle it does nothing.
+/// many keys as there is room for; elements after the last key stay. If the table is large, a few keys are looked up in step before they
+/// are removed, which is faster if they come in no order. It allocates nothing. On a closed handle it does nothing.
 #[unsafe(no_mangle)]
 pub extern "C" fn cedar_erase_all(handle: &mut Handle, keys: &[Key<'_>], held: &mut [bool]) -> usize
     //= `cedar_erase_all` removes all of some keys, as erasures one after another do, and returns how many keys fewer are held. There are as

@@ -24,7 +24,7 @@ fn pass<F: Finds>(walk: &mut F, count: usize) -> bool
     true
 }
 
-/// Writes what a walk finds into the places of a buffer, until it is full or nothing is left, and returns how many it wrote. Each key has
+/// Writes what a walk finds into the elements of a buffer, until it is full or nothing is left, and returns how many it wrote. Each key has
 /// `more` bytes more than the walk says.
 fn fill_page<F: Finds>(walk: &mut F, more: usize, matches: &mut [Match]) -> usize
     requires { Fit more (F.left walk.old) }
@@ -42,7 +42,7 @@ fn fill_page<F: Finds>(walk: &mut F, more: usize, matches: &mut [Match]) -> usiz
     count
 }
 
-/// Writes what a walk finds from a place of it on, as far as there is room, which is then the place to go on at.
+/// Writes what a walk finds from a position of it on, as far as there is room, which is then the position to go on at.
 fn go_on<F: Finds>(walk: &mut F, more: usize, next: &mut usize, matches: &mut [Match]) -> usize
     requires count { length (F.left walk.old) < 2 ^ 64 }
     requires fit { Fit more (F.left walk.old) }
@@ -58,7 +58,7 @@ fn go_on<F: Finds>(walk: &mut F, more: usize, next: &mut usize, matches: &mut [M
     count
 }
 
-/// Writes the keys that a text begins with from a place of the walk on.
+/// Writes the keys that a text begins with from a position of the walk on.
 fn go_on_prefixes<L: Layout, const SLOTS: usize>(
     trie: &Trie<L, SLOTS, Global>,
     text: &[u8],
@@ -73,7 +73,7 @@ fn go_on_prefixes<L: Layout, const SLOTS: usize>(
     go_on(&mut trie.common_prefix_iter_bytes(text), 1, next, matches)
 }
 
-/// Writes the keys that begin with a text from a place of the walk on.
+/// Writes the keys that begin with a text from a position of the walk on.
 fn go_on_predictions<L: Layout, const SLOTS: usize>(
     trie: &Trie<L, SLOTS, Global>,
     text: &[u8],
@@ -127,7 +127,7 @@ pub extern "C" fn cedar_prefixes_from(
     next: &mut usize,
     matches: &mut [Match],
 ) -> usize
-    //= A walk in pieces writes what such a walk has after the first `next`, as far as there are places, and doesn't change the others. It
+    //= A walk in pieces writes what such a walk has after the first `next`, as far as there are elements, and doesn't change the others. It
     //  returns how many it wrote and adds that to `next`. [with filled, next; also cedar_predictions_from]
     ensures count { result ≡ length (take (length matches.old) (drop next.old (front (shown_tree handle.old) text.now))) }
     ensures filled { matches.new ≡ filled_matches matches.old (drop next.old (front_keys (shown_tree handle.old) text.now)) }

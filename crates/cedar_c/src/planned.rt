@@ -18,13 +18,13 @@ use cedarwood::CedarError;
 use std::alloc::Global;
 
 /// Opens a handle with the dictionary that a file's bytes represent. If the handle is open, the new one replaces the old one. The file was
-/// synced, and then read. It writes the plan by which the file is made ready, whose bytes it writes into the first places of a buffer,
+/// synced, and then read. It writes the plan by which the file is made ready, whose bytes it writes into the first elements of a buffer,
 /// where the records end then, and whether they have sums. The plan of a file that is at rest has no step.
 ///
 /// # Errors
-/// `NO_ROOM` if the buffer has fewer than 14 places, `STORE_FOREIGN` if the file is of another kind, `STORE_CORRUPT` if one of its records
-/// is no change, `MEMORY` and `SLOT_LIMIT`. `STORE_DAMAGED` if somebody else has changed a record; it writes where that begins. Then the
-/// handle is as it was, and nothing else is written.
+/// `NO_ROOM` if the buffer has fewer than 14 elements, `STORE_FOREIGN` if the file is of another kind, `STORE_CORRUPT` if one of its
+/// records is no change, `MEMORY` and `SLOT_LIMIT`. `STORE_DAMAGED` if somebody else has changed a record; it writes where that begins.
+/// Then the handle is as it was, and nothing else is written.
 #[unsafe(no_mangle)]
 pub extern "C" fn cedar_plan_open(
     handle: &mut Handle,
@@ -45,7 +45,7 @@ pub extern "C" fn cedar_plan_open(
     //  even if a step fails, leaves a file that represents it. [by IsOpening]
     ensures ready { result ≡ OK → IfSome (state_in handle.new) (IsOpening bytes.now (works_of buffer.new plan.new) (format_if is_summed.new) end.new) }
 
-    //= A file is refused by its number as foreign, corrupt or damaged exactly as by a store, with the place of the damage, or for lack of
+    //= A file is refused by its number as foreign, corrupt or damaged exactly as by a store, with the position of the damage, or for lack of
     //  memory or slots. Then the handle has what it had, and no plan is written. [with kept, told; by LoadCause]
     ensures refused { (result ≡ OK) ⊎ ((result ≡ NO_ROOM) × (length buffer.old < 14)) ⊎ TellsWhy bytes.now damaged_at.old damaged_at.new result }
     ensures kept { (result ≡ OK) ⊎ (content handle.new ≡ content handle.old) }
@@ -83,12 +83,12 @@ pub extern "C" fn cedar_plan_may_cut_records(bytes: &[u8]) -> bool
 }
 
 /// Stores a value at a key, and writes whether the key was held before, and with which value. It writes the change's record into the first
-/// places of a buffer, whose other places may be written to as well, and the plan by which that is appended where the records end; then
+/// elements of a buffer, whose other elements may be written to as well, and the plan by which that is appended where the records end; then
 /// they end elsewhere. The record has a sum if those of the file have one. One that waits for those of a group has none.
 ///
 /// # Errors
 /// `CLOSED`, and the number of the pair's first fault; `STORE_FULL` if the records end after 2^60 bytes; `STORE_TOO_LONG` if the key has
-/// 2^32 - 5 bytes or more; `NO_ROOM` if the buffer has fewer places than the key has bytes and 11 more, or 15 with a sum; `MEMORY` and
+/// 2^32 - 5 bytes or more; `NO_ROOM` if the buffer has fewer elements than the key has bytes and 11 more, or 15 with a sum; `MEMORY` and
 /// `SLOT_LIMIT`. Then the dictionary holds what it held, and nothing is reported.
 #[unsafe(no_mangle)]
 pub extern "C" fn cedar_plan_put(

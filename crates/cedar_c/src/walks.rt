@@ -44,7 +44,7 @@ impl<'a, T: Walked> Finds for PrefixPredictIter<'a, T> {
     }
 }
 
-/// Writes what a walk finds into the first places, as far as there are any, and returns how many it found. Each key has `more` bytes more
+/// Writes what a walk finds into the first elements, as far as there are any, and returns how many it found. Each key has `more` bytes more
 /// than the walk gives for it.
 fn fill<F: Finds>(walk: &mut F, more: usize, matches: &mut [Match]) -> usize
     requires count { length (F.left walk.old) < 2 ^ 64 }
@@ -60,7 +60,7 @@ fn fill<F: Finds>(walk: &mut F, more: usize, matches: &mut [Match]) -> usize
     count
 }
 
-/// Writes what was found, and has `more` bytes than that, at a place, if there is this place.
+/// Writes what was found, and has `more` bytes than that, at an index, if there is this element.
 #[inline(always)]
 pub(crate) fn put_at(matches: &mut [Match], place: usize, found: (i32, usize), more: usize)
     requires { found.1 + more < 2 ^ 64 }
@@ -128,13 +128,13 @@ impl AnyCedar {
     }
 }
 
-/// Writes the keys that a text begins with into the first places of a buffer, shortest first, as many as there is room for, and returns how
-/// many the text has: for each the value and the length. It is one walk.
+/// Writes the keys that a text begins with into the first elements of a buffer, shortest first, as many as there is room for, and returns
+/// how many the text has: for each the value and the length. It is one walk.
 #[unsafe(no_mangle)]
 pub extern "C" fn cedar_prefixes(handle: &mut Reading, text: &[u8], matches: &mut [Match]) -> usize
     //= A walk writes the value and the length of each key that a text begins with, or of each key that begins with it, into the first
-    //  places of a buffer, as far as there are places, and doesn't change the others. It returns how many there are (`front`, `predict`).
-    //  [with filled; also cedar_predictions; by front_keys, predicted_keys]
+    //  elements of a buffer, as far as there are elements, and doesn't change the others. It returns how many there are (`front`,
+    //  `predict`). [with filled; also cedar_predictions; by front_keys, predicted_keys]
     ensures count { result ≡ length (front (shown_tree handle.old) text.now) }
     ensures filled { matches.new ≡ filled_matches matches.old (front_keys (shown_tree handle.old) text.now) }
     ensures kept { handle.new ≡ handle.old }
@@ -145,8 +145,8 @@ pub extern "C" fn cedar_prefixes(handle: &mut Reading, text: &[u8], matches: &mu
     handle.shown.see().dictionary().prefixes(text, matches)
 }
 
-/// Writes the keys that begin with a text into the first places of a buffer, in iteration order, as many as there is room for, and returns
-/// how many there are: for each the value, and the length of the whole key. It is one walk.
+/// Writes the keys that begin with a text into the first elements of a buffer, in iteration order, as many as there is room for, and
+/// returns how many there are: for each the value, and the length of the whole key. It is one walk.
 #[unsafe(no_mangle)]
 pub extern "C" fn cedar_predictions(
     handle: &mut Reading,

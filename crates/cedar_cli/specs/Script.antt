@@ -1,5 +1,5 @@
 -- What a script's run writes, and what it leaves: first of one order, then of the lines of a script,
--- and last of a run that has come to some place in its script.
+-- and last of a run that has come to some position in its script.
 use Rattle.std.specs.Prelude.{◌≡◌, ◌⊎◌, ℕ, ◌<◌, Bool, true, false, if◌then◌else◌, ℤ, List, [], ◌∷◌, ◌++◌, length, Option, Some, None, Result, Err, OnOk, IfErr, IsSome, MatchOption, codes, decimal, is_some}
 use Rattle.std.specs.Fmt.{signed_decimal}
 use Rattle.std.specs.Io.KnownBytes.{Appends}

@@ -50,7 +50,7 @@ header_at bytes = record {
   entries = u64_at 80 bytes;
 }
 
--- a step that reads the bytes up to a place
+-- a step that reads the bytes up to a position
 abbrev pub reads_to : ℕ → List ℕ → Option Refusal
 reads_to end bytes = unless (nat_le end (length bytes)) Truncated
 

@@ -56,7 +56,7 @@ pub struct Header {
     pub entries: usize,
 }
 
-/// Returns the number of 2 bytes at a place.
+/// Returns the number of 2 bytes at a position.
 #[tactic(auto, unfolding(crate::specs::Format::u16_at))]
 fn u16_at(bytes: &[u8], at: usize) -> u16
     requires { at + 2 ≤ length bytes.now }
@@ -65,7 +65,7 @@ fn u16_at(bytes: &[u8], at: usize) -> u16
     u16::from_le_bytes([bytes[at], bytes[at + 1]])
 }
 
-/// Returns the signed number of 4 bytes at a place.
+/// Returns the signed number of 4 bytes at a position.
 #[tactic(auto, unfolding(crate::specs::Format::i32_at))]
 fn i32_at(bytes: &[u8], at: usize) -> i32
     requires { at + 4 ≤ length bytes.now }
@@ -74,7 +74,7 @@ fn i32_at(bytes: &[u8], at: usize) -> i32
     i32::from_le_bytes([bytes[at], bytes[at + 1], bytes[at + 2], bytes[at + 3]])
 }
 
-/// Returns the number of 8 bytes at a place.
+/// Returns the number of 8 bytes at a position.
 #[tactic(auto, unfolding(crate::specs::Format::u64_at))]
 fn u64_at(bytes: &[u8], at: usize) -> u64
     requires { at + 8 ≤ length bytes.now }

@@ -26,7 +26,7 @@ pub(crate) trait Record: Copy + Drop {
         ensures len { length bytes.old.now ≡ LEN + length bytes.new.now }
         ensures fits { Fits result };
 
-    /// Writes its bytes at a place. The bytes before that place stay.
+    /// Writes its bytes at a position. The bytes before that position stay.
     fn write_at(&self, bytes: &mut [u8], at: usize)
         requires { at + LEN ≤ length bytes.old }
         ensures front { take (at + LEN) bytes.new ≡ take at bytes.old ++ bytes_of self.now }

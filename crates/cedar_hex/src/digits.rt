@@ -36,7 +36,7 @@ pub fn decode_into(text: &[u8], room: &mut [u8]) -> Option<usize>
     (values < 16).then_some(count)
 }
 
-/// Writes the two hexadecimal digits of each byte, in lower case. `text` has two places for each of them. It allocates nothing.
+/// Writes the two hexadecimal digits of each byte, in lower case. `text` has two bytes for each of them. It allocates nothing.
 ///
 /// ```
 /// let mut text = [0; 4];

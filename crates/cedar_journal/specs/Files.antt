@@ -93,7 +93,7 @@ abbrev pub HasExtent : List ℕ → Extent → Type 0
 HasExtent file New = IsNewFile file
 HasExtent file (Until format end) = HasRecords file format end
 
--- behind this place there is one byte more, a closed gate
+-- behind this position there is one byte more, a closed gate
 abbrev pub ends_closed : List ℕ → ℕ → Bool
 ends_closed file end = length file - end == 1 && slice_index file end == 0
 

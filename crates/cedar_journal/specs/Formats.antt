@@ -6,7 +6,7 @@ use Rattle.cedar_journal.specs.declared.format.Format.{Format}
 use Rattle.cedar_journal.specs.declared.format.Format.TheVariants.{Plain, Summed}
 use Rattle.cedar_journal.specs.Records.{length_bytes, payloads_in}
 
--- what some records are read as: these payloads; or the one that begins at this place is damaged
+-- what some records are read as: these payloads; or the one that begins at this position is damaged
 pub data Reading : Type 0 where
   stands : List (List ℕ) → Reading
   damaged : ℕ → Reading
@@ -21,7 +21,7 @@ abbrev pub payloads_read : Reading → List (List ℕ)
 payloads_read (stands payloads) = payloads
 payloads_read (damaged at) = []
 
--- a number of four bytes from this place on, the lowest first
+-- a number of four bytes from this position on, the lowest first
 abbrev pub four_at : List ℕ → ℕ → ℕ
 four_at bytes at = get_or bytes at 0 + 256 * get_or bytes (at + 1) 0 + 65536 * get_or bytes (at + 2) 0 + 16777216 * get_or bytes (at + 3) 0
 

@@ -11,7 +11,7 @@ use crate::repair::{cut_off, make_ready};
 use crate::{Device, DeviceError, Extent, Format, Frame, Image, ReplaceDevice, ReplaceError};
 use std::alloc::Allocator;
 
-/// The last place at which the records may end for one more to be written.
+/// The last position at which the records may end for one more to be written.
 pub const MAX_END: usize = 1 << 60;
 
 /// Why a record wasn't written.
@@ -41,7 +41,7 @@ pub struct Journal<D: Device> {
     pub device: D,
     /// How its records are written.
     pub format: Format,
-    /// The place of the closed gate after the last record.
+    /// The position of the closed gate after the last record.
     pub end: usize,
 }
 

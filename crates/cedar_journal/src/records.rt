@@ -189,8 +189,8 @@ pub enum FileFault {
 /// `Foreign` if they are no journal's, `Damaged` if a record is damaged. A file of a single byte is taken for the beginning of one.
 pub fn extent_of(bytes: &[u8]) -> Result<Extent, FileFault>
     //= `extent_of` returns how far a journal's file goes. It refuses exactly a file that represents no payloads: as foreign one of another
-    //  kind, and as damaged one with a record that counts and isn't whole or has another sum, at the place of the first such record. [with
-    //  refused, cause]
+    //  kind, and as damaged one with a record that counts and isn't whole or has another sum, at the position of the first such record.
+    //  [with refused, cause]
     ensures extent { IfOk result (λ extent. HasExtent bytes.now extent) }
     ensures refused { IsErr result ↔ (file_payloads bytes.now ≡ None) }
     ensures cause { IfErr result (λ fault. IsFault bytes.now fault) }
@@ -209,7 +209,7 @@ pub fn extent_of(bytes: &[u8]) -> Result<Extent, FileFault>
     }
 }
 
-/// Returns whether one byte is left behind a place, a closed gate.
+/// Returns whether one byte is left behind a position, a closed gate.
 pub(crate) fn ends_closed(bytes: &[u8], end: usize) -> bool
     requires { end ≤ length bytes.now }
     ensures { result ≡ ends_closed bytes.now end }

@@ -75,7 +75,7 @@ pub fn plan_opening(extent: Extent, bytes: &[u8]) -> Plan
     }
 }
 
-/// Whether one byte is left behind a place, a closed gate.
+/// Whether one byte is left behind a position, a closed gate.
 fn ends_closed(bytes: &[u8], end: usize) -> bool
     requires { end ≤ length bytes.now }
     ensures { result ≡ ends_closed bytes.now end }

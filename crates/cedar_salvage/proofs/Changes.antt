@@ -78,7 +78,7 @@ no_more (Some c) r is = absurd (false≢true (sym is))
 abbrev pub are_changes : List ℕ → Bool
 are_changes bytes = is_some (each_change (payloads_in bytes))
 
--- a record at a place of some bytes, and its payload p
+-- a record at a position of some bytes, and its payload p
 module _ (bytes b p : List ℕ) (at : ℕ) (here : b ≡ drop at bytes) (there : has_record b ≡ true) (is : p ≡ payload b) (next : drop (5 + length p) b ≡ behind_record b) where
   further : drop (at + (5 + length p)) bytes ≡ behind_record b
   further = sym (drop-drop (5 + length p) at bytes) ∙ ap (drop (5 + length p)) (sym here) ∙ next
@@ -111,7 +111,7 @@ no_batch bytes none = sym (unless _ (each_change (payloads_in bytes)) none)
 pub ended : (bytes b : List ℕ) (at : ℕ) → b ≡ drop at bytes → has_record b ≡ false → payloads_in (drop at bytes) ≡ []
 ended bytes b at here lacks = ap payloads_in (sym here) ∙ payloads_none b lacks
 
--- behind the last record at a place
+-- behind the last record at a position
 pub batch_at : (bytes : List ℕ) (at : ℕ) → payloads_in (drop at bytes) ≡ [] → are_changes (drop at bytes) ≡ are_changes bytes
     → at + records_length (payloads_in (drop at bytes)) ≡ records_length (payloads_in bytes) → nat_eq at (length bytes) ≡ is_some (batch_of bytes)
 unfolding batch_of

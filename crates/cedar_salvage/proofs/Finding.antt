@@ -50,7 +50,7 @@ whole bytes n m k ajar is fits same sum size change =
     let is_one : is_change (payload_there bytes) ≡ true = ap (λ j. is_change (take j (drop 9 bytes))) (sym (size ∙ is)) ∙ change in
     both _ _ (ap not (ne_eqb (get_or bytes 0 0) 0 ajar)) (both _ _ (readings.summed bytes told text) is_one)
 
--- ---- one place after another
+-- ---- one position after another
 
 skips : (n : ℕ) (bytes : List ℕ) → found_behind n bytes ≡ found_behind zero (drop n bytes)
 unfolding found_behind
@@ -88,7 +88,7 @@ pub none_behind : (bytes : List ℕ) (at : ℕ) → length bytes ≤ at → foun
 unfolding found_behind
 none_behind bytes at far = ap found_in (drop_all at bytes far)
 
--- a record that was taken at a place, and the rest behind it
+-- a record that was taken at a position, and the rest behind it
 pub found_next : (bytes b p : List ℕ) (at : ℕ) → b ≡ drop at bytes → found_in b ≡ p ∷ found_in (drop (9 + length p) b)
     → found_in (drop at bytes) ≡ p ∷ found_in (drop (at + 9 + length p) bytes)
 found_next bytes b p at here read =

@@ -29,8 +29,8 @@ payload_there bytes = take (four_at bytes 5) (drop 9 bytes)
 unfoldable pub is_whole : List ℕ → Bool
 is_whole bytes = not (get_or bytes 0 0 == 0) && (is_summed bytes && is_change (payload_there bytes))
 
--- The payloads of the whole records among some bytes, behind the first n of them. Each place is tried, and behind a whole record the next
--- place is the one behind it.
+-- The payloads of the whole records among some bytes, behind the first n of them. Each position is tried, and behind a whole record the
+-- next position is the one behind it.
 unfoldable pub found_behind : ℕ → List ℕ → List (List ℕ)
 found_behind n [] = []
 found_behind zero (byte ∷ rest) =
@@ -79,12 +79,12 @@ look_at bytes =
     (cond (get_or bytes 0 0 == 0) 0 (cond (nat_le 3 (get_or bytes 9 0)) 0 (cond (nat_le (9 + four_at bytes 5) (length bytes)) (9 + four_at bytes 5) 0)))
     0
 
--- and at each place
+-- and at each position
 unfoldable pub looks : List ℕ → ℕ
 looks [] = 0
 looks (byte ∷ rest) = look_at (byte ∷ rest) + looks rest
 
--- To look at each place behind the end takes more than 16 times the bytes there.
+-- To look at each position behind the end takes more than 16 times the bytes there.
 abbrev pub TakesLong : List ℕ → Extent → Type 0
 TakesLong file New = ⊥
 TakesLong file (Until Summed end) = 16 * length (drop end file) < looks (drop end file)

@@ -15,7 +15,7 @@ const LOOKS: u128 = 16;
 /// behind the end, or of version 1 a record that counts right behind the one that is closed. By what is supposed of a disk a crash may
 /// leave such bytes too, but no test has found one that did. So keep them, and open the file.
 ///
-/// It takes a time of at most so many bytes as are behind the end, times 16. If that isn't enough to say of each place that no whole
+/// It takes a time of at most so many bytes as are behind the end, times 16. If that isn't enough to say of each position that no whole
 /// record begins there, it returns true.
 pub fn may_cut_records(bytes: &[u8], extent: Extent) -> bool
     requires extent { HasExtent bytes.now extent }

@@ -160,7 +160,7 @@ where
     Err(KeepError::Unmade(ErrorKind::AlreadyExists.into()))
 }
 
-/// The name of the file that is tried at this place in turn.
+/// The name of the file that is tried in this turn.
 fn name_beside<A: Allocator>(alloc: A, path: &str, number: usize) -> Result<String<A>, AllocError> {
     if number == 0 {
         return format!(in alloc; "{path}.cut");

@@ -12,9 +12,9 @@ use std::alloc::Allocator;
 
 /// Returns a store's file with what is whole in the file of a store that somebody else has damaged.
 ///
-/// Of a file of version 2 these are all records that are whole: each place behind the header is tried, and behind a record that is whole
-/// the next place is the one behind it. Of a file without a whole header each place is tried. Records of version 1 have no sums, so of such
-/// a file these are the records in front of the first one that is no change.
+/// Of a file of version 2 these are all records that are whole: each position behind the header is tried, and behind a record that is whole
+/// the next position is the one behind it. Of a file without a whole header each position is tried. Records of version 1 have no sums, so
+/// of such a file these are the records in front of the first one that is no change.
 ///
 /// # Errors
 /// `Memory` if an allocation failed.

@@ -37,7 +37,7 @@ no_batch : (s : State) (bytes : List ℕ) → each_after s (payloads_in bytes) �
 unfolding batch_of
 no_batch s bytes stops = unless s _ (each_change (payloads_in bytes)) stops
 
--- ---- a record at a place of some bytes, and its payload p
+-- ---- a record at a position of some bytes, and its payload p
 
 module _ (bytes b p : List ℕ) (at : ℕ) (here : b ≡ drop at bytes) (there : has_record b ≡ true) (is : p ≡ payload b) (next : drop (5 + length p) b ≡ behind_record b) where
   further : drop (at + (5 + length p)) bytes ≡ behind_record b

@@ -43,7 +43,7 @@ late_more s changes n low = ap (all_erased_late s) (sym (drop_more changes n (er
 pub late_done : (s : State) (changes : List Change) (n : ℕ) → length changes ≤ n → all_erased_late s (drop n changes) ≡ s
 late_done s changes n high = ap (all_erased_late s) (drop_all n changes high)
 
--- what is put from a place on, looked for one change after another
+-- what is put from a position on, looked for one change after another
 pub put_here : (path : List ℕ) (changes : List Change) (n : ℕ) → n < length changes → puts path (change_at changes n) ≡ true → is_put_by path (drop n changes) ≡ true
 put_here path changes n low here = ap (is_put_by path) (drop_more changes n (erase_at []) low) ∙ ap (λ t. t || is_put_by path (drop (n + 1) changes)) here
 

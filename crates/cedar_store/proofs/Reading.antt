@@ -25,7 +25,7 @@ rest_sound n ps (damaged place) qs is = absurd (apart (n + place) qs is)
 one_listed : (n : ℕ) (p : List ℕ) (r : Reading) → (rs : List (List ℕ)) × (r ≡ stands rs) → payloads_read (read_behind n (p ∷ []) r) ≡ p ∷ payloads_read r
 one_listed n p r sound = ap (λ q. payloads_read (read_behind n (p ∷ []) q)) sound.1 ∙ ap (λ q. p ∷ payloads_read q) (sym sound.1)
 
--- a record at a place of some bytes, and its payload p
+-- a record at a position of some bytes, and its payload p
 module _ (bytes b p : List ℕ) (f : Format) (at n : ℕ) (here : b ≡ drop at bytes) (sound : AreUndamaged f (drop at bytes)) (read : records_read f b ≡ read_behind n (p ∷ []) (records_read f (drop n b))) where
   first_read : records_read f (drop at bytes) ≡ read_behind n (p ∷ []) (records_read f (drop n b))
   first_read = ap (records_read f) (sym here) ∙ read

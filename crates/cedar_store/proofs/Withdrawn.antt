@@ -16,7 +16,7 @@ use Rattle.cedar_store.specs.declared.change.Change.TheVariants as told
 abbrev pub blank : ToldChange
 blank = told.Update (record { ref_ptr = (0, 0); now = [] }) (pos 0)
 
--- a change that is given is at its place
+-- a change that is given is at its position
 pub told_at : (changes : List ToldChange) (i : ℕ) → i < length changes → change_at (changes_told changes) i ≡ change_told (get_or changes i blank)
 told_at changes i low = get_or-map change_told changes i blank (erase_at []) low
 

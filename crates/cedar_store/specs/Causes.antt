@@ -19,8 +19,8 @@ ReplayCause outcome error.Corrupt = outcome ≡ None
 ReplayCause outcome (error.Refused e) = IsShortage e
 ReplayCause outcome _ = ⊥
 
--- Why no dictionary was made of a file's bytes: it is of another kind; or the record at this place is damaged; it is a journal's, and one of
--- its records is no change, or memory or slots were wanting.
+-- Why no dictionary was made of a file's bytes: it is of another kind; or the record at this position is damaged; it is a journal's, and
+-- one of its records is no change, or memory or slots were wanting.
 abbrev pub LoadCause : List ℕ → DurableError → Type 0
 LoadCause file error.Foreign = file_reading file ≡ None
 LoadCause file (error.Damaged at) = file_reading file ≡ Some (damaged at)

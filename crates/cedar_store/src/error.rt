@@ -43,7 +43,7 @@ pub enum DurableError {
 }
 
 impl From<FileFault> for DurableError {
-    //= A file of another kind is reported as `Foreign`, and one with a damaged record as `Damaged`, with the record's place.
+    //= A file of another kind is reported as `Foreign`, and one with a damaged record as `Damaged`, with the record's position.
     ghost from_gives = { λ fault error. error ≡ file_error fault };
 
     fn from(fault: FileFault) -> DurableError {

@@ -105,7 +105,7 @@ impl<T: Made<A>, A: Allocator + Copy, D: Device> Store<T, A, D> {
         ensures any_moment_err { IfErr result (λ e. LeavesOnly D.moment D.left_since device e.1
             (λ c. state_of c ≡ state_of (D.seen device))) }
 
-        //= A file is refused as foreign only if it is of another kind, as damaged if a record is damaged, at the place of the first such
+        //= A file is refused as foreign only if it is of another kind, as damaged if a record is damaged, at the position of the first such
         //  one, as corrupt if one of its records is no change, and otherwise only for lack of memory or slots, or if the device failed,
         //  which reported `Failed` only if the disk has failed.
         ensures cause { IfErr result (λ e. OpenCause (D.seen device) (D.faults device) (D.faults e.1) e.0) }

@@ -90,6 +90,6 @@ rising_places t q a (suc n) =
       | Some v ↦ (all_higher t q a (a + 1) n (omega arith), rest)
     ]
 
--- its places ascend
+-- its positions ascend
 pub front_ascends : (t : Tree) (q : List ℕ) → IsStrictlySortedBy nat_cmp (map (λ f. f.1) (front t q))
 front_ascends t q = rising_places t q 0 (length q)

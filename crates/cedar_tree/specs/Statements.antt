@@ -121,7 +121,7 @@ abbrev pub FrontHasHeld : Type 0
 FrontHasHeld =
     (t : Tree) (q : List ℕ) (v : ℤ) (n : ℕ) → (Contains (front t q) (v, n) ↔ ((n < length q) × (number_at t (take (n + 1) q) ≡ Some v)))
 
--- its places ascend, so it has each once
+-- its positions ascend, so it has each once
 abbrev pub FrontAscends : Type 0
 FrontAscends =
     (t : Tree) (q : List ℕ) → IsStrictlySortedBy nat_cmp (map (λ found. found.1) (front t q))

@@ -4,7 +4,7 @@ use Rattle.std.specs.List.{filter_map, range_with_len}
 use Rattle.cedar_tree.specs.Tree.{Forest, none, child, Tree, subtree, number_at}
 use Rattle.cedar_tree.specs.Queries.{Entry}
 
--- `front` from a place on: for each n from there below the length of q, where the first n + 1 bytes of q are held, their
+-- `front` from a position on: for each n from there below the length of q, where the first n + 1 bytes of q are held, their
 -- number, and n
 abbrev pub front_from : Tree → List ℕ → ℕ → List (ℤ × ℕ)
 front_from t q place = filter_map (λ n. option_map (λ v. (v, n)) (number_at t (take (n + 1) q))) (range_with_len place (length q - place))

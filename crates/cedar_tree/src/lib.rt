@@ -107,13 +107,13 @@ pub fn keys_come_before_extensions()
     ensures { KeysComeBeforeExtensions }
 {}
 
-/// The prefix walk has v at n exactly if the first n + 1 bytes are held with v, and its places ascend: so it has
+/// The prefix walk has v at n exactly if the first n + 1 bytes are held with v, and its positions ascend: so it has
 /// each once.
 pub fn front_is_exact()
     //= `front` has v at n exactly if the first n + 1 bytes of the query are held with v.
     ensures has { FrontHasHeld }
 
-    //= Its places ascend, so it has each once.
+    //= Its positions ascend, so it has each once.
     ensures ascends { FrontAscends }
 {}
 

@@ -107,7 +107,7 @@ pub fn exact_match_search_batch<L: Layout, const SLOTS: usize, A: Allocator, C: 
     requires { IsWellFormed SLOTS (fields table.now) }
 
     //= `exact_match_search_batch` of some keys, on a well-formed table: each result is `exact` of its tree and its key, for as many keys as
-    //  there are places for results; places after the last key stay. Nothing is said about its count.
+    //  there are elements for results; elements after the last key stay. Nothing is said about its count.
     ensures { answers.new ≡ map (exact (tree_of (fields table.now))) (take (length answers.old) (keys_of keys.now)) ++ drop (length keys.now) answers.old }
 {
     let count = keys.len().min(answers.len());

@@ -86,7 +86,7 @@ along_told steps place left len value some bytes number go =
     ∙ ap (λ n. (place, n, (steps left).value) ∷ cut_along steps 0 (place + n) (left - n)) (sym bytes)
     ∙ ap (λ v. (place, len, v) ∷ cut_along steps 0 (place + len) (left - len)) (sym number)
 
--- the same of the mark at a place of a text
+-- the same of the mark at a position of a text
 pub key_at : (t : Tree) (u : ℕ → ℕ) (text costs marks : List ℕ) (place mark : ℕ) → place < length text → AreCosts t u text costs → AreMarks t u text costs marks → mark ≡ mark_at marks (length text - place)
     → (mark_at marks (length text - place) ≡ 0 → ⊥) → mark_at marks (length text - place) < 255
     → IsToldKey costs (length text - place) (step_at t u text costs (length text - place)).len (step_at t u text costs (length text - place)).value mark

@@ -33,7 +33,7 @@ passed_along steps (suc k) place (suc left) =
     let less : left - k ≡ suc left - suc k = omega arith in
     passed_along steps k (place + 1) left ∙ ap (λ p. cut_along steps 0 p (left - k)) here ∙ ap (λ n. cut_along steps 0 (place + suc k) n) less
 
--- the token at a place comes first
+-- the token at a position comes first
 pub along_step : (steps : ℕ → Step) (place left : ℕ) (step : Step) → 0 < left → steps left ≡ step → 0 < step.len
     → cut_along steps 0 place left ≡ (place, step.len, step.value) ∷ cut_along steps 0 (place + step.len) (left - step.len)
 along_step steps place zero step some is h = absurd (omega (arith, some))

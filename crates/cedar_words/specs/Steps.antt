@@ -40,7 +40,7 @@ AreWithin most [] = Unit {0}
 AreWithin most (found ∷ fronts) = (found.1 < most) × AreWithin most fronts
 
 -- the best step over so many of the last bytes of a text, where it is known what fewer cost, and what a byte without a number costs at each
--- place
+-- position
 abbrev pub step_at : Tree → (ℕ → ℕ) → List ℕ → List ℕ → ℕ → Step
 step_at tree unknown text costs left = best_of (unknown (length text - left)) (take left costs) (front tree (drop (length text - left) text))
 
@@ -70,7 +70,7 @@ AreMarksOver tree unknown text costs marks = (left : ℕ) → 0 < left → left 
 abbrev pub AreMarks : Tree → (ℕ → ℕ) → List ℕ → List ℕ → List ℕ → Type 0
 AreMarks tree unknown text costs marks = (length marks ≡ length text + 1) × AreMarksOver tree unknown text costs marks
 
--- the tokens that steps lead along from a place on, where so many bytes are left: some of them belong to the token before
+-- the tokens that steps lead along from a position on, where so many bytes are left: some of them belong to the token before
 abbrev pub cut_along : (ℕ → Step) → ℕ → ℕ → ℕ → List Token
 cut_along steps taken place zero = []
 cut_along steps (suc taken) place (suc left) = cut_along steps taken (place + 1) left

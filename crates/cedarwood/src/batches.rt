@@ -76,7 +76,7 @@ impl<L: Layout, const SLOTS: usize, A: Allocator + Copy> Trie<L, SLOTS, A> {
     }
 
     /// Removes some keys as [`Trie::erase_bytes`] does one after another: `answers[i]` becomes whether `keys[i]` was held then, for as many
-    /// keys as there are places. Keys without a place stay, and so do places after the last key. It allocates nothing.
+    /// keys as there are elements. Keys without an element aren't removed, and elements after the last key stay. It allocates nothing.
     ///
     /// If the table has more than [`CACHED_SLOTS`](crate::CACHED_SLOTS) slots, a few keys are looked up in step before they are removed, so
     /// that their waits for memory can overlap if the keys come in no order.
@@ -89,7 +89,7 @@ impl<L: Layout, const SLOTS: usize, A: Allocator + Copy> Trie<L, SLOTS, A> {
     /// assert_eq!(rt; answers, [true, false]);
     /// ```
     pub fn erase_batch(&mut self, keys: &[&[u8]], answers: &mut [bool])
-        //= `erase_batch` does as many erasures, one after another, for as many keys as there are places for results. [by IsErasures]
+        //= `erase_batch` does as many erasures, one after another, for as many keys as there are elements for results. [by IsErasures]
         ensures erasures { IsErasures self.old self.new (take (length answers.old) (keys_of keys.now)) (take (length keys.now) answers.new) }
 
         //= So each result is whether its key was held after the erasures before it. Places after the last key don't change. The tree is

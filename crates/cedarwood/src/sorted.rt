@@ -82,7 +82,7 @@ fn shared_front(before: &[u8], key: &[u8]) -> usize
     shared
 }
 
-/// Whether no byte of a key is 0 from a place on. Mostly a few bytes are left, which are read without a loop.
+/// Whether no byte of a key is 0 from a position on. Mostly a few bytes are left, which are read without a loop.
 fn has_no_nul_from(key: &[u8], start: usize) -> bool
     requires { start < length key.now }
     ensures { IsTrue result → (i : ℕ) → start ≤ i → i < length key.now → get_or key.now i 0 ≢ 0 }

@@ -76,7 +76,7 @@ fn measured_look_ups(cedar: &Cedar<Global>, keys: &[&[u8]]) -> u64 {
     look_up(cedar, keys)
 }
 
-/// Looks keys up. A found one adds its place in the list, from 1, times one more than its value.
+/// Looks keys up. A found one adds its number in the list, from 1, times one more than its value.
 #[inline]
 fn look_up(cedar: &Cedar<Global>, keys: &[&[u8]]) -> u64 {
     let mut sum: u64 = 0;

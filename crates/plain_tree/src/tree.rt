@@ -93,7 +93,7 @@ impl<A: Allocator + Copy> PlainTree<A> {
         Some((number, query.len()))
     }
 
-    /// Returns the number at each nonempty prefix of a query that has one, and the place of that prefix's last byte.
+    /// Returns the number at each nonempty prefix of a query that has one, and the position of that prefix's last byte.
     pub fn front(&self, alloc: A, query: &[u8]) -> Result<Vec<(i32, usize), A>, AllocError>
         ensures { IfOk result (λ found. found.items ≡ front self.now query.now) }
     {

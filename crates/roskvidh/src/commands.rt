@@ -202,7 +202,7 @@ const CUT_TAKES: [Argument; 7] = [
 ];
 
 const CUT_NOTES: &str = "\
-Each line is cut by itself: at each place into the longest word that begins there, or else one character.
+Each line is cut by itself: at each position into the longest word that begins there, or else one character.
 
 Example:
   echo networks | roskvidh cut words.cedar -s '|'";

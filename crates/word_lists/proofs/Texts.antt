@@ -77,7 +77,7 @@ take_in_parts n m xs le = sym (take-append-drop n (take m xs)) ∙ ap₂ (λ a b
   back : drop n (take m xs) ≡ take (m - n) (drop n xs)
   back = ap (λ k. drop n (take k xs)) (sym whole) ∙ drop-take n (m - n) xs
 
--- those before a place, and those from there to another one
+-- those before a position, and those from there to another one
 pub characters_between : (text : List ℕ) (n m : ℕ) → n ≤ m → characters (take n text) + characters (take (m - n) (drop n text)) ≡ characters (take m text)
 characters_between text n m le = sym (ap characters (take_in_parts n m text le) ∙ characters-append (take n text) (take (m - n) (drop n text)))
 

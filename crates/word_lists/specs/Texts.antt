@@ -16,7 +16,7 @@ front_entry text found = (take (found.1 + 1) text, found.0)
 abbrev pub fronts_of : Tree → List ℕ → List Entry
 fronts_of tree text = map (front_entry text) (front tree text)
 
--- so many bytes of a text from a place on, or as many as there are
+-- so many bytes of a text from a position on, or as many as there are
 abbrev pub text_part : List ℕ → ℕ → ℕ → List ℕ
 text_part text start len = take len (drop start text)
 
@@ -75,7 +75,7 @@ cut_text sign text tokens = texts_of (parted_token sign text) tokens
 abbrev pub line_cut : List ℕ → List ℕ → List Token → List ℕ
 line_cut sign line tokens = cut_text sign (body_of line) tokens ++ ending_of line
 
--- a line cut at each place into the longest key that begins there, or else one byte
+-- a line cut at each position into the longest key that begins there, or else one byte
 abbrev pub greedy_line : Tree → List ℕ → List ℕ → List ℕ
 greedy_line tree sign line = line_cut sign line (segments tree (body_of line))
 
@@ -99,7 +99,7 @@ abbrev pub marked_line : Tree → List ℕ → List ℕ
 marked_line tree line =
     if ltb 0 (length (keywords_in tree (body_of line))) then texts_of (marked_token (body_of line)) (segments tree (body_of line)) ++ ending_of line else []
 
--- the line at a place of a list, or else the word itself
+-- the line at a position of a list, or else the word itself
 abbrev pub line_at : List (Bor (List ℕ)) → ℕ → List ℕ → List ℕ
 line_at lines place own = get_or (map (λ line. line.now) lines) place own
 

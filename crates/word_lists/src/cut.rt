@@ -11,8 +11,8 @@ use cedarwood::{Layout, Trie, Watched};
 use std::alloc::Allocator;
 use std::io::Write;
 
-/// Writes a line with a sign between its tokens: at each place the longest key that begins there, or otherwise one byte. A byte without a
-/// number that continues a character of UTF-8 isn't parted from what is before it. The bytes that end the line, byte 10 and a byte 13
+/// Writes a line with a sign between its tokens: at each position the longest key that begins there, or otherwise one byte. A byte without
+/// a number that continues a character of UTF-8 isn't parted from what is before it. The bytes that end the line, byte 10 and a byte 13
 /// before it, are written after them. It allocates nothing.
 ///
 /// ```

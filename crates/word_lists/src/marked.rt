@@ -149,7 +149,7 @@ fn replacement<'a>(lines: &[&'a [u8]], number: i32, own: &'a [u8]) -> &'a [u8]
     line_at(lines, number as usize - 1, own)
 }
 
-/// The line at a place of a list, or otherwise the word itself.
+/// The line at a position of a list, or otherwise the word itself.
 fn line_at<'a>(lines: &[&'a [u8]], place: usize, own: &'a [u8]) -> &'a [u8]
     ensures { result.now ≡ line_at lines.now place own.now }
 {

@@ -57,8 +57,8 @@ pub fn write_matches<L: Layout, const SLOTS: usize, A: Allocator + Copy, W: Writ
     line: &[u8],
     number: u64,
 ) -> Result<bool, ListError>
-    //= A scan that returns `Ok` wrote a line for each key that occurs in the text's line, place after place and at each the shortest first,
-    //  and nothing else.
+    //= A scan that returns `Ok` wrote a line for each key that occurs in the text's line, position after position and at each the shortest
+    //  first, and nothing else.
     ensures ok { OnOk result (Writes W.contents writer.old writer.new (match_lines trie.now.state.tree number line.now)) }
 
     //= It returns whether there is one. [also write_keywords]

@@ -1,7 +1,7 @@
 //! A word as a person reads it. It allocates nothing.
 //!
 //! A short word's line is put together before it is written, so that the writer is called once. Room is filled from its end: what is put is
-//! before the bytes from a place on, and its own place is returned.
+//! before the bytes from a position on, and its own position is returned.
 
 ghost use Rattle.std.specs.Prelude.{◌≡◌, ◌≤◌, ◌++◌, ◌+◌, ◌∷◌, ◌<◌, decimal, drop, IsTrue, length, OnErr, OnOk};
 ghost use Rattle.word_lists.specs.Words.{BreaksOff, byte_text, entry_line, escape, has_failed, is_plain, is_utf8, signed_decimal, tab_field, word_text, Writes, WritesOrFails};

@@ -182,7 +182,7 @@ fn next_copied<T: Walked, A: Allocator + Copy>(
 /// Why a text entry can't be given.
 #[derive(Clone, Copy, Debug, PartialEq, Eq)]
 pub enum EntryError {
-    /// The key isn't UTF-8. It has neither the key nor its value nor its place: [`Trie::entries`](crate::Trie::entries) gives each key as
+    /// The key isn't UTF-8. It has neither the key nor its value nor its index: [`Trie::entries`](crate::Trie::entries) gives each key as
     /// bytes.
     Utf8,
     /// An allocation was refused.
