@@ -25,6 +25,6 @@ WritesLeastCut tree unknown text before after needed = (tokens : List Token) × 
     × (needed ≡ length tokens) × (needed ≤ length before) × (after ≡ map found_token tokens ++ drop needed before)
 
 -- `needed` is how many tokens such a cut has, and there are fewer elements
-abbrev pub LacksPlacesForCut : Tree → (ℕ → ℕ) → List ℕ → List Found → ℕ → Type 0
-LacksPlacesForCut tree unknown text places needed =
+abbrev pub LacksRoomForCut : Tree → (ℕ → ℕ) → List ℕ → List Found → ℕ → Type 0
+LacksRoomForCut tree unknown text places needed =
     (tokens : List Token) × IsLeastCut tree unknown text tokens × (needed ≡ length tokens) × (length places < needed)

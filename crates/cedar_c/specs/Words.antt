@@ -3,7 +3,7 @@ pub use Rattle.cedar_bulk.specs.Sorted.{entries_of}
 pub use Rattle.cedar_c.specs.Changes.{IsRecord}
 pub use Rattle.cedar_c.specs.Content.{capacity_in, ChangesBy, content, ErasesUnder, layout_in, marks_in, size_in, state_in, tree_in}
 pub use Rattle.cedar_c.specs.Content.{trials_in}
-pub use Rattle.cedar_c.specs.Cuts.{IsLeastCut, LacksPlacesForCut, prices, WritesLeastCut}
+pub use Rattle.cedar_c.specs.Cuts.{IsLeastCut, LacksRoomForCut, prices, WritesLeastCut}
 pub use Rattle.cedar_c.specs.Entries.{bytes_lacking, EndsPage, entries_behind_key, PageOf, TellsEntries, TellsPage, visited_key, WritesNothing, WritesPage}
 pub use Rattle.cedar_c.specs.Files.{early_refusal, file_in, file_status, is_reduced_byte, IsFileOf, LacksOrCorrupt, TellsNoTable}
 pub use Rattle.cedar_c.specs.Files.{layout_named, minor_of, TellsHeader, TellsJust}

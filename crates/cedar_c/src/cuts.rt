@@ -1,7 +1,7 @@
 //! The cut of least cost of a whole text, written into a buffer of the caller's.
 
 ghost use Rattle.std.specs.Prelude.{◌++◌, ◌<◌, ◌↔◌, ◌≡◌, ◌≤◌, ◌⊎◌, drop, IfSome, length, map, None, set};
-ghost use Rattle.cedar_c.specs.Words.{dictionary_in, found_token, IsLeastCut, LacksPlacesForCut, prices, shown_in, shown_tree, WritesLeastCut};
+ghost use Rattle.cedar_c.specs.Words.{dictionary_in, found_token, IsLeastCut, LacksRoomForCut, prices, shown_in, shown_tree, WritesLeastCut};
 
 use crate::any::AnyCedar;
 use crate::reading::Reading;
@@ -40,7 +40,7 @@ pub extern "C" fn cedar_cheapest(
     //  2^64 - 1. `needed` is how many tokens there are, and doesn't change if neither `OK` nor `NO_ROOM` is returned. [with room, stays; by
     //  IsLeastCut, prices]
     ensures cut { result ≡ OK → WritesLeastCut (shown_tree handle.old) (prices by_characters unknown text.now) text.now found.old found.new needed.new }
-    ensures room { result ≡ NO_ROOM → LacksPlacesForCut (shown_tree handle.old) (prices by_characters unknown text.now) text.now found.old needed.new }
+    ensures room { result ≡ NO_ROOM → LacksRoomForCut (shown_tree handle.old) (prices by_characters unknown text.now) text.now found.old needed.new }
     ensures refused { (result ≡ OK) ⊎ (((result ≡ CLOSED) ⊎ (result ≡ MEMORY) ⊎ (result ≡ NO_ROOM)) × (found.new ≡ found.old)) }
     ensures stays { (result ≡ OK) ⊎ (result ≡ NO_ROOM) ⊎ (needed.new ≡ needed.old) }
     ensures kept { handle.new ≡ handle.old }
@@ -67,7 +67,7 @@ impl AnyCedar {
         needed: &mut usize,
     ) -> u32
         ensures cut { result ≡ OK → WritesLeastCut (dictionary_in self.now).state.tree (prices by_characters unknown text.now) text.now found.old found.new needed.new }
-        ensures room { result ≡ NO_ROOM → LacksPlacesForCut (dictionary_in self.now).state.tree (prices by_characters unknown text.now) text.now found.old needed.new }
+        ensures room { result ≡ NO_ROOM → LacksRoomForCut (dictionary_in self.now).state.tree (prices by_characters unknown text.now) text.now found.old needed.new }
         ensures refused { (result ≡ OK) ⊎ (((result ≡ MEMORY) ⊎ (result ≡ NO_ROOM)) × (found.new ≡ found.old)) }
         ensures stays { (result ≡ OK) ⊎ (result ≡ NO_ROOM) ⊎ (needed.new ≡ needed.old) }
     {

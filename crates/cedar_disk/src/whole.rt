@@ -94,7 +94,7 @@ impl<'a, F: Files> NewFile<'a, F> {
         ensures unplaced { IfErr result (λ failed. IsUnplacedAt (new_path self.entry) (new_bytes self.entry) (path_calls failed.calls)) }
     {
         if let Err(error) = self.make_ready() {
-            return Err(self.removed(error));
+            return Err(self.remove_after(error));
         }
         self.take_place()
     }
@@ -125,7 +125,7 @@ impl<'a, F: Files> NewFile<'a, F> {
     }
 
     /// Removes it, and returns why.
-    fn removed(self, error: io::Error) -> NotPlaced
+    fn remove_after(self, error: io::Error) -> NotPlaced
         ensures { path_calls result.calls ≡ new_calls self.entry }
     {
         self.file.remove(self.files, self.name.as_str(), self.path);

@@ -5,7 +5,7 @@ use Rattle.cedar_tree.specs.State.{State}
 use Rattle.cedar_store.specs.Files.{IsEither, state_of}
 use Rattle.cedar_runs.specs.Lives.{CrashesIn, IsLife, IsSession, Session, after_session, calling, after_life, while_opening, with_last}
 use Rattle.cedar_runs.specs.Runs.{IsStoreRun, failed_after_all, sure_after_all}
-use Rattle.cedar_runs.specs.Steps.{IsKnown, Point, called, under_way}
+use Rattle.cedar_runs.specs.Steps.{IsKnown, Point, after_call, under_way}
 use Rattle.cedar_runs.specs.declared.call.StoreCall.{StoreCall}
 use Rattle.cedar_runs.specs.declared.call.Outcome.{Outcome}
 use Rattle.cedar_runs.proofs.RunLemmas.{run_failed, run_held, run_known}
@@ -33,7 +33,7 @@ module _ {D : Type 0} (seen : D → List ℕ) (moment : D → ℕ) (left_since :
       let held = run_held moment left_since may_leave first calls outcomes end run in
       let failed : end.failed ≡ failed_after_all false outcomes =
       run_failed moment left_since may_leave first calls outcomes end run ∙ ap (λ b. failed_after_all b outcomes) usable in
-      subst (λ s. IsEither sure s file) (λ i. under_way (failed i) (held i) (called (held i) c)) (left.2.crash sure known file left.3)
+      subst (λ s. IsEither sure s file) (λ i. under_way (failed i) (held i) (after_call (held i) c)) (left.2.crash sure known file left.3)
 
   session_ends : (session : Session) (before after : List ℕ) (s : State) → state_of before ≡ Some s → IsSession seen moment left_since may_leave session before after → Ends s session after
   session_ends while_opening before after s is h = (false, h.3 after h.4 ∙ ap state_of h.2 ∙ is)

@@ -2,7 +2,7 @@
 use Rattle.std.specs.Prelude.{◌≡◌, ℕ, Bool, false, cond, List, [], ◌∷◌, length, Option, Some, None}
 use Rattle.cedar_tree.specs.State.{State}
 use Rattle.cedar_store.specs.Files.{StandsFor, state_of}
-use Rattle.cedar_runs.specs.Steps.{IsCallStep, Point, called, under_way}
+use Rattle.cedar_runs.specs.Steps.{IsCallStep, Point, after_call, under_way}
 use Rattle.cedar_runs.specs.Runs.{IsStoreRun, failed_after_all, held_after_all, sure_after_all}
 use Rattle.cedar_runs.specs.declared.call.StoreCall.{StoreCall}
 use Rattle.cedar_runs.specs.declared.call.Outcome.{Outcome}
@@ -29,7 +29,7 @@ module _ {D : Type 0} (seen : D → List ℕ) (moment : D → ℕ) (left_since :
   abbrev pub CrashesIn : Point D → Option StoreCall → List ℕ → Type 0
   CrashesIn p None file = may_leave p.device file
   CrashesIn p (Some c) file =
-      (next : Point D) × (outcome : Outcome) × IsCallStep moment left_since may_leave p (called p.held c) outcome next × left_since next.device (moment p.device) file
+      (next : Point D) × (outcome : Outcome) × IsCallStep moment left_since may_leave p (after_call p.held c) outcome next × left_since next.device (moment p.device) file
 
   -- a session that found the one file, and left the other
   abbrev pub IsSession : Session → List ℕ → List ℕ → Type 0
@@ -48,7 +48,7 @@ module _ {D : Type 0} (seen : D → List ℕ) (moment : D → ℕ) (left_since :
 abbrev pub with_last : State → List StoreCall → List Outcome → Option StoreCall → State
 with_last s calls outcomes None = held_after_all s calls outcomes
 with_last s calls outcomes (Some c) =
-    under_way (failed_after_all false outcomes) (held_after_all s calls outcomes) (called (held_after_all s calls outcomes) c)
+    under_way (failed_after_all false outcomes) (held_after_all s calls outcomes) (after_call (held_after_all s calls outcomes) c)
 
 -- what a session makes of a dictionary: with that call or without it
 abbrev pub after_session : State → Session → Bool → State

@@ -15,12 +15,12 @@ use Rattle.cedar_runs.specs.declared.call.Outcome.{Outcome}
 use Rattle.cedar_runs.specs.declared.call.Outcome.TheVariants.{Made, Nothing, Failed}
 
 -- the state after a call
-abbrev pub called : State → StoreCall → State
-called s (call.Update key v) = after_put s key.now v
-called s (call.Erase key) = after_erase s key.now
-called s (call.Batch changes) = all_changed s (changes_told changes.now)
-called s call.Compact = s
-called s (call.Rule compaction) = s
+abbrev pub after_call : State → StoreCall → State
+after_call s (call.Update key v) = after_put s key.now v
+after_call s (call.Erase key) = after_erase s key.now
+after_call s (call.Batch changes) = all_changed s (changes_told changes.now)
+after_call s call.Compact = s
+after_call s (call.Rule compaction) = s
 
 -- what an error of a change says came of it
 abbrev pub outcome_of : DurableError → Outcome

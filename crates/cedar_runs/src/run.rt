@@ -1,7 +1,7 @@
 //! Calls of a store, one after another.
 
 ghost use Rattle.std.specs.Prelude.{◌+◌, ◌≡◌, ◌≤◌, IfErr, IfOk, length, vec_capacity, vec_len};
-ghost use Rattle.cedar_runs.specs.Words.{AddsStoreRun, after_erase, after_put, all_changed, BeginsSession, called, changes_told, IsCallStep, IsReadyStore, KeepsState, Only, outcome_of, outcome_of_compaction, outcome_of_erasure, point_of};
+ghost use Rattle.cedar_runs.specs.Words.{AddsStoreRun, after_call, after_erase, after_put, all_changed, BeginsSession, changes_told, IsCallStep, IsReadyStore, KeepsState, Only, outcome_of, outcome_of_compaction, outcome_of_erasure, point_of};
 
 use crate::{Outcome, StoreCall};
 use cedar_journal::{Device, ReplaceDevice};
@@ -62,7 +62,7 @@ pub fn make_store_call<T: Words, A: Allocator + Copy, D: ReplaceDevice>(
     requires ready { IsReadyStore D.seen D.may_leave T.state store.old }
     ensures ready { IsReadyStore D.seen D.may_leave T.state store.new }
     //= So is a single call a step of a run. [by IsCallStep]
-    ensures step { IsCallStep D.moment D.left_since D.may_leave (point_of T.state store.old) (called (T.state store.old.words) call.now) result (point_of T.state store.new) }
+    ensures step { IsCallStep D.moment D.left_since D.may_leave (point_of T.state store.old) (after_call (T.state store.old.words) call.now) result (point_of T.state store.new) }
 {
     match call {
         StoreCall::Update { key, value } => update(store, key, *value),

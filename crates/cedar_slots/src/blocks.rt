@@ -73,7 +73,7 @@ impl Counts {
     }
 
     /// Returns the counts after `wanted` labels have found no place in the block.
-    pub(crate) fn failed(self, wanted: i16, max_trial: i32) -> Counts
+    pub(crate) fn after_failure(self, wanted: i16, max_trial: i32) -> Counts
         requires { self.trial <ℤ max_trial }
         ensures num { result.num ≡ self.num }
         ensures reject { result.reject ≡ wanted }

@@ -384,7 +384,7 @@ impl<A: Allocator> Places<A> {
         self.lower_reject(counts.num, wanted);
         let max_trial = self.blocks.max_trial;
         self.blocks
-            .set_counts(block, counts.failed(wanted, max_trial));
+            .set_counts(block, counts.after_failure(wanted, max_trial));
     }
 
     /// Returns the first free slot of `block` that the first label can take with room for all others,

@@ -10,7 +10,7 @@ use Rattle.cedarwood.specs.declared.error.CedarError.TheVariants.{Memory, SlotLi
 use Rattle.cedarwood.specs.Dictionary.{Dictionary}
 use Rattle.cedarwood.specs.Making.{IsNew, IsSorted, IsSortedBuild}
 use Rattle.cedarwood.specs.SortedInput.{fault_from}
-use Rattle.cedarwood.specs.Told.{told}
+use Rattle.cedarwood.specs.Told.{error_of_shortage}
 use Rattle.cedarwood.proofs.SortedInputLemmas.{faultless}
 
 module _ (one two : CedarBuilder) (ordered : one.ordered ≡ two.ordered) (max_trial : one.max_trial ≡ two.max_trial) where
@@ -28,15 +28,15 @@ module _ (one two : CedarBuilder) (ordered : one.ordered ≡ two.ordered) (max_t
   built_alike layout slots pairs made is = record { faulty = is.faulty; sorted = sorted_alike layout pairs made is.sorted; refused = is.refused }
 
 -- what a table lacked is reported as itself
-lacked : (e : Shortage) (P : Type 0) → (e ≡ shortage.Memory) ⊎ ((e ≡ shortage.SlotLimit) × P) → (told e ≡ Memory) ⊎ ((told e ≡ SlotLimit) × P)
-lacked e P (inl memory) = inl (ap told memory)
-lacked e P (inr limit) = inr (ap told limit.0, limit.1)
+lacked : (e : Shortage) (P : Type 0) → (e ≡ shortage.Memory) ⊎ ((e ≡ shortage.SlotLimit) × P) → (error_of_shortage e ≡ Memory) ⊎ ((error_of_shortage e ≡ SlotLimit) × P)
+lacked e P (inl memory) = inl (ap error_of_shortage memory)
+lacked e P (inr limit) = inr (ap error_of_shortage limit.0, limit.1)
 
 -- a build of pairs without a fault whose table was refused
 pub refused_build : (layout : LayoutKind) (slots : ℕ) (settings : CedarBuilder) (pairs : List Entry) (made : Result Dictionary CedarError) (error : CedarError) (e : Shortage) → fault_from 0 [] pairs ≡ None
-    → made ≡ Err error → error ≡ told e → (e ≡ shortage.Memory) ⊎ ((e ≡ shortage.SlotLimit) × (slots ≤ 256 * length (prefixes (asc pairs)))) → IsSortedBuild layout slots settings pairs made
+    → made ≡ Err error → error ≡ error_of_shortage e → (e ≡ shortage.Memory) ⊎ ((e ≡ shortage.SlotLimit) × (slots ≤ 256 * length (prefixes (asc pairs)))) → IsSortedBuild layout slots settings pairs made
 refused_build layout slots settings pairs (Ok d) error e fine is same lacks = absurd (cc)
 refused_build layout slots settings pairs (Err x) error e fine is same lacks =
-    let told_as : told e ≡ x = cc in
+    let told_as : error_of_shortage e ≡ x = cc in
     let Lacks : CedarError → Type 0 = λ y. (y ≡ Memory) ⊎ ((y ≡ SlotLimit) × (slots ≤ 256 * length (prefixes (asc pairs)))) in
     record { faulty = faultless (fault_from 0 [] pairs) (Err x) fine; sorted = tt; refused = λ _. subst Lacks told_as (lacked e (slots ≤ 256 * length (prefixes (asc pairs))) lacks) }

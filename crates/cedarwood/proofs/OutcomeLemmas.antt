@@ -8,7 +8,7 @@ use Rattle.cedar_model.specs.Table.Layouts.{LayoutKind}
 use Rattle.cedarwood.specs.Builds.{outcome}
 use Rattle.cedarwood.specs.Dictionary.{Dictionary}
 use Rattle.cedarwood.specs.Fault.{fault}
-use Rattle.cedarwood.specs.Told.{told}
+use Rattle.cedarwood.specs.Told.{error_of_shortage}
 use Rattle.cedarwood.specs.Updates.{IsUpdate}
 use Rattle.cedarwood.proofs.GrowthLemmas.{grows_none}
 use Rattle.cedarwood.proofs.UpdateLemmas.{fault_no_shortage}
@@ -16,11 +16,11 @@ use Rattle.cedarwood.proofs.UpdateLemmas.{fault_no_shortage}
 -- whether a call succeeds, without its result, whose edit of the table returned r
 abbrev pub told_outcome : {X : Type 0} → Result X Shortage → Result (Unit {0}) CedarError
 told_outcome (Ok x) = Ok tt
-told_outcome (Err e) = Err (told e)
+told_outcome (Err e) = Err (error_of_shortage e)
 
 -- the call hands on what the edit returned, and reports what the table lacked
 abbrev pub HandsOn : {X : Type 0} → Result X Shortage → Result X CedarError → Type 0
-HandsOn r told_as = MatchResult r (λ x. told_as ≡ Ok x) (λ e. IsErrAnd told_as (λ error. error ≡ told e))
+HandsOn r told_as = MatchResult r (λ x. told_as ≡ Ok x) (λ e. IsErrAnd told_as (λ error. error ≡ error_of_shortage e))
 
 pub outcome_is_told : {X : Type 0} (r : Result X Shortage) (r' : Result X CedarError) → HandsOn r r' → told_outcome r ≡ outcome r'
 outcome_is_told (Ok x) r' h = sym (ap outcome h)
@@ -47,7 +47,7 @@ pub on_err_out : {X : Type 0} (P : Type 0) (r : Result X Shortage) → OnErr r P
 on_err_out P (Ok x) p = tt
 on_err_out P (Err e) p = p
 
-pub if_err_out : {X : Type 0} (P : CedarError → Type 0) (r : Result X Shortage) → IfErr r (λ e. P (told e)) → IfErr (told_outcome r) P
+pub if_err_out : {X : Type 0} (P : CedarError → Type 0) (r : Result X Shortage) → IfErr r (λ e. P (error_of_shortage e)) → IfErr (told_outcome r) P
 if_err_out P (Ok x) p = tt
 if_err_out P (Err e) p = p
 

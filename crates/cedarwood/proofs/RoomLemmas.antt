@@ -11,7 +11,7 @@ use Rattle.cedar_table.specs.Table.Room as table
 use Rattle.cedarwood.specs.declared.error.CedarError.TheVariants.{SlotLimit}
 use Rattle.cedarwood.specs.Dictionary.{Dictionary, capacity_after}
 use Rattle.cedarwood.specs.Room.{LacksRoom}
-use Rattle.cedarwood.specs.Told.{told}
+use Rattle.cedarwood.specs.Told.{error_of_shortage}
 use Rattle.cedarwood.proofs.GrowthLemmas.{capacity_by_blocks, dictionary_of}
 use Rattle.cedarwood.proofs.OutcomeLemmas.{told_outcome}
 
@@ -30,10 +30,10 @@ module _ (slots n : ℕ) (T T' : Fields) (d : Dictionary) (same : dictionary_of 
       let there : 256 * n ≤ capacity_of T - size_of T = subst (λ (x : Dictionary). 256 * n ≤ x.capacity - x.size) (sym same) room in
       omega (arith, well.table.sound.shaped.blocks.active_in)
 
-  pub lacks : (e : Shortage) → table.LacksBlocks T slots n e → LacksRoom slots d n (told e)
-  lacks e h = subst (λ (x : Dictionary). LacksRoom slots x n (told e)) same (by_error e h)
+  pub lacks : (e : Shortage) → table.LacksBlocks T slots n e → LacksRoom slots d n (error_of_shortage e)
+  lacks e h = subst (λ (x : Dictionary). LacksRoom slots x n (error_of_shortage e)) same (by_error e h)
     where
-      by_error : (e : Shortage) → table.LacksBlocks T slots n e → LacksRoom slots (dictionary_of T) n (told e)
+      by_error : (e : Shortage) → table.LacksBlocks T slots n e → LacksRoom slots (dictionary_of T) n (error_of_shortage e)
       by_error shortage.Memory h = h
       by_error shortage.SlotLimit h = h
 
@@ -44,10 +44,10 @@ module _ (slots n : ℕ) (T T' : Fields) (d : Dictionary) (same : dictionary_of 
       no_lack shortage.Memory h enough = absurd (omega (arith, h.0))
       no_lack shortage.SlotLimit h enough = absurd (omega (arith, well.table.within))
 
-  pub limit_is_told : (e : Shortage) → table.LacksBlocks T slots n e → slots < d.size + 256 * n → told e ≡ SlotLimit
+  pub limit_is_told : (e : Shortage) → table.LacksBlocks T slots n e → slots < d.size + 256 * n → error_of_shortage e ≡ SlotLimit
   limit_is_told e h past = which e h (subst (λ (x : Dictionary). slots < x.size + 256 * n) (sym same) past)
     where
-      which : (e : Shortage) → table.LacksBlocks T slots n e → slots < size_of T + 256 * n → told e ≡ SlotLimit
+      which : (e : Shortage) → table.LacksBlocks T slots n e → slots < size_of T + 256 * n → error_of_shortage e ≡ SlotLimit
       which shortage.Memory h past = absurd (omega (arith, h.1))
       which shortage.SlotLimit h past = refl
 

@@ -21,7 +21,7 @@ use Rattle.cedarwood.specs.Dictionary.{Dictionary, Grows, first_bytes}
 use Rattle.cedar_slots.specs.declared.shortage.Shortage.{Shortage}
 use Rattle.cedar_slots.specs.declared.shortage.Shortage.TheVariants as shortage
 use Rattle.cedarwood.specs.Fault.{fault, key_fault, value_fault, or_else, IsShortage}
-use Rattle.cedarwood.specs.Told.{told}
+use Rattle.cedarwood.specs.Told.{error_of_shortage}
 use Rattle.cedarwood.specs.Updates.{PacksUpdate}
 use Rattle.cedarwood.proofs.GrowthLemmas.{dictionary_of, blocks_stay, grows}
 use Rattle.cedarwood.proofs.SortedInputLemmas.{not_both}
@@ -81,11 +81,11 @@ unheld : (o : Option ℤ) → (is_some o ≡ true → ⊥) → o ≡ None
 unheld None h = refl
 unheld (Some v) h = absurd (h refl)
 
-is_shortage : (e : Shortage) → IsShortage (told e)
+is_shortage : (e : Shortage) → IsShortage (error_of_shortage e)
 is_shortage shortage.Memory = tt
 is_shortage shortage.SlotLimit = tt
 
-refusals : {X : Type 0} (r : Result X Shortage) (o : Option ℤ) → (is_some o ≡ true → OnErr r ⊥) → IfErr r (λ e. IsShortage (told e) × (o ≡ None))
+refusals : {X : Type 0} (r : Result X Shortage) (o : Option ℤ) → (is_some o ≡ true → OnErr r ⊥) → IfErr r (λ e. IsShortage (error_of_shortage e) × (o ≡ None))
 refusals (Ok x) o over = tt
 refusals (Err e) o over = (is_shortage e, unheld o over)
 
@@ -132,7 +132,7 @@ module _ {X : Type 0} (slots : ℕ) (T T' : Fields) (d : Dictionary) (same : dic
       on_err_weaker r (λ (kept : tree_of T' ≡ tree_of T). let tree : d.state.tree ≡ tree_of T = same_tree in let order : d.state.ordered ≡ T.ordered = same_order in let now : T'.ordered ≡ T.ordered = modes.ordered in cc)
 
   pub is_refused : (is_some (number_at (tree_of T) key) ≡ true → OnErr r ⊥ × MakesBlocks 0 T T')
-      → IfErr r (λ e. IsShortage (told e) × (number_at d.state.tree key ≡ None))
+      → IfErr r (λ e. IsShortage (error_of_shortage e) × (number_at d.state.tree key ≡ None))
   is_refused over =
       refusals r (number_at d.state.tree key) (λ held. (over (subst (λ t. is_some (number_at t key) ≡ true) same_tree held)).0)
 

@@ -51,7 +51,7 @@ pub use Rattle.cedarwood.specs.Shown.{entry_error_text, error_text, refused_pair
 pub use Rattle.cedarwood.specs.Shrinking.{ArePlaces, entry_of, IsEntryPlace, IsMadeOf, IsPutBack, IsRebuilt, IsShrunk, LacksPlaces, PutsBack, PutsEntry}
 pub use Rattle.cedarwood.specs.SortedInput.{AreBytes, fault_behind, fault_from, fault_of_order, HasNoNul, IsSharedFront, key_at}
 pub use Rattle.cedarwood.specs.SortedInput.{sorted_fault}
-pub use Rattle.cedarwood.specs.Told.{told}
+pub use Rattle.cedarwood.specs.Told.{error_of_shortage}
 pub use Rattle.cedarwood.specs.Unsorted.{four_bytes, goes_on, headed_entries, IsHeaded, IsNotFalling, IsUnsortedBuild, last_of_each, leading_bytes, SortsTo}
 pub use Rattle.cedarwood.specs.Updates.{IsUpdate}
 pub use Rattle.cedarwood.specs.WalkPlaces.{ComesToEntry, entries_from, GoesOnTo, GoesToCopied, GoesToEntry, IsEntriesPlace, IsPredictPlace, IsPrefixPlace}
