@@ -24,8 +24,8 @@ pub record OpensNew (kind : LayoutKind) (ordered : Bool) (trials : ℤ) (before 
   pub invalid : (status ≡ INVALID_MAX_TRIAL) ↔ (trials <ℤ pos 1)
   pub refused : (status ≡ OK) ⊎ (((status ≡ INVALID_MAX_TRIAL) ⊎ (status ≡ MEMORY)) × (content after ≡ content before))
 
--- by OK the handle is opened with a dictionary of just these pairs, which come sorted or in any order, in the place of what it had; by
--- another status it is as it was. `found` and `told` are the position before and after
+-- if OK is returned, the handle is opened with a dictionary of just these pairs, which come sorted or in any order, in place of what it
+-- had; by another status it is as it was. `found` and `told` are the position before and after
 pub record OpensBuilt (kind : LayoutKind) (is_sorted ordered : Bool) (trials : ℤ) (pairs : List Pair) (before after : Handle) (found told status : ℕ) : Type 0 where
   pub made : status ≡ OK → (settings : CedarBuilder) × (settings.ordered ≡ ordered) × (settings.max_trial ≡ trials)
       × ((a : AnyCedar) × (content after ≡ Some a) × IsSorted (layout_of a) settings (entries_in pairs) (dictionary_in a))
@@ -40,7 +40,7 @@ pub record OpensBuilt (kind : LayoutKind) (is_sorted ordered : Bool) (trials : �
   -- only an error that has a position writes it
   pub stays : TellsPosition status ⊎ (told ≡ found)
 
--- by OK the handle is opened with the dictionary that a file's bytes are of, in the place of what it had; by another status it is as it was
+-- if OK is returned, the handle is opened with the dictionary that a file's bytes are of, in place of what it had; else it is as it was
 pub record OpensLoaded (kind : LayoutKind) (limit : ℕ) (bytes : List ℕ) (before after : Handle) (status : ℕ) : Type 0 where
   pub loaded : status ≡ OK → (a : AnyCedar) × (content after ≡ Some a) × IsFileOf (dictionary_in a).table bytes
   pub stands : status ≡ OK → (a : AnyCedar) × (content after ≡ Some a) × IsOnTable most_slots (dictionary_in a)
