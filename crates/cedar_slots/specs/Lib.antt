@@ -1,4 +1,5 @@
 pub mod Blocks
+pub mod Counting
 pub mod Padded
 pub mod Places
 pub mod Ring

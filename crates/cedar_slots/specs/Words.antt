@@ -1,6 +1,7 @@
 -- The words of clauses, from one place.
 pub use Rattle.cedar_slots.specs.Blocks.{block_at, counts_at, fresh_counts, HasLists, head_of, KeepsCounts, KeepsLinks, kind_of}
 pub use Rattle.cedar_slots.specs.Blocks.{linked_blocks, ListRings, lists_with, next_at, Popped, prev_at, SameFrom, Sized, total}
+pub use Rattle.cedar_slots.specs.Counting.{SetsCounts}
 pub use Rattle.cedar_slots.specs.Places.{AddsBlock, FreesSlot, Grown, IsBase, IsFreePlace, IsNewPlaces, IsOpenBlock, IsPowerOfTwo}
 pub use Rattle.cedar_slots.specs.Places.{IsSlotLimit, IsStart, MayRefuse, NoneFree, reject_at, Rejects, room_for_one, SameSlots, Shaped}
 pub use Rattle.cedar_slots.specs.Places.{Sound, TakesSlot, Within}
