@@ -9,6 +9,7 @@ use Rattle.cedar_tree.proofs.EntryLemmas.Counts.{length-walk-cut}
 use Rattle.cedarwood.specs.Batches.{held_in_turn, keys_erased}
 use Rattle.cedar_c.specs.Pairs.{named_keys}
 use Rattle.cedar_c.specs.declared.erasures.Key.{Key}
+use Rattle.cedarwood.proofs.BatchLemmas.{held_as, length-held_in_turn}
 
 -- no erasure adds a key
 pub erased_fewer : (s : State) (ks : List (List ℕ)) → length (walk (keys_erased s ks).tree) ≤ length (walk s.tree)
@@ -18,20 +19,10 @@ erased_fewer s (k ∷ ks) =
     let later : length (walk (keys_erased (after_erase s k) ks).tree) ≤ length (walk (cut s.tree k)) = erased_fewer (after_erase s k) ks in
     omega (arith, one, later)
 
-held_as : {X : Type 0} (b : Bool) (o : Option X) → IsTrue b ↔ IsSome o → b ≡ is_some o
-held_as true (Some x) h = refl
-held_as true None h = absurd (let apart : false ≡ true = h.0 refl in cc)
-held_as false (Some x) h = absurd (let apart : false ≡ true = h.1 refl in cc)
-held_as false None h = refl
-
 -- the result of one key more is written
 held_more : (s : State) (ks : List (List ℕ)) (k : List ℕ) → held_in_turn s (ks ++ k ∷ []) ≡ held_in_turn s ks ++ is_some (number_at (keys_erased s ks).tree k) ∷ []
 held_more s [] k = refl
 held_more s (x ∷ xs) k = ap (λ (bs : List Bool). is_some (number_at s.tree x) ∷ bs) (held_more (after_erase s x) xs k)
-
-held_count : (s : State) (ks : List (List ℕ)) → length (held_in_turn s ks) ≡ length ks
-held_count s [] = refl
-held_count s (x ∷ xs) = ap (λ n. suc n) (held_count (after_erase s x) xs)
 
 -- one result more is written, if there is room for it
 written : (answers old : List Bool) (b : Bool)
@@ -68,7 +59,7 @@ module _ (s t : State) (keys : List Key) (i : ℕ) (inside : i < length keys) wh
       let ks : List (List ℕ) = take i (named_keys keys) in
       let k : List ℕ = (get_or keys i d).key.now in
       let answers : List Bool = held_in_turn s ks in
-      let count : length answers ≡ i = held_count s ks ∙ length-take-le i (named_keys keys) (omega (arith, key_count, inside)) in
+      let count : length answers ≡ i = length-held_in_turn s ks ∙ length-take-le i (named_keys keys) (omega (arith, key_count, inside)) in
       let answer : b ≡ is_some (number_at (keys_erased s ks).tree k) = held_as b (number_at t.tree k) is ∙ ap (λ (x : State). is_some (number_at x.tree k)) so_far in
       let next : suc i ≡ i + 1 = omega arith in
       set_at

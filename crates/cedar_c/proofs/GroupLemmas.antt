@@ -22,6 +22,7 @@ use Rattle.cedar_store.proofs.Recorded.{each_more, its_payloads, longer_records}
 use Rattle.cedar_c.specs.Changes.{IsRecord}
 use Rattle.cedar_c.specs.Groups.{AddsChange, IsGroup, group_head}
 use Rattle.cedar_c.proofs.PlanLemmas.{PlansAppend, is_change}
+use Rattle.std.proofs.lemmas.Option.{none-some}
 
 -- ---- records that take all their bytes: what follows them is read as if it were alone
 
@@ -47,13 +48,10 @@ all_front (suc n) (x ∷ bytes) low long = elim (cases_Bool (has_record (x ∷ b
 
 -- ---- one change more
 
-none_is : {A : Type 0} (a : A) → None ≡ Some a → ⊥
-none_is {A = A} a e = let apart : ◌≡◌ {A = Option A} None (Some a) = e in cc
-
 batch_long : (records : List ℕ) (changes : List Change) → batch_of records ≡ Some changes → records_length (payloads_in records) ≡ length records
 batch_long records changes is = elim (cases_eq (records_length (payloads_in records)) (length records)) [
   | inl same ↦ same
-  | inr other ↦ absurd (none_is changes (sym (cut_batch records other) ∙ is))
+  | inr other ↦ absurd (none-some changes (sym (cut_batch records other) ∙ is))
 ]
 
 more : (records p : List ℕ) (changes : List Change) (change : Change) → batch_of records ≡ Some changes → change_of p ≡ Some change → length p < 4294967296

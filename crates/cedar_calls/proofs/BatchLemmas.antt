@@ -7,6 +7,7 @@ use Rattle.cedarwood.specs.Batches.{held_in_turn}
 use Rattle.cedarwood.specs.Dictionary.{Dictionary}
 use Rattle.cedarwood.specs.declared.error.CedarError.TheVariants.{Memory}
 use Rattle.cedar_calls.specs.Changes.{IsErasedBatch}
+use Rattle.cedarwood.proofs.BatchLemmas.{length-held_in_turn}
 
 -- where there are as many elements as results, nothing but these is in them
 pub each_filled : {Y : Type 0} (n : ℕ) (before after held results : List Y) → length before ≡ n → length held ≡ n → length results ≡ n
@@ -28,11 +29,6 @@ pub all_filled : {X Y : Type 0} (f : X → Y) (keys : List X) (n : ℕ) (before 
 all_filled f keys n before after held count room size h =
     let asked = all_asked keys n (length before) count room in
     (each_filled n before after held (map f keys) room size (length-map keys f ∙ count) (h ∙ ap (λ ks. map f ks ++ drop n before) asked)).1
-
--- there is a result for each key
-pub length-held_in_turn : (s : State) (keys : List (List ℕ)) → length (held_in_turn s keys) ≡ length keys
-length-held_in_turn s [] = refl
-length-held_in_turn s (key ∷ keys) = ap suc (length-held_in_turn (after_erase s key) keys)
 
 -- nothing changes if there is no memory to say what was held
 pub none_erased : {A : Type 0} (d : Dictionary) (keys : List (List ℕ)) → 0 < length keys → IsErasedBatch {A = A} d d keys (Err Memory)

@@ -6,6 +6,7 @@ use Rattle.std.proofs.lemmas.Bool.{false≢true, true≢false}
 use Rattle.cedarwood.specs.declared.error.CedarError.{CedarError}
 use Rattle.cedarwood.specs.declared.error.CedarError.TheVariants.{Memory}
 use Rattle.cedar_calls.specs.Replies.{Collects, CollectsSome}
+use Rattle.cedar_tree.proofs.GeneralLemmas.{positive}
 
 -- what has a part that isn't empty isn't empty
 pub some_of : {X : Type 0} (front rest all : List X) → front ++ rest ≡ all → 0 < length rest → 0 < length all
@@ -14,10 +15,6 @@ some_of front rest all whole some = subst (λ xs. 0 < length xs) whole (omega (a
 pub some_if_not_empty : {X : Type 0} (xs : List X) (b : Bool) → (IsTrue b ↔ (xs ≡ [])) → b ≡ false → 0 < length xs
 some_if_not_empty [] b h is = absurd (false≢true (sym is ∙ h.1 refl))
 some_if_not_empty (x ∷ xs) b h is = omega arith
-
-pub positive : (n : ℕ) → (n ≡ 0 → ⊥) → 0 < n
-positive zero h = absurd (h refl)
-positive (suc n) h = omega arith
 
 -- a first item that was given, and none
 pub some_first : {X : Type 0} (has later : List X) (given : Option X) → is_some given ≡ true → MatchOption given ((has ≡ []) × (later ≡ [])) (λ x. has ≡ x ∷ later) → 0 < length has

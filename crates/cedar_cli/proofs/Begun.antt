@@ -7,6 +7,7 @@ use Rattle.cedarwood.specs.Dictionary.{Dictionary}
 use Rattle.cedar_cli.specs.Options.{Request, BeginsWith, limit_of, request_besides, empty, with_reduced, with_v1_0, is_new, with_limit, with_load, with_save, request_in, with_any_order}
 use Rattle.cedar_cli.specs.declared.options.Options.{Options}
 use Rattle.cedar_cli.specs.View.{View, marked_in, view_of}
+use Rattle.cedar_tree.proofs.GeneralLemmas.{on_ok}
 
 by_load : (load : Option (List ℕ)) (s : View) → MatchOption load (s ≡ s) (λ _. Unit {0})
 by_load None s = refl
@@ -44,10 +45,6 @@ asks_load o path given = rw given refl
 pub begins_new : (layout : LayoutKind) (o : Options) (d : Dictionary) → o.load ≡ None → d.state.tree ≡ empty_tree → d.marked ≡ empty_tree → d.state.ordered ≡ o.ordered
     → BeginsWith layout (request_in o) (view_of layout d)
 begins_new layout o d none tree unmarked order = (refl, rw none (seen_new layout d o.ordered tree unmarked order))
-
-pub on_ok : {T E P : Type 0} (r : Result T E) → P → OnOk r P
-on_ok (Ok x) p = p
-on_ok (Err e) p = tt
 
 and_false : (b : Bool) → (b && false) ≡ false
 and_false true = refl

@@ -23,6 +23,7 @@ use Rattle.cedar_cli.specs.declared.script.ScriptError.TheVariants.{Read, Write,
 use Rattle.std.specs.Io.KnownBytes.{Appends}
 use Rattle.text_lines.proofs.Bytes.{Appends-none}
 use Rattle.cedar_cli.proofs.Bytes.{Disobeys-on_err, Obeys-on_ok, all_stays}
+use Rattle.cedarwood.proofs.FaultLemmas.{fault_free}
 
 -- what an exact search that missed says
 pub exact_missed : (t : Tree) (key : List ℕ) → None ≡ exact t key → number_at t key ≡ None
@@ -67,11 +68,6 @@ found_line v n first second e f = rw (e, f) (sym (append_assoc (signed_decimal v
 pub figures_line : (keys slots : ℕ) (first second : List ℕ) → first ≡ decimal keys → second ≡ decimal slots
     → first ++ (codes " " ++ (second ++ 10 ∷ [])) ≡ figures_text keys slots ++ 10 ∷ []
 figures_line keys slots first second e f = rw (e, f) (sym (append_assoc (decimal keys) (32 ∷ decimal slots) (10 ∷ [])))
-
--- a call that was obeyed met no fault
-pub no_fault : {T : Type 0} (f : Option CedarError) (x : T) → IfSome f (λ e. ◌≡◌ {A = Result T CedarError} (Ok x) (Err e)) → f ≡ None
-no_fault None x h = refl
-no_fault (Some e) x h = absurd (cc)
 
 -- one that was refused, but not for memory or slots, met this fault
 pub refused_by : (T : Type 0) (f : Option CedarError) (N : Type 0) (e : CedarError)

@@ -1,16 +1,13 @@
 -- What one call more does to what a crash may leave.
 use Rattle.std.specs.Prelude.{◌&&◌, IsTrue}
 use Rattle.std.proofs.Common.{◌≡◌, ◌⊎◌, inl, inr, ⊎_elim, ℕ, zero, suc, ◌+◌, ◌<◌, ◌≤◌, Bool, true, false, List, [], ◌∷◌, ◌++◌, length, take, drop, refl, sym, ◌∙◌, ap, subst, arith, length-append, length-take-le}
-use Rattle.std.proofs.lemmas.Bool.{and_parts, false≢true, leb-true}
+use Rattle.std.proofs.lemmas.Bool.{and_parts, false≢true, leb-true, and_from}
 use Rattle.cedar_journal.specs.Device.{Cut, Elapses, Follows, LeavesOnly, Only, Torn}
 use Rattle.cedar_journal.proofs.Moments as moments
 use Rattle.cedar_journal.proofs.Tears.{cut_same, cut_taken, torn_held, torn_same}
 use Rattle.cedar_disk.specs.Calls.{Call, LeftSince, MayLeave, NextLeft, CallState, all_within, faults_in, is_named_after, is_usable_after, folder_sync_call, next_seen, next_state, overlay, refused_call, rename_call, seen_after, truncate_call, state_after, sync_call, within_by, write_call}
 use Rattle.cedar_disk.specs.Laws.{counts_now, only_now}
 use Rattle.cedar_disk.specs.Runs.{IsUnplaced}
-
-pub both : (a b : Bool) → a ≡ true → b ≡ true → (a && b) ≡ true
-both a b x y = ap (λ t. t && b) x ∙ y
 
 -- ---- writes and cuts of one file
 
@@ -67,7 +64,7 @@ stays ((suc kind, at, ok, bytes) ∷ earlier) within usable =
 -- behind a sync the disk has what a read returns
 pub synced_only : (calls : List Call) → IsTrue (is_usable_after calls) → Only (seen_after calls) (MayLeave (sync_call true ∷ calls))
 synced_only calls usable c left =
-    let flag : (is_usable_after calls && true) ≡ true = both _ _ usable refl in
+    let flag : (is_usable_after calls && true) ≡ true = and_from _ _ usable refl in
     subst (λ (b : Bool). NextLeft 3 0 b [] (seen_after calls) (MayLeave calls) c) flag left
 
 pub synced_file : (old new : List Call) → IsTrue (is_usable_after old) → new ≡ sync_call true ∷ old → Only (seen_after old) (MayLeave new) × Only (seen_after new) (MayLeave new)
@@ -78,17 +75,17 @@ synced_file old new usable is =
 -- and behind that of the folder the name of another file
 pub named_only : (calls : List Call) (bytes : List ℕ) → IsTrue (is_named_after calls) → Only bytes (MayLeave (folder_sync_call true ∷ rename_call bytes true ∷ calls))
 named_only calls bytes known c left =
-    let flag : ((is_named_after calls && true) && true) ≡ true = both _ _ (both _ _ known refl) refl in
+    let flag : ((is_named_after calls && true) && true) ≡ true = and_from _ _ (and_from _ _ known refl) refl in
     subst (λ (b : Bool). NextLeft 5 0 b [] bytes (MayLeave (rename_call bytes true ∷ calls)) c) flag left
 
 pub named_file : (old new : List Call) (bytes : List ℕ) → IsTrue (is_named_after old) → new ≡ folder_sync_call true ∷ rename_call bytes true ∷ old → Only bytes (MayLeave new)
 named_file old new bytes known is = subst (λ (l : List Call). Only bytes (MayLeave l)) (sym is) (named_only old bytes known)
 
 pub usable_again : (calls : List Call) (bytes : List ℕ) → IsTrue (is_named_after calls) → IsTrue (is_usable_after (folder_sync_call true ∷ rename_call bytes true ∷ calls))
-usable_again calls bytes known = both _ _ (both _ _ known refl) refl
+usable_again calls bytes known = and_from _ _ (and_from _ _ known refl) refl
 
 pub named_again : (calls : List Call) (bytes : List ℕ) → IsTrue (is_named_after calls) → IsTrue (is_named_after (folder_sync_call true ∷ rename_call bytes true ∷ calls))
-named_again calls bytes known = both _ _ (both _ _ known refl) refl
+named_again calls bytes known = and_from _ _ (and_from _ _ known refl) refl
 
 -- ---- The calls of a device, of whose calls old were made before and new are made now.
 

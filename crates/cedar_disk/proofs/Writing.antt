@@ -1,14 +1,14 @@
 -- Bytes that are written by one call behind another.
 use Rattle.std.specs.Prelude.{IsTrue}
 use Rattle.std.proofs.Common.{◌≡◌, ℕ, ◌+◌, ◌-◌, ◌≤◌, Bool, true, false, List, [], ◌∷◌, ◌++◌, length, take, drop, slice_range, refl, sym, ◌∙◌, ap, subst, arith, append-nil, append_assoc, length-append, length-drop, length-take-le, take-append-drop}
-use Rattle.std.proofs.lemmas.Bool.{le-leb}
+use Rattle.std.proofs.lemmas.Bool.{le-leb, and_from}
 use Rattle.std.proofs.lemmas.List.{drop-drop, drop_all, drop_at, take_all, take_at, take_rest}
 use lib.Seq.{take-add}
 use Rattle.cedar_journal.specs.Device.{Follows, Only, Torn}
 use Rattle.cedar_disk.specs.Calls.{Call, MayLeave, is_usable_after, open_call, overlay, refused_call, seen_after, sync_call, write_call}
 use Rattle.cedar_disk.specs.Runs.{AreWritten, AreWrittenInPart, Spoils}
 use Rattle.cedar_journal.proofs.Tears.{torn_held, torn_same, torn_then}
-use Rattle.cedar_disk.proofs.Steps.{both, elapses_none, elapses_on, overlaid_length, synced_only}
+use Rattle.cedar_disk.proofs.Steps.{elapses_none, elapses_on, overlaid_length, synced_only}
 
 -- ---- bytes over bytes
 
@@ -70,12 +70,12 @@ module _ (at size : ℕ) (front : List ℕ) (old now : List Call) (fits : at ≤
     seen =
         ap (λ (f : List ℕ). overlay f from more) so_far.seen ∙ ap (λ (k : ℕ). overlay (overlay (seen_after old) at front) k more) is
         ∙ overlaid_more (seen_after old) at front more fits;
-    usable = λ usable. both _ _ (so_far.usable usable) refl;
+    usable = λ usable. and_from _ _ (so_far.usable usable) refl;
     spoils = record {
       crash = spoils_more from more (omega (arith, is)) (omega (arith, is)) room true;
       time = elapses_on (write_call from more true) old now so_far.spoils.time (λ c left. (c, left, torn_same from (length more) c));
       faults = so_far.spoils.faults;
-      within = λ within. both _ _ (le-leb from (length (seen_after now)) (begins from (omega (arith, is)))) (so_far.spoils.within within);
+      within = λ within. and_from _ _ (le-leb from (length (seen_after now)) (begins from (omega (arith, is)))) (so_far.spoils.within within);
       known = so_far.spoils.known;
     };
   }
@@ -85,7 +85,7 @@ module _ (at size : ℕ) (front : List ℕ) (old now : List Call) (fits : at ≤
     crash = spoils_more from more low high room false;
     time = elapses_on (write_call from more false) old now so_far.spoils.time (λ c left. (c, left, torn_same from (length more) c));
     faults = omega (arith, so_far.spoils.faults);
-    within = λ within. both _ _ (le-leb from (length (seen_after now)) (begins from high)) (so_far.spoils.within within);
+    within = λ within. and_from _ _ (le-leb from (length (seen_after now)) (begins from high)) (so_far.spoils.within within);
     known = so_far.spoils.known;
   }
 

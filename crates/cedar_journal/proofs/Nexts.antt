@@ -12,9 +12,10 @@ use Rattle.cedar_journal.specs.Files.{HasRecords, EndsThere, IsFoundThere, IsWho
 use Rattle.cedar_journal.specs.Formats.{ArePieces, AreUndamaged, Reading, read_behind, damaged, is_ended, is_summed, payloads_read, four_at, records_read, stands}
 use Rattle.cedar_journal.specs.Records.{behind_record, has_record, payload, payload_length, payloads_in}
 use Rattle.cedar_journal.proofs.Fronts.{first_of, record_is_front, take_both}
-use Rattle.cedar_journal.proofs.Headers.{front_and, named_reads, none_is}
+use Rattle.cedar_journal.proofs.Headers.{front_and, named_reads}
 use Rattle.cedar_journal.proofs.Reading.{payloads_first, payloads_none}
 use Rattle.cedar_journal.proofs.Readings.{closed_end, ended_gate, has_sum, is_whole, not_ended, plain_pieces, same_gate, same_number, same_text_of, summed_ends, summed_fails, summed_first, summed_pieces}
+use Rattle.std.proofs.lemmas.Option.{none-some}
 
 -- ---- version 1
 
@@ -112,7 +113,7 @@ only_end f bytes (nexts.Record n) is no_record no_damage = absurd (no_record n r
 only_end f bytes nexts.Damaged is no_record no_damage = absurd (no_damage refl)
 
 pub stands_unrefused : (file : List ℕ) (ps : List (List ℕ)) → file_payloads file ≡ Some ps → (false ≡ true) ↔ (file_payloads file ≡ None)
-stands_unrefused file ps is = (λ wrong. absurd (false≢true wrong), λ none. absurd (none_is ps (sym none ∙ is)))
+stands_unrefused file ps is = (λ wrong. absurd (false≢true wrong), λ none. absurd (none-some ps (sym none ∙ is)))
 
 pub lost_refused : (file : List ℕ) → file_payloads file ≡ None → (true ≡ true) ↔ (file_payloads file ≡ None)
 lost_refused file is = (λ yes. is, λ none. refl)
@@ -137,7 +138,7 @@ module _ (bytes : List ℕ) (f : Format) (end : ℕ) (within : end ≤ length by
 
   by_header : (r : Reading) (ps : List (List ℕ)) → recovered_by (Some (read_behind 13 [] r)) ≡ Some ps → ((qs : List (List ℕ)) × (r ≡ stands qs)) × (recovered_by (Some (read_behind 13 [] r)) ≡ Some (payloads_read r))
   by_header (stands qs) ps is = ((qs, refl), refl)
-  by_header (damaged at) ps is = absurd (none_is ps is)
+  by_header (damaged at) ps is = absurd (none-some ps is)
 
   pub all_records : format_of bytes ≡ Some f → 13 ≤ end → EndsThere f (drop end bytes) → HasRecords bytes f end
   unfolding file_payloads

@@ -1,7 +1,7 @@
 -- A record for which there was no room is withdrawn.
 use Rattle.std.specs.Prelude.{◌&&◌, IsTrue}
 use Rattle.std.proofs.Common.{◌≡◌, ◌⊎◌, inl, inr, ℕ, ◌+◌, ◌≤◌, Bool, true, false, List, [], ◌∷◌, ◌++◌, length, take, drop, refl, sym, ◌∙◌, ap, subst, arith, length-append, length-take}
-use Rattle.std.proofs.lemmas.Bool.{le-leb}
+use Rattle.std.proofs.lemmas.Bool.{le-leb, and_from}
 use Rattle.std.proofs.lemmas.List.{take-take}
 use Rattle.cedar_journal.specs.declared.format.Format.{Format}
 use Rattle.cedar_journal.specs.Device.{Cut, Only, Torn}
@@ -10,7 +10,7 @@ use Rattle.cedar_journal.proofs.Crash.{behind_gate, closed_stands, front_ends, g
 use Rattle.cedar_journal.proofs.Moments as moments
 use Rattle.cedar_journal.proofs.Tears.{torn_held}
 use Rattle.cedar_disk.specs.Calls.{Call, LeftSince, MayLeave, all_within, is_usable_after, overlay, seen_after, truncate_call, sync_call, write_call}
-use Rattle.cedar_disk.proofs.Steps.{both, cut_follows, sync_keeps, synced_only, write_follows}
+use Rattle.cedar_disk.proofs.Steps.{cut_follows, sync_keeps, synced_only, write_follows}
 use Rattle.cedar_plan.specs.Safety.{CrashLeaves, IsAtRest, IsCutBack, IsWithdrawn, cut_back}
 use Rattle.cedar_plan.proofs.Working.{leaves_one}
 
@@ -67,10 +67,10 @@ module _ (calls : List Call) (f : Format) (end : ℕ) (bytes : List ℕ) (rest :
       cut_keeps_front (end + 1) gated from.0 c gated_size (mid_left from.0 from.1) from.2
 
   within : IsTrue (all_within (shorter true))
-  within = both _ _ (le-leb (end + 1) (length (seen_after mid)) mid_long) (both _ _ (le-leb (end + 1) (length file) fits) rest.within)
+  within = and_from _ _ (le-leb (end + 1) (length (seen_after mid)) mid_long) (and_from _ _ (le-leb (end + 1) (length file) fits) rest.within)
 
   usable : IsTrue (is_usable_after (shorter true))
-  usable = both _ _ (both _ _ rest.usable refl) refl
+  usable = and_from _ _ (and_from _ _ rest.usable refl) refl
 
   synced_left : (ok : Bool) (c : List ℕ) → MayLeave (sync_call ok ∷ shorter true) c → P c
   synced_left ok c left = stands c (cut_left true c (sync_keeps (shorter true) (sync_call ok ∷ shorter true) within ok usable refl c left))
@@ -99,7 +99,7 @@ module _ (calls : List Call) (f : Format) (end : ℕ) (bytes : List ℕ) (rest :
       settled = settled_at seen_after MayLeave (cut_back end bytes calls) f end (take end file) [] (front_ends file end rest.settled.split) rest.settled.front mid_seen
           (synced_only (shorter true) usable);
       within = within;
-      usable = both _ _ usable refl;
+      usable = and_from _ _ usable refl;
     };
     same = closed_stands file f end rest.settled.split rest.settled.front (seen_after (cut_back end bytes calls)) [] mid_seen;
     any_moment = any_moment;

@@ -1,12 +1,12 @@
 -- What becomes of a file while works are done to it, one after another.
 use Rattle.std.specs.Prelude.{◌&&◌, IsTrue}
 use Rattle.std.proofs.Common.{◌≡◌, ◌⊎◌, inl, inr, ⊎_elim, ℕ, ◌≤◌, Bool, true, false, List, [], ◌∷◌, length, take, refl, sym, ◌∙◌, ap, subst}
-use Rattle.std.proofs.lemmas.Bool.{le-leb}
+use Rattle.std.proofs.lemmas.Bool.{le-leb, and_from}
 use Rattle.cedar_journal.specs.Device.{Cut, Only, Torn}
 use Rattle.cedar_journal.proofs.Moments as moments
 use Rattle.cedar_disk.specs.Calls.{Call, LeftSince, MayLeave, all_within, is_usable_after, open_call, overlay, seen_after, truncate_call, sync_call, write_call}
 use Rattle.cedar_disk.specs.Laws.{only_now}
-use Rattle.cedar_disk.proofs.Steps.{both, cut_follows, leaves, sync_keeps, synced_only, write_follows}
+use Rattle.cedar_disk.proofs.Steps.{cut_follows, leaves, sync_keeps, synced_only, write_follows}
 use Rattle.cedar_plan.specs.Safety.{CrashLeaves}
 use Rattle.cedar_plan.specs.Works.{AreCarriedOut, FailsIn, Work, all_done, cut_to, after_work, write_to}
 
@@ -53,13 +53,13 @@ module _ (calls : List Call) (file : List ℕ) (has : Has calls file) where
   sized n fits = subst (λ (f : List ℕ). n ≤ length f) (sym has.seen) fits
 
   cut_within : (n : ℕ) (ok : Bool) → n ≤ length file → IsTrue (all_within (truncate_call n ok ∷ calls))
-  cut_within n ok fits = both _ _ (le-leb n (length (seen_after calls)) (sized n fits)) has.within
+  cut_within n ok fits = and_from _ _ (le-leb n (length (seen_after calls)) (sized n fits)) has.within
 
   write_within : (at : ℕ) (bytes : List ℕ) (ok : Bool) → at ≤ length file → IsTrue (all_within (write_call at bytes ok ∷ calls))
-  write_within at bytes ok fits = both _ _ (le-leb at (length (seen_after calls)) (sized at fits)) has.within
+  write_within at bytes ok fits = and_from _ _ (le-leb at (length (seen_after calls)) (sized at fits)) has.within
 
   usable_on : IsTrue (is_usable_after calls && true)
-  usable_on = both _ _ has.usable refl
+  usable_on = and_from _ _ has.usable refl
 
   pub work_done : (work : Work) → Fits work file → Has (after_work work calls) (made work file)
   work_done (cut_to n) fits =
@@ -69,7 +69,7 @@ module _ (calls : List Call) (file : List ℕ) (has : Has calls file) where
         seen = seen;
         only = λ c left. synced_only old usable_on c left ∙ seen;
         within = cut_within n true fits;
-        usable = both _ _ usable_on refl;
+        usable = and_from _ _ usable_on refl;
       }
   work_done (write_to at bytes) fits =
       let old = write_call at bytes true ∷ calls in
@@ -78,7 +78,7 @@ module _ (calls : List Call) (file : List ℕ) (has : Has calls file) where
         seen = seen;
         only = λ c left. synced_only old usable_on c left ∙ seen;
         within = write_within at bytes true fits;
-        usable = both _ _ usable_on refl;
+        usable = and_from _ _ usable_on refl;
       }
 
   module _ (P : List ℕ → Type 0) (was : P file) where

@@ -1,7 +1,7 @@
 -- Payloads that are changes, and those that are none.
 use Rattle.std.specs.Prelude.{◌&&◌, IfSome, int_le, nat_eq, ◌==◌, not, is_some, position, option_map, option_and_then, Option, Some, None, pos, ℤ}
 use Rattle.std.proofs.Common.{◌≡◌, ◌≢◌, ℕ, ◌+◌, ◌≤◌, ◌<◌, Bool, true, false, cond, List, [], ◌∷◌, length, get_or, drop, refl, subst, sym, ◌∙◌, ap, arith}
-use Rattle.std.proofs.lemmas.Bool.{le-leb, false≢true}
+use Rattle.std.proofs.lemmas.Bool.{le-leb, false≢true, and_from}
 use Rattle.std.proofs.lemmas.List.{drop-drop}
 use Rattle.cedar_journal.specs.Records.{has_record, payload, behind_record, payloads_in}
 use Rattle.cedar_journal.proofs.Reading.{payloads_first, payloads_none}
@@ -13,6 +13,7 @@ use Rattle.cedar_salvage.specs.declared.change.Kind.{Kind}
 use Rattle.cedar_salvage.specs.declared.change.Kind.TheVariants.{Batch}
 use Rattle.cedar_salvage.specs.Whole.{is_kind}
 use Rattle.cedar_store.proofs.Payloads.{no_changes, of_batch, of_erase, of_other, of_put, of_single, put_is}
+use Rattle.cedar_store.proofs.Batched.{ended}
 
 -- a map leaves whether there is a value
 pub mapped : {A B : Type 0} (f : A → B) (o : Option A) → is_some (option_map f o) ≡ is_some o
@@ -41,11 +42,8 @@ neither payload some n m = sym (ap is_some (of_other payload some n m))
 
 -- ---- a put
 
-both : (a b : Bool) → a ≡ true → b ≡ true → (a && b) ≡ true
-both a b x y = ap (λ t. t && b) x ∙ y
-
 in_range : (n : ℕ) → n ≤ 2147483645 → value_fault (pos n) ≡ None
-in_range n low = ap (λ b. cond b None (Some (InvalidValue (pos n)))) (both (int_le (pos 0) (pos n)) (int_le (pos n) (pos 2147483645)) (le-leb 0 n (omega arith)) (le-leb n 2147483645 low))
+in_range n low = ap (λ b. cond b None (Some (InvalidValue (pos n)))) (and_from (int_le (pos 0) (pos n)) (int_le (pos n) (pos 2147483645)) (le-leb 0 n (omega arith)) (le-leb n 2147483645 low))
 
 by_key : (k w : Option CedarError) (key : List ℕ) (v : ℤ) → w ≡ None → is_some (put_unless (or_else k w) key v) ≡ not (is_some k)
 by_key None w key v is = ap (λ f. is_some (put_unless f key v)) is
@@ -107,9 +105,6 @@ provided false o some = refl
 pub no_batch : (bytes : List ℕ) → are_changes bytes ≡ false → false ≡ is_some (batch_of bytes)
 unfolding batch_of
 no_batch bytes none = sym (unless _ (each_change (payloads_in bytes)) none)
-
-pub ended : (bytes b : List ℕ) (at : ℕ) → b ≡ drop at bytes → has_record b ≡ false → payloads_in (drop at bytes) ≡ []
-ended bytes b at here lacks = ap payloads_in (sym here) ∙ payloads_none b lacks
 
 -- behind the last record at a position
 pub batch_at : (bytes : List ℕ) (at : ℕ) → payloads_in (drop at bytes) ≡ [] → are_changes (drop at bytes) ≡ are_changes bytes

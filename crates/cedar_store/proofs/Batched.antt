@@ -10,24 +10,22 @@ use Rattle.cedar_store.specs.declared.error.DurableError.{DurableError}
 use Rattle.cedar_store.specs.declared.error.DurableError.TheVariants as error
 use Rattle.cedar_store.specs.Causes.{ReplayCause}
 use Rattle.cedar_store.specs.Changes.{Change, change_of, after_change, all_changed, each_change, records_length, batch_of}
+use Rattle.std.proofs.lemmas.Option.{none-some}
 
 -- the state after the changes of some payloads of a batch
 abbrev pub each_after : State → List (List ℕ) → Option State
 each_after s payloads = option_map (all_changed s) (each_change payloads)
 
-none_is : {A : Type 0} (a : A) → None ≡ Some a → ⊥
-none_is {A = A} a e = let apart : ◌≡◌ {A = Option A} None (Some a) = e in cc
-
 step_one : (s t : State) (o : Option Change) (r : Option (List Change)) → option_map (after_change s) o ≡ Some t
     → option_map (all_changed t) r ≡ option_map (all_changed s) (option_and_then (λ c. option_map (λ changes. c ∷ changes) r) o)
-step_one s t None r told = absurd (none_is t told)
+step_one s t None r told = absurd (none-some t told)
 step_one s t (Some c) None told = refl
 step_one s t (Some c) (Some changes) told = ap (option_map (λ u. all_changed u changes)) (sym told)
 
 no_step : (s : State) (o : Option Change) (r : Option (List Change)) → option_map (after_change s) o ≡ None
     → option_map (all_changed s) (option_and_then (λ c. option_map (λ changes. c ∷ changes) r) o) ≡ None
 no_step s None r told = refl
-no_step s (Some c) r told = absurd (none_is (after_change s c) (sym told))
+no_step s (Some c) r told = absurd (none-some (after_change s c) (sym told))
 
 unless : (s : State) (b : Bool) (o : Option (List Change)) → option_map (all_changed s) o ≡ None → option_map (all_changed s) (cond b o None) ≡ None
 unless s true o stops = stops

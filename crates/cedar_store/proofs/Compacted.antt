@@ -19,14 +19,14 @@ use Rattle.cedar_journal.proofs.Images.{image_stands}
 use Rattle.cedar_tree.specs.Queries.{Entry, walk}
 use Rattle.cedar_tree.specs.State.{State, new_state}
 use Rattle.cedar_tree.specs.Tree.{AllNumbers, IsAscending, IsKey, IsPath, IsSound, Tree, number_at, put}
-use Rattle.cedar_tree.proofs.EntryLemmas.Keys.{asc-walk, held_key}
+use Rattle.cedar_tree.proofs.EntryLemmas.Keys.{asc-walk, held_key, all_contained}
 use Rattle.cedar_tree.proofs.MemberLemmas.{contains_here, contains_later, held_from_walk}
 use Rattle.cedar_tree.proofs.TreeLemmas.{all-number_at}
 use Rattle.cedarwood.specs.Builds.{all_stored}
 use Rattle.cedarwood.specs.Fault.{fault, key_fault, or_else, value_fault}
 use Rattle.cedarwood.specs.SortedInput.{HasNoNul}
 use Rattle.cedarwood.proofs.DictionaryLemmas.{no_value_fault}
-use Rattle.cedarwood.proofs.SortedInputLemmas.{clean_key}
+use Rattle.cedarwood.proofs.SortedInputLemmas.{clean_key, path_clean}
 use Rattle.cedar_store.specs.Changes.{Change, after, all_changed, changes_of, put_at, after_payloads}
 use Rattle.cedar_store.specs.declared.compaction.Compaction.{Compaction}
 use Rattle.cedar_store.specs.declared.compaction.Compaction.TheVariants.{Never, Beyond}
@@ -36,6 +36,7 @@ use Rattle.cedar_store.specs.Compactions.{CompactCause, is_beyond, IsBeforeRepla
 use Rattle.cedar_store.specs.Files.{AddsRecord, StandsFor, state_of}
 use Rattle.cedar_store.specs.Store.{IsConsistent, IsReady}
 use Rattle.cedar_store.proofs.States.{replayed_more}
+use Rattle.std.proofs.lemmas.Result.{on_ok_weaker}
 
 -- ---- no entry of a dictionary has a fault
 
@@ -43,18 +44,9 @@ use Rattle.cedar_store.proofs.States.{replayed_more}
 abbrev is_value : ℤ → Bool
 is_value v = int_le (pos 0) v && int_le v (pos 2147483645)
 
-path_has_no_nul : (key : List ℕ) → IsPath key → HasNoNul key
-path_has_no_nul [] path i low = absurd (omega (arith, low))
-path_has_no_nul (b ∷ key) path zero low = λ nul. let some = path.0 in absurd (omega (arith, some, nul))
-path_has_no_nul (b ∷ key) path (suc i) low = path_has_no_nul key path.2 i (omega (arith, low))
-
 key_is_clean : (key : List ℕ) → IsKey key → key_fault key ≡ None
 key_is_clean [] none = absurd none
-key_is_clean (b ∷ key) path = clean_key (b ∷ key) (path_has_no_nul (b ∷ key) path) (omega arith)
-
-all_contained : {X : Type 0} (P : X → Type 0) (xs : List X) → ((x : X) → Contains xs x → P x) → AllByRecursion P xs
-all_contained P [] each = tt
-all_contained P (x ∷ xs) each = (each x (contains_here x xs), all_contained P xs (λ y there. each y (contains_later x xs y there)))
+key_is_clean (b ∷ key) path = clean_key (b ∷ key) (path_clean (b ∷ key) path) (omega arith)
 
 entry_is_sound : (t : Tree) → IsSound t → AllNumbers (λ v. is_value v ≡ true) t.children → (e : Entry) → number_at t e.0 ≡ Some e.1 → fault e.0 e.1 ≡ None
 entry_is_sound t sound values e held =
@@ -197,10 +189,6 @@ module _ {D : Type 0} (seen : D → List ℕ) (may_leave : D → List ℕ → Ty
   failed_ready d format end s failed is ordered = record { ordered = ordered; consistent = λ usable. absurd (false≢true (sym usable ∙ is)) }
 
 -- ---- what an acknowledged change has done to the file
-
-pub on_ok : {X E P Q : Type 0} (r : Result X E) → (P → Q) → OnOk r P → OnOk r Q
-on_ok (Ok x) so holds = so holds
-on_ok (Err e) so holds = tt
 
 pub on_err : {X E : Type 0} {P Q : E → Type 0} (r : Result X E) → ((e : E) → P e → Q e) → IfErr r P → IfErr r Q
 on_err (Ok x) so holds = tt

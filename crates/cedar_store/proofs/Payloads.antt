@@ -14,6 +14,7 @@ use Rattle.cedar_store.specs.declared.error.DurableError.{DurableError}
 use Rattle.cedar_store.specs.declared.error.DurableError.TheVariants as error
 use Rattle.cedar_store.specs.Causes.{ReplayCause}
 use Rattle.cedar_store.specs.Changes.{Change, change_of, after_change, all_changed, batch_of, changes_of, after, put_of, put_unless, number_of_bytes, put_at, erase_at}
+use Rattle.std.proofs.lemmas.Option.{none-some}
 
 -- all behind some first bytes
 pub rest_is : (n : ℕ) (bytes : List ℕ) → take (length bytes - n) (drop n bytes) ≡ drop n bytes
@@ -47,9 +48,6 @@ of_other (x ∷ rest) some n m = cond-false _ _ _ (ne_eqb x 0 n) ∙ cond-false 
 
 -- ---- one change or a batch
 
-some_is_none : {A : Type 0} (a : A) → Some a ≡ None → ⊥
-some_is_none {A = A} a e = let apart : ◌≡◌ {A = Option A} (Some a) None = e in cc
-
 of_two : (payload : List ℕ) → get_or payload 0 0 ≡ 2 → change_of payload ≡ None
 of_two [] two = of_nothing [] refl
 of_two (x ∷ rest) two = of_other (x ∷ rest) (omega arith) (λ z. absurd (omega (arith, two, z))) (λ z. absurd (omega (arith, two, z)))
@@ -70,7 +68,7 @@ of_single payload other = cond-false _ _ _ (ne_eqb (get_or payload 0 0) 2 other)
 -- what has one change has no other
 pub one_change : (payload : List ℕ) (c : Change) → change_of payload ≡ Some c → changes_of payload ≡ Some (c ∷ [])
 one_change payload c is =
-    of_single payload (λ two. some_is_none c (sym is ∙ of_two payload two)) ∙ ap (option_map (λ (d : Change). d ∷ [])) is
+    of_single payload (λ two. none-some c (sym (of_two payload two) ∙ is)) ∙ ap (option_map (λ (d : Change). d ∷ [])) is
 
 single_maps : (s : State) (o : Option Change) → option_map (after_change s) o ≡ option_map (all_changed s) (option_map (λ c. c ∷ []) o)
 single_maps s None = refl
@@ -108,11 +106,11 @@ high_put bytes long high =
 -- a number that can be stored is one of 32 bits without a sign
 pub stored_is : (v : ℤ) → value_fault v ≡ None → v ≡ pos (of_z w32 v)
 stored_is (pos n) e = refl
-stored_is (negsuc n) e = absurd (some_is_none (InvalidValue (negsuc n)) e)
+stored_is (negsuc n) e = absurd (none-some (InvalidValue (negsuc n)) (sym e))
 
 chosen : (b : Bool) (x : CedarError) → cond b None (Some x) ≡ None → b ≡ true
 chosen true x e = refl
-chosen false x e = absurd (some_is_none x e)
+chosen false x e = absurd (none-some x (sym e))
 
 second : (a b : Bool) → (a && b) ≡ true → b ≡ true
 second true b e = e
@@ -120,15 +118,15 @@ second false b e = absurd (false≢true e)
 
 pub fits : (v : ℤ) → value_fault v ≡ None → of_z w32 v < 4294967296
 fits (pos n) e = let low = leb-true n 2147483645 (second (int_le (pos 0) (pos n)) (int_le (pos n) (pos 2147483645)) (chosen _ (InvalidValue (pos n)) e)) in omega (arith, low)
-fits (negsuc n) e = absurd (some_is_none (InvalidValue (negsuc n)) e)
+fits (negsuc n) e = absurd (none-some (InvalidValue (negsuc n)) (sym e))
 
 value_of_pair : (k w : Option CedarError) → or_else k w ≡ None → w ≡ None
 value_of_pair None w e = e
-value_of_pair (Some x) w e = absurd (some_is_none x e)
+value_of_pair (Some x) w e = absurd (none-some x (sym e))
 
 key_of_pair : (k w : Option CedarError) → or_else k w ≡ None → k ≡ None
 key_of_pair None w e = refl
-key_of_pair (Some x) w e = absurd (some_is_none x e)
+key_of_pair (Some x) w e = absurd (none-some x (sym e))
 
 pub value_is_sound : (key : List ℕ) (v : ℤ) → fault key v ≡ None → value_fault v ≡ None
 value_is_sound key v e = value_of_pair (key_fault key) (value_fault v) e

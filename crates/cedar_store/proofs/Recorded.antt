@@ -14,6 +14,7 @@ use Rattle.cedar_store.specs.Causes.{FrameCause, PayloadCause}
 use Rattle.cedar_store.specs.Changes.{Change, change_of, changes_of, each_change, records_length}
 use Rattle.cedar_store.proofs.Batched.{whole_batch}
 use Rattle.cedar_store.proofs.Payloads.{of_batch}
+use Rattle.cedar_tree.proofs.GeneralLemmas.{all_at}
 
 -- ---- the record of one payload
 
@@ -117,9 +118,3 @@ frame_cause end n error.Full cause = absurd cause
 frame_cause end n error.NoRoom cause = cause
 frame_cause end n (error.Device e) cause = cause
 frame_cause end n error.Failed cause = cause
-
--- what each of some changes has, one of them has
-pub one_of : {X : Type 0} (P : X → Type 0) (xs : List X) (i : ℕ) (d : X) → i < length xs → AllByRecursion P xs → P (get_or xs i d)
-one_of P [] i d low all = absurd (omega (arith, low))
-one_of P (x ∷ xs) zero d low all = all.0
-one_of P (x ∷ xs) (suc i) d low all = one_of P xs i d (omega (arith, low)) all.1

@@ -7,6 +7,7 @@ use Rattle.cedar_tree.proofs.TreeLemmas.{cut-put, put-put, put_held, number_at-p
 use Rattle.cedarwood.specs.declared.error.CedarError.{CedarError}
 use Rattle.cedarwood.specs.Fault.{fault, or_else, IsShortage}
 use Rattle.cedar_store.specs.Undo.{IsPutOf}
+use Rattle.std.proofs.lemmas.Option.{none-some}
 
 abbrev with_tree : (s : State) → Tree → State
 with_tree s t = record { tree = t; ordered = s.ordered }
@@ -24,16 +25,13 @@ by_update s t key v p =
 pub no_fault : (s t : State) (key : List ℕ) (v : ℤ) → IsPutOf s key (Some v) t → fault key v ≡ None
 no_fault s t key v p = (λ i. or_else (p.key_sound i) (p.in_range i))
 
-some_is_none : {A : Type 0} (a : A) → Some a ≡ None → ⊥
-some_is_none {A = A} a e = let apart : ◌≡◌ {A = Option A} (Some a) None = e in cc
-
 is_held : (s t : State) (key : List ℕ) (v : ℤ) (p : IsPutOf s key (Some v) t) → number_at t.tree key ≡ Some p.put.0
 is_held s t key v p = ap (λ u. number_at u.tree key) p.put.1 ∙ number_at-put_same s.tree s.ordered key p.put.0
 
 -- an update of a key that is held isn't refused
 granted : (r : Result (Unit {0}) CedarError) (o : Option ℤ) (w : ℤ) (P : Type 0) → o ≡ Some w → IfErr r (λ e. IsShortage e × (o ≡ None)) → OnOk r P → P
 granted (Ok x) o w P held refused ok = ok
-granted (Err e) o w P held refused ok = absurd (some_is_none w (sym held ∙ refused.1))
+granted (Err e) o w P held refused ok = absurd (none-some w (sym refused.1 ∙ held))
 
 pub put_back : (s t u : State) (key : List ℕ) (v w : ℤ) (r : Result (Unit {0}) CedarError) → w ≡ v → IsPutOf s key (Some v) t
     → (fault key w ≡ None → IfErr r (λ e. IsShortage e × (number_at t.tree key ≡ None))) → OnOk r (u ≡ after_put t key w) → u ≡ s

@@ -11,6 +11,7 @@ use Rattle.cedar_store.specs.Changes.{Change, erase_at}
 use Rattle.cedar_store.specs.Told.{change_told, changes_told}
 use Rattle.cedar_store.specs.declared.change.Change.{Change as ToldChange}
 use Rattle.cedar_store.specs.declared.change.Change.TheVariants as told
+use Rattle.cedar_tree.proofs.GeneralLemmas.{all_and_one}
 
 -- what follows the changes that are given
 abbrev pub blank : ToldChange
@@ -36,13 +37,9 @@ pub updated_more : (s : State) (changes : List Change) (n : ℕ) → n < length 
     → all_updated s (take (n + 1) changes) ≡ only_updated (all_updated s (take n changes)) (change_at changes n)
 updated_more s changes n low = ap (all_updated s) (take_more changes n (erase_at []) low) ∙ fold-append only_updated s (take n changes) (change_at changes n ∷ [])
 
-all-append : {X : Type 0} (P : X → Type 0) (xs : List X) (x : X) → AllByRecursion P xs → P x → AllByRecursion P (xs ++ x ∷ [])
-all-append P [] y all p = (p, tt)
-all-append P (x ∷ xs) y all p = (all.0, all-append P xs y all.1 p)
-
 pub all_more : (P : Change → Type 0) (changes : List Change) (n : ℕ) → n < length changes → AllByRecursion P (take n changes) → P (change_at changes n)
     → AllByRecursion P (take (n + 1) changes)
-all_more P changes n low all p = subst (AllByRecursion P) (sym (take_more changes n (erase_at []) low)) (all-append P (take n changes) (change_at changes n) all p)
+all_more P changes n low all p = subst (AllByRecursion P) (sym (take_more changes n (erase_at []) low)) (all_and_one P (take n changes) (change_at changes n) all p)
 
 pub all_done : (P : Change → Type 0) (changes : List Change) (n : ℕ) → length changes ≤ n → AllByRecursion P (take n changes) → AllByRecursion P changes
 all_done P changes n high all = subst (AllByRecursion P) (take_all n changes high) all

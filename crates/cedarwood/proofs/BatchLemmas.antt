@@ -1,12 +1,12 @@
 -- What a batch of updates or of erasures leaves, by the changes that it is made of.
-use Rattle.std.proofs.Common.{◌≡◌, ◌∙◌, ◌↔◌, ℕ, ◌+◌, ◌<◌, ◌≤◌, pos, inl, inr, Bool, true, false, IsTrue, List, [], ◌∷◌, ◌++◌, length, take, drop, get_or, set, Option, Some, None, IsSome, is_some, Result, Ok, Err, refl, sym, ap, subst, arith}
+use Rattle.std.proofs.Common.{◌≡◌, ◌∙◌, ◌↔◌, ℕ, suc, ◌+◌, ◌<◌, ◌≤◌, pos, inl, inr, Bool, true, false, IsTrue, List, [], ◌∷◌, ◌++◌, length, take, drop, get_or, set, Option, Some, None, IsSome, is_some, Result, Ok, Err, refl, sym, ap, subst, arith}
 use Rattle.std.proofs.lemmas.Bool.{cases_lt}
 use Rattle.std.proofs.lemmas.List.{drop_all, drop-drop, drop-set-lt, get_or-map, length-map, take-append-drop, take_all, take_more, take_more_set}
 use Rattle.std.specs.Borrow.{Bor}
 use Rattle.cedar_walk.specs.Batch.{keys_of}
 use Rattle.cedar_walk.proofs.WalkLemmas.Lanes.{key_count}
 use Rattle.cedar_tree.specs.Queries.{Entry}
-use Rattle.cedar_tree.specs.State.{State}
+use Rattle.cedar_tree.specs.State.{State, after_erase}
 use Rattle.cedar_tree.specs.Tree.{number_at}
 use Rattle.cedar_bulk.specs.Sorted.{Pair, entries_of}
 use Rattle.cedar_model.specs.Table.Layouts.{LayoutKind}
@@ -69,11 +69,16 @@ pub state_of : (s t : Dictionary) (ks : List (List ℕ)) (answers : List Bool) �
 state_of s t [] answers h = ap (λ (d : Dictionary). d.state) h.1
 state_of s t (k ∷ ks) answers h = state_of h.0 t ks h.2 h.5 ∙ ap (λ (x : State). keys_erased x ks) h.4.state
 
-held_as : {X : Type 0} (a : Bool) (o : Option X) → IsTrue a ↔ IsSome o → a ≡ is_some o
+pub held_as : {X : Type 0} (a : Bool) (o : Option X) → IsTrue a ↔ IsSome o → a ≡ is_some o
 held_as true (Some x) h = refl
 held_as true None h = absurd (let apart : false ≡ true = h.0 refl in cc)
 held_as false (Some x) h = absurd (let apart : false ≡ true = h.1 refl in cc)
 held_as false None h = refl
+
+-- there is an answer for each key
+pub length-held_in_turn : (s : State) (keys : List (List ℕ)) → length (held_in_turn s keys) ≡ length keys
+length-held_in_turn s [] = refl
+length-held_in_turn s (key ∷ keys) = ap suc (length-held_in_turn (after_erase s key) keys)
 
 pub answers_of : (s t : Dictionary) (ks : List (List ℕ)) (answers : List Bool) → IsErasures s t ks answers → answers ≡ held_in_turn s.state ks
 answers_of s t [] answers h = h.0

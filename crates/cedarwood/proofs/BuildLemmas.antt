@@ -90,7 +90,7 @@ kept layout slots s (e ∷ es) r a h = elim h [
 
 -- ---- in the words of a build's clauses
 
-none_is_some : {X : Type 0} (o : Option X) → o ≡ None → IsSome o → ⊥
+pub none_is_some : {X : Type 0} (o : Option X) → o ≡ None → IsSome o → ⊥
 none_is_some {X} o none some = let apart : false ≡ true = subst (λ (x : Option X). IsSome x) none some in cc
 
 -- pairs that passed the test have no fault

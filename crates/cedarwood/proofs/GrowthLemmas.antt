@@ -29,7 +29,7 @@ capacity_by_blocks (suc n) a c =
     ∙ ap (capacity_after n (256 * (a + 1))) room
     ∙ capacity_by_blocks n (a + 1) (cond (a == c) (2 * c) c)
 
-no_less : (b : Bool) (c : ℕ) → c ≤ cond b (2 * c) c
+pub no_less : (b : Bool) (c : ℕ) → c ≤ cond b (2 * c) c
 no_less true c = omega arith
 no_less false c = omega arith
 

@@ -12,6 +12,7 @@ use Rattle.cedar_model.specs.Meaning.WellFormed.{IsWellFormed}
 use Rattle.cedar_format.specs.Format.{header_answer, need, IsVersion}
 use Rattle.cedar_format.specs.Tables.{header_of, table_bytes, FitsTable, IsTableFile}
 use Rattle.cedar_format.proofs.Passing.{tables_pass}
+use Rattle.cedar_tree.proofs.GeneralLemmas.{on_ok}
 
 -- the table is seen through the dictionary's value
 pub is_file : (version slots : ℕ) (T U : Fields) → IsVersion version → T ≡ U → IsWellFormed slots T → FitsTable version T → IsTableFile version slots U (table_bytes version U)
@@ -23,11 +24,6 @@ file_passes version kind slots T U known same layout formed fits =
     subst (λ V. (limit : ℕ) → need (header_of version V) ≤ limit → header_answer (layout_byte kind) slots limit (table_bytes version V) ≡ None) same
     (subst (λ k. (limit : ℕ) → need (header_of version T) ≤ limit → header_answer (layout_byte k) slots limit (table_bytes version T) ≡ None) layout
     (λ limit within. tables_pass version slots limit T known formed fits within))
-
--- what holds whatever becomes of the new file
-pub on_either : {T E P : Type 0} (result : Result T E) → P → OnOk result P
-on_either (Ok x) holds = holds
-on_either (Err e) holds = tt
 
 -- what was written through a buffer that had nothing at first, once it has nothing any more
 buffered_appends : (bytes held filed rest : List ℕ) (before between after : Option (List ℕ)) → held ≡ [] → Appends (append_known before held) (append_known between filed) bytes

@@ -31,6 +31,8 @@ use Rattle.cedarwood.proofs.GrowthLemmas.{capacity_after-sum, dictionary_of}
 use Rattle.cedarwood.proofs.InnerMarksLemmas.{inner_empty, inner_put}
 use Rattle.cedarwood.proofs.PutBackLemmas.{walk_put_back}
 use Rattle.cedarwood.proofs.SortedInputLemmas.{clean_key, key_clean}
+use Rattle.cedar_tree.proofs.GeneralLemmas.{all_at, all_and_one}
+use Rattle.cedarwood.proofs.FaultLemmas.{key_without_fault}
 
 -- ---- the nodes of all entries
 
@@ -42,10 +44,6 @@ next_is T left (Some place) comes = comes.entries
 pub next_there : (T : Fields) (left : List Entry) (found : Option Numbered) → MatchOption found (left ≡ []) (ComesToNumber T [] left) → IsNextPlace T found
 next_there T left None gone = tt
 next_there T left (Some place) comes = (comes.below, comes.number)
-
-each_more : {X : Type 0} (P : X → Type 0) (xs : List X) (x : X) → AllByRecursion P xs → P x → AllByRecursion P (xs ++ x ∷ [])
-each_more P [] x a p = (p, tt)
-each_more P (y ∷ xs) x a p = (a.0, each_more P xs x a.1 p)
 
 -- one place more is listed
 listed_more : (T : Fields) (all : List Entry) (places : List Numbered) (place : Numbered) (next : Option Numbered) → all ≡ map (entry_of T) places ++ entries_after T (Some place)
@@ -64,7 +62,7 @@ lists_on T all places places' place next found is so_far each there pushed comes
     let left : List Entry = visited_entries (left_at T [] place.depth place.slot) in
     let here : all ≡ map (entry_of T) places ++ entries_after T (Some place) = so_far ∙ ap (λ (o : Option Numbered). map (entry_of T) places ++ entries_after T o) is in (
       listed_more T all places place found here (next_is T left found comes) ∙ ap (λ (ps : List Numbered). map (entry_of T) ps ++ entries_after T found) (sym pushed),
-      subst (AllByRecursion (IsEntryPlace T)) (sym pushed) (each_more (IsEntryPlace T) places place each (subst (IsNextPlace T) is there)),
+      subst (AllByRecursion (IsEntryPlace T)) (sym pushed) (all_and_one (IsEntryPlace T) places place each (subst (IsNextPlace T) is there)),
       next_there T left found comes,
     )
 
@@ -103,12 +101,6 @@ none_put layout settings d e = record {
     slots = let nothing : first_bytes d.state.tree ≡ 0 = ap first_bytes e.tree in omega (arith, nothing, e.size.0);
   };
 }
-
-key_without_fault : (key : List ℕ) (v : ℤ) → fault key v ≡ None → 0 < length key
-key_without_fault [] v fine = absurd (some_none EmptyKey fine) where
-  some_none : (e : CedarError) → ◌≡◌ {A = Option CedarError} (Some e) None → ⊥
-  some_none e h = cc
-key_without_fault (b ∷ key) v fine = omega arith
 
 module _ (layout : LayoutKind) (slots : ℕ) (order : Bool) (trials : ℤ) (es : List Entry) (e : Entry) (d d' : Dictionary) (so_far : IsPutBack layout order trials es d) (fine : fault e.0 e.1 ≡ None) where
   -- one more
@@ -161,11 +153,6 @@ bytes_of_places T places zero = omega arith
 bytes_of_places T [] (suc i) = omega arith
 bytes_of_places T (p ∷ places) (suc i) =
     let later : key_bytes (map (entry_of T) (drop i places)) ≤ key_bytes (map (entry_of T) places) = bytes_of_places T places i in omega (arith, later)
-
-pub place_at : {X : Type 0} (P : X → Type 0) (xs : List X) (i : ℕ) (d : X) → i < length xs → AllByRecursion P xs → P (get_or xs i d)
-place_at P [] i d inside each = absurd (omega (arith, inside))
-place_at P (x ∷ xs) zero d inside each = each.0
-place_at P (x ∷ xs) (suc i) d inside each = place_at P xs i d (omega (arith, inside)) each.1
 
 -- ---- one place after another, from the last one on
 

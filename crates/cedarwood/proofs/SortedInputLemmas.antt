@@ -134,7 +134,7 @@ no_fault_behind index before key v less clean some range =
     ∙ ap (λ f. or_else f (fault_of_order index (slice_cmp nat_cmp before key))) range
     ∙ ap (fault_of_order index) less
 
-path_clean : (key : List ℕ) → IsPath key → HasNoNul key
+pub path_clean : (key : List ℕ) → IsPath key → HasNoNul key
 path_clean [] path i h = absurd (omega (arith, h))
 path_clean (b ∷ key) path zero h = λ e. omega (arith, path.0, e)
 path_clean (b ∷ key) path (suc i) h = path_clean key path.2 i (omega (arith, h))

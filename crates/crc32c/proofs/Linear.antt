@@ -1,8 +1,8 @@
 -- The register of a sum of two is the sum of their registers: so a byte may be taken at once.
-use Rattle.std.proofs.Common.{◌≡◌, inl, inr, ℕ, zero, suc, ◌+◌, ◌*◌, ◌/◌, ◌%◌, ◌^◌, ◌<◌, Bool, true, false, ◌&&◌, List, get_or, nat_eq, refl, sym, ◌∙◌, ap, arith}
+use Rattle.std.proofs.Common.{◌≡◌, inl, inr, ℕ, zero, suc, ◌*◌, ◌/◌, ◌%◌, ◌^◌, ◌<◌, Bool, true, ◌&&◌, nat_eq, refl, sym, ◌∙◌, ap, arith}
 use Rattle.std.specs.Prelude.{bit_xor, ◌==◌, cond}
 use Rattle.std.proofs.Math.Nat.{mul_assoc, pow-suc}
-use Rattle.std.specs.Int.Bits.{xor_assoc, xor_shifted, xor_zero_l, xor_zero_r}
+use Rattle.std.specs.Int.Bits.{xor_assoc, xor_shifted, xor_zero_r}
 use Rattle.std.proofs.lemmas.Nat.{xor_comm, xor_mod, xor_shr}
 use Rattle.std.proofs.lemmas.Bool.{and_parts, cases_eq, eqb-true}
 use Rattle.crc32c.specs.Sums.{after_bit, after_bits, after_byte, feedback, generator}

@@ -1,6 +1,6 @@
 -- Digits of numbers in figures, and calls that read them.
 use Rattle.std.proofs.Common.{◌≡◌, ℕ, List, [], ◌∷◌, Some, None, Bool, true, false, cond, ◌&&◌, Bor, refl, ap, ◌∙◌, arith, zero, suc, drop, length, ◌<◌}
-use Rattle.std.proofs.lemmas.Bool.{eqb-true, false≢true}
+use Rattle.std.proofs.lemmas.Bool.{eqb-true, false≢true, and_parts}
 use Rattle.std.proofs.lemmas.Grind.{common_steps}
 use Rattle.std.proofs.lemmas.Fmt.{IsAscii-from_digits}
 use Rattle.std.proofs.lemmas.Str.{digit_value_digit}
@@ -37,14 +37,9 @@ pub filled_tested : (ds : List ℕ) → is_filled ds ≡ true → 0 < length ds
 filled_tested [] h = absurd (false≢true h)
 filled_tested (c ∷ ds) h = omega arith
 
--- the parts of a test that passed
-pub both : (a b : Bool) → (a && b) ≡ true → (a ≡ true) × (b ≡ true)
-both true b h = (refl, h)
-both false b h = absurd (false≢true h)
-
 pub tested_digits : (ds : List ℕ) → list_all is_digit ds ≡ true → AllDigits 10 ds
 tested_digits [] h = tt
-tested_digits (c ∷ ds) h = let p = both (is_digit c) (list_all is_digit ds) h in (digit_tested c p.0, tested_digits ds p.1)
+tested_digits (c ∷ ds) h = let p = and_parts (is_digit c) (list_all is_digit ds) h in (digit_tested c p.0, tested_digits ds p.1)
 
 pub ascii_after : (b : ℕ) (bs : List ℕ) → b < 128 → IsAscii bs → IsAscii (b ∷ bs)
 ascii_after b bs p h zero = p

@@ -10,6 +10,7 @@ use Rattle.cedarwood.specs.Tree.{Tree, number_at}
 use Rattle.cedarwood.specs.Queries.{front}
 use Rattle.cedarwood.proofs.FrontLemmas.{front_from_held, held_from_front}
 use Rattle.uses.specs.Keywords.{HasKeyword}
+use Rattle.cedar_words.proofs.SpotLemmas.{rest_of}
 
 -- where a walk gives a key, the text has it
 pub key_begins : (t : Tree) (text : List ℕ) (place : ℕ) (found : ℤ × ℕ) (later : List (ℤ × ℕ)) → place < length text → front t (drop place text) ≡ found ∷ later → HasKeyword t text
@@ -40,10 +41,6 @@ none_begins t text none h =
     let held : number_at t (take (n + 1) rest) ≡ Some v.0 = subst (λ m. number_at t (take m rest) ≡ Some v.0) len v.1 in
     let left : n < length rest = omega (arith, length-drop place text) in
     in_none (v.0, n) (subst (λ xs. Contains xs (v.0, n)) (none place (omega arith)) (front_from_held t rest v.0 n left held))
-
--- what is left from a position on
-pub left_from : (text : List ℕ) (place : ℕ) → take (length text - place) (drop place text) ≡ drop place text
-left_from text place = take_all (length text - place) (drop place text) (omega (arith, length-drop place text))
 
 -- what a walk gave first is the first of what it had
 pub has_first : (has later : List (ℤ × ℕ)) (given : Option (ℤ × ℕ)) → is_some given ≡ true → MatchOption given ((has ≡ []) × (later ≡ [])) (λ x. has ≡ x ∷ later) → (x : ℤ × ℕ) × (has ≡ x ∷ later)

@@ -5,11 +5,7 @@ use Rattle.word_lists.specs.Devices.{LinesOrFails}
 use Rattle.text_lines.specs.Written.{WritesOrFails}
 use Rattle.word_lists.specs.declared.write.ListError.{ListError}
 use Rattle.word_lists.specs.declared.write.ListError.TheVariants.{Write, Memory}
-
--- a result says what follows from what it says
-pub ok_then : {X E P Q : Type 0} (r : Result X E) → (P → Q) → OnOk r P → OnOk r Q
-ok_then (Ok x) f p = f p
-ok_then (Err e) f p = tt
+use Rattle.std.proofs.lemmas.Result.{on_ok_weaker}
 
 pub of_err : {X E P : Type 0} (r : Result X E) (e : E) → r ≡ Err e → OnErr r P → P
 of_err (Ok x) e is p = absurd (cc)

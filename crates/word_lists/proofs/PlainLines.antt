@@ -20,6 +20,7 @@ use Rattle.word_lists.specs.Reading.{bytes_behind, first_read, named_of, read_as
 use Rattle.word_lists.specs.Stored.{line_stored, lines_stored, pairs_stored, stored_by}
 use Rattle.word_lists.specs.Texts.{body_of}
 use Rattle.word_lists.proofs.ListedLines.{stored_push}
+use Rattle.cedarwood.proofs.FaultLemmas.{fault_free, key_part}
 
 -- ---- a word without a backslash
 
@@ -63,21 +64,13 @@ pair_pushed s number line items after pair pushed stores =
 
 -- ---- a sorted build
 
-both_none : (a b : Option CedarError) → or_else a b ≡ None → (a ≡ None) × (b ≡ None)
-both_none None b h = (refl, h)
-both_none (Some e) b h = absurd (cc)
-
 -- pairs of which none has a fault are all stored
 stored_all : (s : State) (index : ℕ) (before : List ℕ) (es : List Entry) → fault_from index before es ≡ None → pairs_stored s es ≡ all_stored s es
 stored_all s index before [] h = refl
 stored_all s index before (e ∷ es) h =
-    let p = both_none (fault_behind index before e.0 e.1) (fault_from (index + 1) e.0 es) h in
-    let q = both_none (fault e.0 e.1) (fault_of_order index (slice_cmp nat_cmp before e.0)) p.0 in
+    let p = key_part (fault_behind index before e.0 e.1) (fault_from (index + 1) e.0 es) h in
+    let q = key_part (fault e.0 e.1) (fault_of_order index (slice_cmp nat_cmp before e.0)) p.0 in
     ap (λ f. pairs_stored (stored_by f s e.0 e.1) es) q.0 ∙ stored_all (after_put s e.0 e.1) (index + 1) e.0 es p.1
-
-not_faulty : {D : Type 0} (o : Option CedarError) (d : D) → IfSome o (λ e. ◌≡◌ {A = Result D CedarError} (Ok d) (Err e)) → o ≡ None
-not_faulty None d h = refl
-not_faulty (Some e) d h = absurd (cc)
 
 -- a sorted build of the pairs of some lines leaves what these store
 pub built_so : (layout : LayoutKind) (slots : ℕ) (settings : CedarBuilder) (pairs : List Entry) (d : Dictionary) (lines : List (List ℕ))
@@ -85,7 +78,7 @@ pub built_so : (layout : LayoutKind) (slots : ℕ) (settings : CedarBuilder) (pa
     → all_stored new_state pairs ≡ record { tree = asc pairs; ordered = true } → d.state ≡ lines_stored new_state 1 lines
 built_so layout slots settings pairs d lines built is same law =
     let sorted : IsSorted layout settings pairs d = built.sorted in
-    let fine = not_faulty (fault_from 0 [] pairs) d built.faulty in
+    let fine = fault_free (fault_from 0 [] pairs) d built.faulty in
     let state : d.state ≡ record { tree = asc pairs; ordered = true } = λ k. record { tree = sorted.tree k; ordered = (sorted.ordered ∙ is) k } in
     state ∙ sym law ∙ sym (stored_all new_state 0 [] pairs fine) ∙ sym (same new_state)
 

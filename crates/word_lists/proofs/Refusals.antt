@@ -12,6 +12,7 @@ use Rattle.word_lists.specs.declared.lines.StoreError.{StoreError}
 use Rattle.word_lists.specs.declared.lines.StoreError.TheVariants.{SlotLimit}
 use Rattle.word_lists.specs.Stored.{absent_of, IsWant, line_absent, line_erased, line_held, line_refusal, stored_by, told_by, want_of, word_of}
 use Rattle.text_lines.specs.Lines.{is_filled}
+use Rattle.cedar_tree.proofs.GeneralLemmas.{on_ok}
 
 -- a want of slots is that of the dictionary
 pub slots_wanted : (e : CedarError) → ◌≡◌ {A = StoreError} (want_of e) SlotLimit → e ≡ errors.SlotLimit
@@ -74,10 +75,6 @@ short_told P (errors.InvalidValue v) s = absurd s
 short_told P (errors.InvalidMaxTrial v) s = absurd s
 short_told P (errors.DuplicateKey i) s = absurd s
 short_told P (errors.KeysNotSorted i) s = absurd s
-
-on_ok : {X E P : Type 0} (r : Result X E) → P → OnOk r P
-on_ok (Ok x) p = p
-on_ok (Err e) p = tt
 
 fault_told : (held : Bool) (f : CedarError) → IfOk (line_refusal f) (λ told. told ≡ told_by (Some f) held)
 fault_told held errors.SlotLimit = tt

@@ -6,20 +6,16 @@ use Rattle.cedar_file.specs.PlaceChecks.{HasRing, IsAfter, passing_count, RingOf
 use Rattle.cedar_slots.specs.Ring.{first_of, occurs, Ring}
 use Rattle.cedar_slots.proofs.RingsLemmas.Ring.{after_steps, Along, Apart, occurs_other, occurs_same, OneToOne, Ring-walk, walk, walk-Ring}
 use Rattle.cedar_slots.proofs.ListsLemmas.FreeCounts.{count_by-total, total, total-append, total-occurs, total-same, yes}
+use Rattle.cedar_model.proofs.UpdateLemmas.Packing.{total_le}
 
 -- ---- sums that are equal, of numbers of which none is above its partner
-
-total-le : (f g : ℕ → ℕ) (a n : ℕ) → ((s : ℕ) → f s ≤ g s) → total f a n ≤ total g a n
-unfolding total
-total-le f g a zero le = omega arith
-total-le f g a (suc n) le = omega (arith, le a, total-le f g (a + 1) n le)
 
 same_from_total : (f g : ℕ → ℕ) (a n : ℕ) → ((s : ℕ) → f s ≤ g s) → total f a n ≡ total g a n → (s : ℕ) → a ≤ s → s < a + n → f s ≡ g s
 unfolding total
 same_from_total f g a zero le same s low high = absurd (omega arith)
 same_from_total f g a (suc n) le same s low high = elim (cases_eq s a) [
-  | inl here ↦ rw here (omega (arith, same, le a, total-le f g (a + 1) n le))
-  | inr later ↦ same_from_total f g (a + 1) n le (omega (arith, same, le a, total-le f g (a + 1) n le)) s (omega arith) (omega arith)
+  | inl here ↦ rw here (omega (arith, same, le a, total_le f g (a + 1) n le))
+  | inr later ↦ same_from_total f g (a + 1) n le (omega (arith, same, le a, total_le f g (a + 1) n le)) s (omega arith) (omega arith)
 ]
 
 -- ---- how many numbers pass a test

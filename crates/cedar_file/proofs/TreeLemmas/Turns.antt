@@ -7,6 +7,7 @@ use Rattle.cedar_file.specs.TreeWalk.{ComesBack, GoesDown, GoesOn, GoesUp, numbe
 use Rattle.cedar_model.specs.Meaning.Family.{base_of, below}
 use Rattle.cedar_model.specs.Meaning.Reading.{has_number_slot, number_in}
 use Rattle.cedar_model.proofs.MeaningLemmas.ExclusiveOr.{pos_injective}
+use Rattle.cedar_tree.proofs.GeneralLemmas.{on_err}
 
 slots_few : (T : Cells) (s : ℕ) → slots_at T s ≤ 2
 slots_few T s = by_test (has_number_slot T s)
@@ -21,10 +22,6 @@ numbers_few T s = by_test (is_some (number_in T s))
     by_test : (b : Bool) → cond {A = ℕ} b 1 0 ≤ 1
     by_test true = omega arith
     by_test false = omega arith
-
-pub on_err : {X E : Type 0} (r : Result X E) {P : Type 0} → P → OnErr r P
-on_err (Ok x) h = tt
-on_err (Err error) h = h
 
 -- a walk on its way: its node is in use, and its counts are small
 pub record IsOnWay (size : ℕ) (T : Cells) (w : Walk) (steps : ℕ) : Type 0 where

@@ -26,7 +26,7 @@ use Rattle.cedar_model.proofs.MeaningLemmas.ExclusiveOr.{xor_back}
 use Rattle.cedar_model.proofs.MeaningLemmas.OneTree.{node_reads}
 use Rattle.cedar_tree.proofs.OrderLemmas.{number_of_node}
 
-no_links : (T : Cells) (s c : ℕ) (ls : List ℕ) → c ≡ 0 → Links T s c ls → ls ≡ []
+pub no_links : (T : Cells) (s c : ℕ) (ls : List ℕ) → c ≡ 0 → Links T s c ls → ls ≡ []
 no_links T s c [] z k = refl
 no_links T s c (l ∷ ls) z k = let same : c ≡ l = k.0 in let some : 0 < l = k.1 in absurd (omega (arith, z, same, some))
 

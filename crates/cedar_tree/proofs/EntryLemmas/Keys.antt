@@ -10,7 +10,7 @@ use Rattle.cedar_tree.proofs.WalkLemmas.{walk_ascends}
 use Rattle.cedar_tree.proofs.MemberLemmas.{contains_here, contains_later, held_from_walk}
 use Rattle.cedar_tree.proofs.EntryLemmas.Pairs.{asc_is_tree_of, one_tree_of}
 
-label_bounds : (f : Forest) (l : ℕ) → IsSoundBelow f → has_label f l ≡ true → (0 < l) × (l < 256)
+pub label_bounds : (f : Forest) (l : ℕ) → IsSoundBelow f → has_label f l ≡ true → (0 < l) × (l < 256)
 label_bounds none l s h = absurd (false≢true h)
 label_bounds (child m n below rest) l s h =
     (elim (m == l) as (λ b. (m == l) ≡ b → (b || has_label rest l) ≡ true → (0 < l) × (l < 256)) [
@@ -31,7 +31,7 @@ held_key t [] v s h = absurd (none-some (sym s.0 ∙ h)) where
   none-some e = cc
 held_key t (l ∷ k) v s h = held_path t (l ∷ k) v s.1 h
 
-all_contained : {X : Type 0} (P : X → Type 0) (xs : List X) → ((x : X) → Contains xs x → P x) → AllByRecursion P xs
+pub all_contained : {X : Type 0} (P : X → Type 0) (xs : List X) → ((x : X) → Contains xs x → P x) → AllByRecursion P xs
 all_contained P [] h = tt
 all_contained P (x ∷ xs) h = (h x (contains_here x xs), all_contained P xs (λ y c. h y (contains_later x xs y c)))
 

@@ -13,6 +13,7 @@ use Rattle.cedar_walk.specs.Ranges.{behind_path}
 use Rattle.cedar_walk.specs.Visits.{ComesTo, entries_at, first_sibling_label, IsBelow, left_at, number_below, path_to, visited_at}
 use Rattle.cedar_walk.proofs.WalkLemmas.NextNode.{child_owned, first_there, named_first, path_length, short_way, way_one_more}
 use Rattle.cedar_walk.proofs.WalkLemmas.NextNumber.{Descended, descended_on, leaf_number}
+use Rattle.cedar_tree.proofs.GeneralLemmas.{on_err}
 
 -- the front of a key, and some labels more
 pub front_and_more : (front path : List ℕ) (f m : ℕ) → length front ≡ f → m ≤ length path → take (f + m) (front ++ path) ≡ front ++ take m path
@@ -52,11 +53,6 @@ key_goes_down slots T k start n s l slot front key new at is some child so_far l
     ∙ ap (λ x. front ++ path_to T (n + 1) x) (sym child)
 
 -- ---- the room for it
-
--- what holds anyway holds after a refusal
-pub on_err : {X E : Type 0} (r : Result X E) {P : Type 0} → P → OnErr r P
-on_err (Ok x) p = tt
-on_err (Err e) p = p
 
 -- what is longer than some room is longer than less
 pub outgrows_less : (room less : ℕ) (entries : List Entry) → less ≤ room → KeyOutgrows room entries → KeyOutgrows less entries

@@ -24,12 +24,9 @@ entries_then vs ws = filter_map-append (λ (v : Visit). option_map (λ (x : ℤ)
 abbrev below_here : (T : Fields) (n s : ℕ) → List Visit
 below_here T n s = map (visit_from (path_to T n s)) (visits_below (node_up (tree_of T) (way_up (cells_in T) n s)).children)
 
-pub not_none : (n : ℕ) → 0 < n → n ≡ 0 → ⊥
-not_none n deep z = omega (arith, deep, z)
-
 module _ (slots : ℕ) (T : Fields) (k : IsWellFormed slots T) (place : Place) (on : IsOnLastWay T place) where
   some : place.depth ≡ 0 → ⊥
-  some = not_none place.depth on.deep
+  some z = omega (arith, on.deep, z)
 
   climb : Climbed T [] place.depth place.slot place.depth place.slot
   climb = climbed_none T [] place.depth place.slot on.below

@@ -23,6 +23,7 @@ use Rattle.cedar_model.proofs.EditLemmas.LeafAtPlace.{below_root, ends}
 use Rattle.cedar_model.proofs.MeaningLemmas.ReadBack.{path_short}
 use Rattle.cedar_model.proofs.MeaningLemmas.ExclusiveOr.{pos_injective, xor_back}
 use Rattle.cedar_model.proofs.MeaningLemmas.TreeOf.{in_use}
+use Rattle.cedar_tree.proofs.GeneralLemmas.{positive}
 
 -- ---- chains
 
@@ -197,10 +198,6 @@ module _ (slots : ℕ) (T : Fields) (k : IsWellFormed slots T) where
       omega (arith, short, follow_length (start ++ path_to T n s) [], length-append start (path_to T n s), path_length T n s)
 
 -- ---- what a walk comes to
-
-positive : (l : ℕ) → (l ≡ 0 → ⊥) → 0 < l
-positive zero some = absurd (some refl)
-positive (suc l) some = omega arith
 
 no_first : (f : Forest) → IsSoundBelow f → first_sibling_label f ≡ 0 → f ≡ none
 no_first none sound z = refl

@@ -11,13 +11,14 @@ use Rattle.cedar_tree.specs.Tree.{Forest, none, child, Tree, has_label, subtree,
 use Rattle.cedar_tree.specs.Edits.{HasPath}
 use Rattle.cedar_tree.specs.Queries.{Entry, own_entry, under, walk_forest, walk, node_at}
 use Rattle.cedar_tree.specs.Walks.{Visit, behind, visited_entries, forwards, node_up, visit_from, visits_after, visits_below, visits_left}
-use Rattle.cedar_tree.proofs.OrderLemmas.{ascending_subtree}
+use Rattle.cedar_tree.proofs.OrderLemmas.{ascending_subtree, all_above_more}
 use Rattle.cedar_tree.proofs.PredictLemmas.{map-after}
-use Rattle.cedar_tree.proofs.VisitLemmas.{goes_down, goes_right, has_behind, has_here, next_behind, node_up_is, subtree_here, walk_visits}
+use Rattle.cedar_tree.proofs.VisitLemmas.{goes_down, goes_right, has_behind, has_here, next_behind, node_up_is, subtree_here, walk_visits, behind_here, entries_below, visits_from_none}
 use Rattle.cedar_tree.proofs.WalkLemmas.{filter-map, filter-none, ltb-from_lt, nat_lt_itself}
 use Rattle.cedar_walk.specs.Visits.{first_sibling_label}
 use Rattle.cedar_walk.specs.RangePlaces.{AboveFrom, AreLast}
 use Rattle.cedar_walk.specs.Ranges.{behind_path, entries_since, siblings_above}
+use Rattle.cedar_tree.proofs.GeneralLemmas.{filter-same}
 
 abbrev since : List ℕ → Entry → Bool
 since q e = is_ge (slice_cmp nat_cmp e.0 q)
@@ -40,15 +41,11 @@ filter_all : {X : Type 0} (p : X → Bool) (xs : List X) → ((x : X) → p x �
 filter_all p [] h = refl
 filter_all p (x ∷ xs) h = rw (h x) (ap (λ r. x ∷ r) (filter_all p xs h))
 
-filter_like : {X : Type 0} (p q : X → Bool) (xs : List X) → ((x : X) → p x ≡ q x) → filter p xs ≡ filter q xs
-filter_like p q [] h = refl
-filter_like p q (x ∷ xs) h = λ i. cond (h x i) (x ∷ filter_like p q xs h i) (filter_like p q xs h i)
-
 -- the entries under a label, beside a path that begins with it, with a greater one and with a smaller one
 under_same : (m : ℕ) (q : List ℕ) (es : List Entry) → filter (since (m ∷ q)) (map (under m) es) ≡ map (under m) (filter (since q) es)
 under_same m q es =
     filter-map (under m) (since (m ∷ q)) es
-    ∙ ap (map (under m)) (filter_like (λ e. since (m ∷ q) (under m e)) (since q) es (λ e. ap (λ o. is_ge (ordering_then o (slice_cmp nat_cmp e.0 q))) (cmp_same m)))
+    ∙ ap (map (under m)) (filter-same (λ e. since (m ∷ q) (under m e)) (since q) es (λ e. ap (λ o. is_ge (ordering_then o (slice_cmp nat_cmp e.0 q))) (cmp_same m)))
 
 under_lower : (l m : ℕ) (q : List ℕ) (es : List Entry) → l < m → filter (since (m ∷ q)) (map (under l) es) ≡ []
 under_lower l m q es h =
@@ -69,10 +66,6 @@ all_higher m q (child l n below rest) a =
     filter-append (since (m ∷ q)) (map (under l) es) (walk_forest rest)
     ∙ ap (λ (x : List Entry). x ++ filter (since (m ∷ q)) (walk_forest rest)) (under_higher l m q es a.0)
     ∙ ap (λ (x : List Entry). map (under l) es ++ x) (all_higher m q rest a.1)
-
-above_less : (low high : ℕ) (f : Forest) → low < high → AllAbove high f → AllAbove low f
-above_less low high none h a = tt
-above_less low high (child l n below rest) h a = (omega (arith, a.0), above_less low high rest h a.1)
 
 above_has : (low : ℕ) (f : Forest) (m : ℕ) → AllAbove low f → has_label f m ≡ true → low < m
 above_has low none m a h = absurd (cc)
@@ -105,7 +98,7 @@ since_lacks : (m : ℕ) (q : List ℕ) (f : Forest) → IsAscending f → has_la
 since_lacks m q none s h = refl
 since_lacks m q (child l n below rest) s h =
     (elim (ltb m l) as (λ b. ltb m l ≡ b → filter (since (m ∷ q)) (walk_forest (child l n below rest)) ≡ walk_forest (cond b (child l n below rest) (siblings_above rest m))) [
-      | true ↦ λ e. let higher : m < l = ltb-true m l e in all_higher m q (child l n below rest) (higher, above_less m l rest higher s.0)
+      | true ↦ λ e. let higher : m < l = ltb-true m l e in all_higher m q (child l n below rest) (higher, all_above_more m l rest higher s.0)
       | false ↦ λ e.
           let most : l ≤ m = ltb-false m l e in
           (elim (eqb_tells l m) as (λ _. filter (since (m ∷ q)) (walk_forest (child l n below rest)) ≡ walk_forest (siblings_above rest m)) [
@@ -142,15 +135,6 @@ pub behind_none : (es : List Entry) → es ≡ map (behind_path []) es
 behind_none [] = refl
 behind_none (e ∷ es) = ap (λ r. e ∷ r) (behind_none es)
 
-visits_none : (vs : List Visit) → map (visit_from []) vs ≡ vs
-visits_none [] = refl
-visits_none (v ∷ vs) = ap (λ r. v ∷ r) (visits_none vs)
-
-below_entries : (f : Forest) → visited_entries (visits_below f) ≡ walk_forest f
-below_entries f =
-    ap visited_entries (sym (append-nil (map (visit_from []) (visits_below f)) ∙ visits_none (visits_below f)))
-    ∙ sym (walk_visits (record { number = None; children = f }))
-
 seen_entries : (p : List ℕ) (vs : List Visit) → visited_entries (map (visit_from p) vs) ≡ map (behind_path p) (visited_entries vs)
 seen_entries p [] = refl
 seen_entries p (v ∷ vs) =
@@ -163,7 +147,7 @@ seen_entries p (v ∷ vs) =
 level : (p : List ℕ) (f : Forest) (later : List Visit) → visited_entries (map (visit_from p) (visits_below f) ++ later) ≡ map (behind_path p) (walk_forest f) ++ visited_entries later
 level p f later =
     filter_map-append (λ (v : Visit). option_map (λ (x : ℤ). (v.0, x)) v.1) (map (visit_from p) (visits_below f)) later
-    ∙ ap (λ (x : List Entry). x ++ visited_entries later) (seen_entries p (visits_below f) ∙ ap (map (behind_path p)) (below_entries f))
+    ∙ ap (λ (x : List Entry). x ++ visited_entries later) (seen_entries p (visits_below f) ∙ ap (map (behind_path p)) (entries_below f))
 
 has_last : (t : Tree) (w : List ℕ) (l : ℕ) → HasPath t (w ++ l ∷ []) → HasPath t w × (has_label (node_at t w).children l ≡ true)
 has_last t [] l h = (tt, h.0)
@@ -216,9 +200,6 @@ since_missing t up m q s on lacks =
     since_path t up (m ∷ q) s on
     ∙ ap (λ (x : List Entry). map (behind_path p) x ++ visited_entries (visits_after t up)) (tree_since m q (node_up t up) ∙ since_lacks m q f (subst IsAscending (at_up t up) (ascending_at t p s)) lacks)
     ∙ sym (level p (siblings_above f m) (visits_after t up))
-
-behind_here : (l : ℕ) (n : Option ℤ) (below rest : Forest) → behind (child l n below rest) l ≡ rest
-behind_here l n below rest = rw (eq-eqb l l refl) refl
 
 -- ---- from sibling to sibling, to the first above a label
 

@@ -13,8 +13,9 @@ use Rattle.cedar_cli.specs.declared.script.ScriptError.TheVariants.{Memory as No
 use Rattle.cedar_cli.proofs.BlockCounts.{within_further, back_blocks, held_after}
 use Rattle.cedar_cli.proofs.Bytes.{Obeys-on_ok}
 use Rattle.cedar_cli.proofs.Faults.{memory_no_limit, limit_no_memory, writers_fault, memory_fault, limit_fault}
-use Rattle.cedar_cli.proofs.Orders.{no_fault, pair_kind, refused_by, taken_back, Disobeys-if_err, Disobeys-unanswered, no_shortage, on_not_ok, if_not_err, write_alone, never_memory, told}
+use Rattle.cedar_cli.proofs.Orders.{pair_kind, refused_by, taken_back, Disobeys-if_err, Disobeys-unanswered, no_shortage, on_not_ok, if_not_err, write_alone, never_memory, told}
 use Rattle.cedar_cli.proofs.SlotsInView.{put_obeyed, put_refused, seen_same}
+use Rattle.cedarwood.proofs.FaultLemmas.{fault_free}
 use Rattle.cedar_cli.proofs.verbs.answer_put.Goals as goal
 
 pub returns-then-is_err : goal.returns-then-is_err
@@ -24,7 +25,7 @@ returns-then-is_err g c =
     let old = before.state in
     let u = c.in-Ok.ensures.updated in
     let same = to_z-of_z w32 c.args.value c.ranges.value in
-    let clean : fault key c.args.value ≡ None = subst (λ (v : ℤ). fault key v ≡ None) same (no_fault (fault key (to_z w32 (of_z w32 c.args.value))) tt u.faulty) in
+    let clean : fault key c.args.value ≡ None = subst (λ (v : ℤ). fault key v ≡ None) same (fault_free (fault key (to_z w32 (of_z w32 c.args.value))) tt u.faulty) in
     let written = c.write_whole-written.result in
     let writer = c.write_whole-written.ensures.faults in
     let alone = write_alone _ written writer.cause in
@@ -56,7 +57,7 @@ returns-else-is_err g c =
     let layout = g.L.Layout.kind in
     let u = c.in-Ok.ensures.updated in
     let same = to_z-of_z w32 c.args.value c.ranges.value in
-    let clean : fault key c.args.value ≡ None = subst (λ (v : ℤ). fault key v ≡ None) same (no_fault (fault key (to_z w32 (of_z w32 c.args.value))) tt u.faulty) in
+    let clean : fault key c.args.value ≡ None = subst (λ (v : ℤ). fault key v ≡ None) same (fault_free (fault key (to_z w32 (of_z w32 c.args.value))) tt u.faulty) in
     let written = c.write_whole-written.result in
     let writer = c.write_whole-written.ensures.faults in
     let alone = write_alone _ written writer.cause in

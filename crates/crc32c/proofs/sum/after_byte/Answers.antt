@@ -1,7 +1,7 @@
-use Rattle.std.proofs.Common.{◌≡◌, ◌%◌, get_or, refl, sym, ◌∙◌, ap, arith}
+use Rattle.std.proofs.Common.{◌%◌, get_or, refl, sym, ◌∙◌, ap, arith}
 use Rattle.std.specs.Prelude.{bit_xor, ◌/◌, ◌^◌}
 use Rattle.crc32c.specs.declared.table.TheConstants.{TABLE}
-use Rattle.crc32c.specs.Sums.{after_bit, after_bits, after_byte, feedback}
+use Rattle.crc32c.specs.Sums.{after_bit, after_bits, feedback}
 use Rattle.crc32c.proofs.Linear.{agree_at, agree_below, byte_at_once}
 use Rattle.crc32c.proofs.sum.after_byte.Goals as goal
 

@@ -1,7 +1,7 @@
-use Rattle.std.proofs.Common.{◌≡◌, ℕ, ◌+◌, List, [], ◌∷◌, ◌++◌, length, take, refl, sym, ◌∙◌, ap, subst, arith, rules}
+use Rattle.std.proofs.Common.{◌≡◌, ℕ, ◌+◌, List, [], ◌∷◌, ◌++◌, length, take, sym, ◌∙◌, ap, subst, arith, rules}
 use Rattle.std.specs.Prelude.{IsErrOf}
 use Rattle.cedar_journal.specs.declared.device.DeviceError.TheVariants.{NoRoom}
-use Rattle.cedar_journal.specs.Device.{HasFront, Holds, Only, Torn}
+use Rattle.cedar_journal.specs.Device.{Holds, Only, Torn}
 use Rattle.cedar_journal.specs.Formats.{frame_of}
 use Rattle.cedar_journal.specs.Files.{file_payloads}
 use Rattle.cedar_journal.specs.Frames.{payload_of}

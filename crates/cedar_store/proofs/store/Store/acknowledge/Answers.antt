@@ -9,9 +9,10 @@ use Rattle.cedar_store.specs.Changes.{after_payloads}
 use Rattle.cedar_store.specs.declared.error.DurableError.TheVariants as error
 use Rattle.cedar_store.specs.Files.{state_of, IsEither, StandsFor}
 use Rattle.cedar_store.specs.Told.{changes_told}
-use Rattle.cedar_store.proofs.Compacted.{change_of_one, on_err, on_ok, state_more, still_more}
+use Rattle.cedar_store.proofs.Compacted.{change_of_one, on_err, state_more, still_more}
 use Rattle.cedar_store.proofs.Unwritten.{leaves_unwritten, unwritten_by_device}
 use Rattle.cedar_store.proofs.States.{either}
+use Rattle.std.proofs.lemmas.Result.{on_ok_weaker}
 use Rattle.cedar_store.proofs.store.Store.acknowledge.Goals as goal
 
 pub compact_if_due-requires-clause-consistent : goal.compact_if_due-requires-clause-consistent
@@ -39,11 +40,11 @@ returns-in-Ok-clause-made g c =
     let state = g.T.Words.state in
     let told = changes_told c.args.changes.now in
     let made = ap state c.compact_if_due.ensures.words ∙ c.erase_rest.ensures ∙ ap (λ w. all_erased_late (state w) told) c.append.ensures.words in
-    on_ok c.compact_if_due.result (λ (usable : c.compact_if_due.new.self.failed ≡ false). made) c.compact_if_due.ensures.done
+    on_ok_weaker c.compact_if_due.result (λ (usable : c.compact_if_due.new.self.failed ≡ false). made) c.compact_if_due.ensures.done
 
 pub returns-in-Ok-clause-ready : goal.returns-in-Ok-clause-ready
 returns-in-Ok-clause-ready g c =
-    on_ok c.compact_if_due.result (λ (usable : c.compact_if_due.new.self.failed ≡ false). c.compact_if_due.ensures.ready) c.compact_if_due.ensures.done
+    on_ok_weaker c.compact_if_due.result (λ (usable : c.compact_if_due.new.self.failed ≡ false). c.compact_if_due.ensures.ready) c.compact_if_due.ensures.done
 
 pub returns-in-Ok-clause-err : goal.returns-in-Ok-clause-err
 returns-in-Ok-clause-err g c =
@@ -85,7 +86,7 @@ pub returns-in-Ok-clause-recorded : goal.returns-in-Ok-clause-recorded
 returns-in-Ok-clause-recorded g c =
     let seen = g.D.Device.seen in
     let between = c.append.new.self in
-    on_ok c.compact_if_due.result
+    on_ok_weaker c.compact_if_due.result
     (λ more. ⊎_elim (λ same. inl same) (λ short. inr (λ is. short.0 (c.append.ensures.rule ∙ is), short.1))
     (still_more (seen c.args.self.now.journal.device) (seen between.journal.device) (seen c.compact_if_due.new.self.journal.device) (payload_of c.args.frame.now) c.in-Ok.ensures.acknowledged more))
     c.compact_if_due.ensures.recorded

@@ -18,6 +18,7 @@ use Rattle.cedarwood.proofs.GrowthLemmas.{dictionary_of}
 use Rattle.cedarwood.proofs.MarkedLemmas.{is_marked}
 use Rattle.cedarwood.proofs.OutcomeLemmas.{answer_handed_on, answer_has, fault_updates, if_err_out, is_ok_or_out, is_ok_out, limit_out, memory_out, on_err_out, on_ok_out, outcome_is_told, told_outcome}
 use Rattle.cedarwood.proofs.UpdateLemmas.{why_refused, at_one_byte, fault_of, grows_by, is_refused, is_spare, marks_follow, marks_remain, over_held, packs_update, state_stays, stored_is}
+use Rattle.cedarwood.proofs.BuildLemmas.{none_is_some}
 use Rattle.cedarwood.proofs.trie.Trie.insert_bytes.Goals as goal
 
 -- ---- what holds at first
@@ -42,9 +43,6 @@ returns-in_err-check_pair-clause-updated g c =
     (fault_updates g.L.Layout.kind g.row.SLOTS c.args.self.now key c.args.value p.0 (subst (λ (w : ℤ). fault key w ≡ Some p.0) same why))
 
 -- ---- a pair without one
-
-none_is_some : {X : Type 0} (o : Option X) → o ≡ None → IsSome o → ⊥
-none_is_some {X} o none some = let apart : false ≡ true = subst (λ (x : Option X). IsSome x) none some in cc
 
 pub update-requires : goal.update-requires
 update-requires g c =

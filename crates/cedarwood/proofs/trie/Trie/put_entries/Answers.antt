@@ -3,7 +3,8 @@ use Rattle.std.proofs.lemmas.List.{drop_all}
 use Rattle.std.proofs.lemmas.Result.{err_from_is_err_and}
 use Rattle.cedar_walk.specs.declared.visits.Numbered.{Numbered}
 use Rattle.cedarwood.specs.Shrinking.{entry_of, IsEntryPlace, IsPutBack, LacksPlaces}
-use Rattle.cedarwood.proofs.ShrinkLemmas.{lacking, place_at, place_fault, turn_put, turn_refused}
+use Rattle.cedarwood.proofs.ShrinkLemmas.{lacking, place_fault, turn_put, turn_refused}
+use Rattle.cedar_tree.proofs.GeneralLemmas.{all_at}
 use Rattle.cedarwood.proofs.trie.Trie.put_entries.Goals as goal
 
 pub loop-left-init : goal.loop-left-init
@@ -24,7 +25,7 @@ put_entry-requires g c =
     let T = g.T.Walked.shown c.args.from.now in
     let places = c.args.places.now in
     let inside : c.loop-left.left - 1 < length places = omega (arith, c.loop-left.invariant.within, c.loop-left-test.true) in
-    (search rules, (c.requires.well_formed, place_at (IsEntryPlace T) places (c.loop-left.left - 1) blank inside c.requires.places.each))
+    (search rules, (c.requires.well_formed, all_at (IsEntryPlace T) places (c.loop-left.left - 1) blank inside c.requires.places.each))
 
 pub loop-left-preserved : goal.loop-left-preserved
 loop-left-preserved g c =
@@ -34,7 +35,7 @@ loop-left-preserved g c =
     let i = left - 1 in
     let next : left ≡ i + 1 = omega (arith, c.loop-left-test.true) in
     let inside : i < length places = omega (arith, c.loop-left.invariant.within, c.loop-left-test.true) in
-    let fine = place_fault g.T.Walked.slots T c.requires.well_formed (get_or places i blank) (place_at (IsEntryPlace T) places i blank inside c.requires.places.each) in
+    let fine = place_fault g.T.Walked.slots T c.requires.well_formed (get_or places i blank) (all_at (IsEntryPlace T) places i blank inside c.requires.places.each) in
     record {
       within = omega (arith, c.loop-left.invariant.within);
       back = turn_put g.L.Layout.kind g.row.SLOTS c.args.self.now.state.ordered c.args.self.now.max_trial T places left i blank c.loop-left.self c.put_entry.new.trie next inside fine c.loop-left.invariant.back
@@ -49,7 +50,7 @@ returns-in_err-put_entry g c =
     let i = left - 1 in
     let next : left ≡ i + 1 = omega (arith, c.loop-left-test.true) in
     let inside : i < length places = omega (arith, c.loop-left.invariant.within, c.loop-left-test.true) in
-    let fine = place_fault g.T.Walked.slots T c.requires.well_formed (get_or places i blank) (place_at (IsEntryPlace T) places i blank inside c.requires.places.each) in
+    let fine = place_fault g.T.Walked.slots T c.requires.well_formed (get_or places i blank) (all_at (IsEntryPlace T) places i blank inside c.requires.places.each) in
     let error = c.in_err-put_entry.field-0.0 in
     let why = turn_refused g.L.Layout.kind g.row.SLOTS c.args.self.now.state.ordered c.args.self.now.max_trial T places left i blank c.loop-left.self c.put_entry.new.trie next inside fine c.loop-left.invariant.back
     c.put_entry.result c.put_entry.ensures error c.in_err-put_entry.was in
