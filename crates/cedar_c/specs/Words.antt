@@ -19,6 +19,7 @@ pub use Rattle.cedar_c.specs.Scans.{found_keywords, found_spot, found_spots, fou
 pub use Rattle.cedar_c.specs.Shrinks.{Shrinks}
 pub use Rattle.cedar_c.specs.Status.{LacksOnlyNew, position_of, status_of, status_text, TellsFault, TellsPosition}
 pub use Rattle.cedar_c.specs.Stores.{HoldsFront, HoldsPart, RefusesAll}
+pub use Rattle.cedar_c.specs.Updates.{KeepsSlots, StoresValue}
 pub use Rattle.cedar_c.specs.declared.any.AnyCedar.{AnyCedar}
 pub use Rattle.cedar_format.specs.Format.{header_answer}
 pub use Rattle.cedar_format.specs.Refusal.{refusal_of}

@@ -1,7 +1,7 @@
 //! The answer to one line. A line whose answer isn't written whole changes no key and no value.
 
-ghost use Rattle.std.specs.Prelude.{◌*◌, ◌++◌, ◌<◌, ◌∷◌, ◌≡◌, ◌≤◌, [], IsSome, length, MatchOption, OnErr, OnOk, Some};
-ghost use Rattle.cedar_cli.specs.Words.{Answers, AnswersOrFails, BreaksOff, figures_text, found_text, Grows, GrowsWithin, has_failed, held_by, IsPairFault, IsTakenBack, MayLackMemory, number_at, order_of, put_text, Writes, WritesOrFails};
+ghost use Rattle.std.specs.Prelude.{◌*◌, ◌++◌, ◌<◌, ◌∷◌, ◌≡◌, ◌≤◌, [], IsSome, length, MatchOption, Some};
+ghost use Rattle.cedar_cli.specs.Words.{Answers, AnswersOrFails, figures_text, found_text, Grows, GrowsWithin, has_failed, held_by, IsPairFault, IsTakenBack, MayLackMemory, number_at, order_of, put_text, WritesBytes, WritesOrFails};
 
 use crate::answers::{write_entries, write_pairs, write_tokens};
 use crate::command::{Verb, parse_line};
@@ -222,9 +222,7 @@ fn take_back<L: Layout, const SLOTS: usize, A: Allocator + Copy>(
 /// Writes the line of a pair's fault. It allocates nothing.
 fn write_refusal<W: Write>(writer: &mut Watched<W>, error: CedarError) -> Result<(), ScriptError>
     requires { IsPairFault error }
-    ensures ok { OnOk result (Writes W.contents writer.old writer.new (put_text (Some error) ++ 10 ∷ [])) }
-    ensures err { OnErr result (BreaksOff W.contents writer.old writer.new (put_text (Some error) ++ 10 ∷ [])) }
-    ensures faults { WritesOrFails ScriptError.Write (has_failed writer.old) (has_failed writer.new) result }
+    ensures { WritesBytes W.contents ScriptError.Write writer.old writer.new (put_text (Some error) ++ 10 ∷ []) result }
 {
     let mut figures = Buffer::new();
     match error {
@@ -247,9 +245,7 @@ fn write_found<W: Write>(
     value: i32,
     length: usize,
 ) -> Result<(), ScriptError>
-    ensures ok { OnOk result (Writes W.contents writer.old writer.new (found_text (Some value) length ++ 10 ∷ [])) }
-    ensures err { OnErr result (BreaksOff W.contents writer.old writer.new (found_text (Some value) length ++ 10 ∷ [])) }
-    ensures faults { WritesOrFails ScriptError.Write (has_failed writer.old) (has_failed writer.new) result }
+    ensures { WritesBytes W.contents ScriptError.Write writer.old writer.new (found_text (Some value) length ++ 10 ∷ []) result }
 {
     let mut figures = Buffer::new();
     write_whole(writer, figures.format(value).as_bytes())?;
@@ -262,9 +258,7 @@ fn write_figures<W: Write>(
     keys: usize,
     slots: usize,
 ) -> Result<(), ScriptError>
-    ensures ok { OnOk result (Writes W.contents writer.old writer.new (figures_text keys slots ++ 10 ∷ [])) }
-    ensures err { OnErr result (BreaksOff W.contents writer.old writer.new (figures_text keys slots ++ 10 ∷ [])) }
-    ensures faults { WritesOrFails ScriptError.Write (has_failed writer.old) (has_failed writer.new) result }
+    ensures { WritesBytes W.contents ScriptError.Write writer.old writer.new (figures_text keys slots ++ 10 ∷ []) result }
 {
     let mut figures = Buffer::new();
     write_whole(writer, figures.format(keys).as_bytes())?;

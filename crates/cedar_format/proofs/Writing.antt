@@ -13,7 +13,7 @@ use Rattle.cedar_slots.specs.Places.{Shaped}
 use Rattle.cedar_slots.specs.Slots.{blank_info, blank_node}
 use Rattle.cedar_model.specs.Table.TableFields.{Fields}
 use Rattle.cedar_format.specs.declared.header.Header.{Header}
-use Rattle.cedar_format.specs.Format.{filled_bytes, filled_list, FitsFilled, FitsHeader, header_bytes, listed_bytes}
+use Rattle.cedar_format.specs.Format.{filled_bytes, filled_list, FitsFilled, FitsHeader, header_bytes}
 use Rattle.cedar_format.specs.Records.{body_bytes, FitsBody}
 use Rattle.cedar_format.specs.Tables.{header_of, slots_listed, table_bytes, FitsTable}
 use Rattle.cedar_format.proofs.OneTable.{listed_fits}

@@ -12,8 +12,12 @@ returns-clause-any g c =
     let found : c.common_prefix_iter_bytes.result.rest ≡ front c.args.trie.now.state.tree c.args.text.now = search rules in
     subst (λ (f : List (ℤ × ℕ)). IfOk c.write_all_fronts.result (λ any. any ≡ ltb 0 (length (map (front_entry c.args.text.now) f)))) found c.write_all_fronts.ensures.any
 
-pub returns-clause-err : goal.returns-clause-err
-returns-clause-err g c =
-    let found : c.common_prefix_iter_bytes.result.rest ≡ front c.args.trie.now.state.tree c.args.text.now = search rules in
-    subst (λ (f : List (ℤ × ℕ)). OnErr c.write_all_fronts.result (WritesFront (g.W.Write.contents (device_of c.args.writer.now)) (g.W.Write.contents (device_of c.write_all_fronts.new.writer)) (entry_lines (map (front_entry c.args.text.now) f))))
-    found c.write_all_fronts.ensures.err
+pub returns-clause-writes : goal.returns-clause-writes
+returns-clause-writes g c = record {
+  ok = search rules;
+  err =
+      let found : c.common_prefix_iter_bytes.result.rest ≡ front c.args.trie.now.state.tree c.args.text.now = search rules in
+      subst (λ (f : List (ℤ × ℕ)). OnErr c.write_all_fronts.result (WritesFront (g.W.Write.contents (device_of c.args.writer.now)) (g.W.Write.contents (device_of c.write_all_fronts.new.writer)) (entry_lines (map (front_entry c.args.text.now) f))))
+      found c.write_all_fronts.ensures.writes.err;
+  faults = search rules;
+}
