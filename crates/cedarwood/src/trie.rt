@@ -5,7 +5,7 @@ ghost use Rattle.cedarwood.specs.Words.{after_erase, CedarFitsInMemory, default_
 
 use crate::builder::CedarBuilder;
 use crate::counted::search_uncounted;
-use crate::{CedarError, DefaultLayout, Layout, ReducedLayout, Ticks};
+use crate::{CedarError, DefaultLayout, Layout, MOST_SLOTS, ReducedLayout, Ticks};
 use cedar_edit::erase;
 use cedar_table::Table;
 use std::alloc::Allocator;
@@ -24,10 +24,10 @@ pub struct Trie<L: Layout, const SLOTS: usize, A: Allocator> {
 }
 
 /// The default dictionary: a value takes a slot of its own, and there may be 2^30 slots.
-pub type Cedar<A> = Trie<DefaultLayout, 1073741824, A>;
+pub type Cedar<A> = Trie<DefaultLayout, MOST_SLOTS, A>;
 
 /// The dictionary of the reduced layout: the value of a key is kept in its node's own slot, until a longer key goes through that node.
-pub type ReducedCedar<A> = Trie<ReducedLayout, 1073741824, A>;
+pub type ReducedCedar<A> = Trie<ReducedLayout, MOST_SLOTS, A>;
 
 impl<L: Layout, const SLOTS: usize, A: Allocator> Model for Trie<L, SLOTS, A> {
     // `Words` names the struct.
@@ -50,7 +50,7 @@ impl<L: Layout, const SLOTS: usize, A: Allocator> Model for Trie<L, SLOTS, A> {
     ghost invariant = { λ t. IsWellFormed SLOTS (fields t.table) };
 }
 
-impl<A: Allocator + Copy> Trie<DefaultLayout, 1073741824, A> {
+impl<A: Allocator + Copy> Trie<DefaultLayout, MOST_SLOTS, A> {
     /// An empty dictionary, whose labels ascend. It allocates from `alloc`.
     ///
     /// ```
@@ -138,7 +138,7 @@ impl<A: Allocator + Copy> Trie<DefaultLayout, 1073741824, A> {
     }
 }
 
-impl<A: Allocator + Copy> Trie<ReducedLayout, 1073741824, A> {
+impl<A: Allocator + Copy> Trie<ReducedLayout, MOST_SLOTS, A> {
     /// An empty dictionary of the reduced layout, whose labels ascend. It allocates from `alloc`.
     ///
     /// ```

@@ -3,13 +3,13 @@
 ghost use Rattle.cedarwood.specs.Words.{IsSlotLimit};
 
 use cedar_words::LongestPrefix;
-use cedarwood::{CedarBuilder, CedarError, CedarPersistenceError, Layout, Trie};
+use cedarwood::{CedarBuilder, CedarError, CedarPersistenceError, Layout, MOST_SLOTS, Trie};
 use plain_tree::PlainTree;
 use std::alloc::{AllocError, Allocator, Global};
 use std::rt::Files;
 
 /// A dictionary of 2^30 slots at most, over an allocator that refuses or not.
-pub type Full<L, A> = Trie<L, 1073741824, A>;
+pub type Full<L, A> = Trie<L, MOST_SLOTS, A>;
 
 /// Makes a dictionary without a key.
 pub fn make<L: Layout, const SLOTS: usize, A: Allocator + Copy>(

@@ -2,7 +2,7 @@
 ghost use Rattle.cedarwood.specs.Words.{IsSlotLimit};
 
 use cedar_calls::{Answer, Call, Change, Question, reserve_for_calls, run_calls};
-use cedarwood::{CedarBuilder, CedarError, Layout, Trie};
+use cedarwood::{CedarBuilder, CedarError, Layout, MOST_SLOTS, Trie};
 use std::alloc::{AllocError, Allocator};
 
 /// Returns a change of one of the dictionaries.
@@ -32,7 +32,7 @@ pub(crate) fn run<L: Layout, const SLOTS: usize, A: Allocator + Copy>(
 }
 
 /// A dictionary of 2^30 slots at most, over an allocator that refuses or not.
-pub(crate) type Full<L, A> = Trie<L, 1073741824, A>;
+pub(crate) type Full<L, A> = Trie<L, MOST_SLOTS, A>;
 
 /// Makes one with these settings, of at most some number of slots.
 pub(crate) fn build_new<L: Layout, const SLOTS: usize, A: Allocator + Copy>(

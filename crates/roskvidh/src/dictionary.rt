@@ -5,14 +5,16 @@ use crate::input::read_all;
 use crate::request::Dictionary;
 use cedar_journal::{PLAIN_HEADER, SUMMED_HEADER};
 use cedar_store::read_store;
-use cedarwood::{CedarPersistenceError, DefaultLayout, Layout, ReducedLayout, Trie, Watched};
+use cedarwood::{
+    CedarPersistenceError, DefaultLayout, Layout, MOST_SLOTS, ReducedLayout, Trie, Watched,
+};
 use std::alloc::Global;
 use std::fs::File;
 use std::io::{BufRead, BufReader, Read};
 use std::rt::Files;
 
 /// How many slots a dictionary may have.
-pub(crate) const SLOTS: usize = 1073741824;
+pub(crate) const SLOTS: usize = MOST_SLOTS;
 
 /// Where a file has the byte of its layout.
 const LAYOUT_PLACE: usize = 13;
