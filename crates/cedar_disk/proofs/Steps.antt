@@ -1,6 +1,6 @@
 -- What one call more does to what a crash may leave.
 use Rattle.std.specs.Prelude.{◌&&◌, IsTrue}
-use Rattle.std.proofs.Common.{◌≡◌, ◌⊎◌, inl, inr, ⊎_elim, ℕ, zero, suc, ◌+◌, ◌<◌, ◌≤◌, Bool, true, false, List, [], ◌∷◌, ◌++◌, length, take, drop, refl, sym, ◌∙◌, ap, subst, arith, length-append, length-take-le}
+use Rattle.std.proofs.Common.{◌≡◌, ◌⊎◌, inl, inr, ⊎_elim, ℕ, zero, suc, ◌+◌, ◌<◌, ◌≤◌, Bool, true, false, List, [], ◌∷◌, ◌++◌, length, take, drop, refl, sym, ap, subst, arith, length-append, length-take-le}
 use Rattle.std.proofs.lemmas.Bool.{and_parts, false≢true, leb-true, and_from}
 use Rattle.cedar_journal.specs.Device.{Cut, Elapses, Follows, LeavesOnly, Only, Torn}
 use Rattle.cedar_journal.proofs.Moments as moments

@@ -10,7 +10,6 @@ use std::alloc::Allocator;
 
 impl<L: Layout, const SLOTS: usize, A: Allocator> Table<L, SLOTS, A> {
     /// Makes `label` the one after that of the held slot `slot`.
-    #[tactic(auto, using(cedar_model::proofs::EditLemmas::LabelsWritten::sets_sibling))]
     pub fn set_sibling(&mut self, slot: usize, label: u8)
         requires sound { IsTable SLOTS (fields self.old).places }
         requires slot_in { slot < size_of (fields self.old) }
@@ -29,7 +28,6 @@ impl<L: Layout, const SLOTS: usize, A: Allocator> Table<L, SLOTS, A> {
     }
 
     /// Makes `label` the one that begins the chain of the held slot `slot`.
-    #[tactic(auto, using(cedar_model::proofs::EditLemmas::LabelsWritten::sets_child))]
     pub fn set_child(&mut self, slot: usize, label: u8)
         requires sound { IsTable SLOTS (fields self.old).places }
         requires slot_in { slot < size_of (fields self.old) }

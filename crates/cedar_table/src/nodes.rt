@@ -33,19 +33,6 @@ impl<L: Layout, const SLOTS: usize, A: Allocator> Table<L, SLOTS, A> {
         }
     }
 
-    /// Returns where a node's slots begin, or 0 if its base field has its own number. In the default layout there is no test.
-    pub(crate) fn node_base(&self, node: usize) -> usize
-        requires node_in { node < size_of (fields self.now) }
-        requires says { (cells self.now).stored node ≢ Nothing }
-        ensures { result ≡ base_of (cells self.now) node }
-    {
-        match self.stored_at_node(node) {
-            Stored::AtBase(base) => base,
-            Stored::OwnNumber(_) => 0,
-            Stored::Nothing => 0,
-        }
-    }
-
     /// Returns the slot for a label below a node.
     pub fn child_slot(&self, node: usize, label: u8) -> usize
         requires { node < size_of (fields self.now) }
@@ -60,7 +47,7 @@ impl<L: Layout, const SLOTS: usize, A: Allocator> Table<L, SLOTS, A> {
         requires says { (cells self.now).stored node ≢ Nothing }
         ensures { result ≡ below (cells self.now) node label }
     {
-        self.node_base(node) ^ usize::from(label)
+        node_base(self, node) ^ usize::from(label)
     }
 
     /// Returns the owner of a held slot that isn't the root's.
@@ -109,7 +96,7 @@ impl<L: Layout, const SLOTS: usize, A: Allocator> Table<L, SLOTS, A> {
         if self.child(node) != 0 {
             return false;
         }
-        self.is_owned_by(self.node_base(node), node)
+        self.is_owned_by(node_base(self, node), node)
     }
 
     /// Returns the first label of a node's chain, which begins after its number's slot, if it has one.
@@ -248,6 +235,22 @@ impl<L: Layout, const SLOTS: usize, A: Allocator> Table<L, SLOTS, A> {
             check: self.places.slots.nodes.at(node).check,
         };
         self.write_node(node, record);
+    }
+}
+
+/// Returns where a node's slots begin, or 0 if its base field has its own number. In the default layout there is no test.
+fn node_base<L: Layout, const SLOTS: usize, A: Allocator>(
+    table: &Table<L, SLOTS, A>,
+    node: usize,
+) -> usize
+    requires node_in { node < size_of (fields table.now) }
+    requires says { (cells table.now).stored node ≢ Nothing }
+    ensures { result ≡ base_of (cells table.now) node }
+{
+    match table.stored_at_node(node) {
+        Stored::AtBase(base) => base,
+        Stored::OwnNumber(_) => 0,
+        Stored::Nothing => 0,
     }
 }
 

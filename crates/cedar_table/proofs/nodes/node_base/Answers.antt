@@ -1,6 +1,6 @@
 use Rattle.std.proofs.Common.{ap}
 use Rattle.cedar_model.specs.Meaning.Family.{base_in}
-use Rattle.cedar_table.proofs.table.Table.node_base.Goals as goal
+use Rattle.cedar_table.proofs.nodes.node_base.Goals as goal
 
 pub returns-in-AtBase : goal.returns-in-AtBase
 returns-in-AtBase g c = ap base_in c.in-AtBase.ensures
