@@ -1,6 +1,6 @@
 -- What the steps of a build ask of a table, each as one fact: a caller's check is dear for each part of a clause list.
 use Rattle.std.specs.Prelude.{◌≡◌, ◌≢◌, ◌<◌, ◌≤◌, ℕ, ℤ, List, length, Option, Some, None, true}
-use Rattle.cedar_tree.specs.Tree.{Forest}
+use Rattle.cedar_model.specs.Tree.{Forest}
 use Rattle.cedar_slots.specs.Places.{IsTable}
 use Rattle.cedar_model.specs.declared.layout.Stored.TheVariants.{AtBase}
 use Rattle.cedar_model.specs.Table.Cells.{Held}

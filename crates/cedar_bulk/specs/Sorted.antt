@@ -1,9 +1,9 @@
 -- Sorted pairs, of which a table is made at once: a node with all of its labels after the other.
 use Rattle.std.specs.Prelude.{◌≡◌, ℕ, ◌+◌, ◌==◌, cond, ℤ, true, List, [], ◌∷◌, ◌++◌, map, get_or, Option, Some, None, MatchOption, ◌⊎◌}
 use Rattle.std.specs.Borrow.{Bor}
-use Rattle.cedar_tree.specs.Tree.{Forest, none, child, empty_tree, IsAscending}
-use Rattle.cedar_tree.specs.Queries.{Entry, node_at}
-use Rattle.cedar_tree.specs.Edits.{edit_at}
+use Rattle.cedar_model.specs.Tree.{Forest, none, child, empty_tree, IsAscending}
+use Rattle.cedar_model.specs.Queries.{Entry, node_at}
+use Rattle.cedar_model.specs.Edits.{edit_at}
 use Rattle.cedar_model.specs.declared.layout.Stored.TheVariants.{AtBase}
 use Rattle.cedar_model.specs.Table.Cells.{Cells, Held}
 use Rattle.cedar_model.specs.Edit.NodeEdits.{GoesBehind, GoesFirst, IsAt, IsNodeOf}

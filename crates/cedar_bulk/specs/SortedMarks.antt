@@ -1,7 +1,7 @@
 -- Which numbers of a table made of sorted pairs have slots of their own.
 use Rattle.std.specs.Prelude.{◌≡◌, ◌↔◌, ℕ, ℤ, List, length, Option, Some, true, is_some}
-use Rattle.cedar_tree.specs.Tree.{Forest, none, number_at, Tree}
-use Rattle.cedar_tree.specs.Queries.{node_at}
+use Rattle.cedar_model.specs.Tree.{Forest, none, number_at, Tree}
+use Rattle.cedar_model.specs.Queries.{node_at}
 use Rattle.cedar_model.specs.declared.layout.Stored.TheVariants.{OwnNumber}
 use Rattle.cedar_model.specs.Table.Cells.{Cells}
 use Rattle.cedar_model.specs.Table.Layouts.{LayoutKind, default_layout, reduced_layout}

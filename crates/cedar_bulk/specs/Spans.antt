@@ -1,8 +1,8 @@
 -- Sorted entries that go on below one node, and the nodes that wait for theirs.
 use Rattle.std.specs.Prelude.{◌≡◌, ◌⊎◌, ℕ, ◌+◌, ◌≤◌, ◌<◌, nat_lt, bit_xor, cond, ℤ, false, List, [], ◌∷◌, length, map, drop, Option, Some, None, IfSome, true}
-use Rattle.cedar_tree.specs.Tree.{AllNumbers, Forest, none, child, Tree, is_bare, IsAscending, IsSoundBelow}
-use Rattle.cedar_tree.specs.Queries.{Entry, prefixes_forest, walk, walk_forest}
-use Rattle.cedar_tree.specs.Edits.{edit_at}
+use Rattle.cedar_model.specs.Tree.{AllNumbers, Forest, none, child, Tree, is_bare, IsAscending, IsSoundBelow}
+use Rattle.cedar_model.specs.Queries.{Entry, prefixes_forest, walk, walk_forest}
+use Rattle.cedar_model.specs.Edits.{edit_at}
 use Rattle.cedar_model.specs.declared.layout.Stored.TheVariants.{AtBase}
 use Rattle.cedar_bulk.specs.declared.spans.Span.{Span}
 use Rattle.cedar_model.specs.Table.Cells.{Cells}

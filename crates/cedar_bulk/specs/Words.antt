@@ -19,7 +19,7 @@ pub use Rattle.cedar_model.specs.declared.layout.Stored.TheVariants.{AtBase}
 pub use Rattle.cedar_slots.specs.Places.{IsSlotLimit, IsTable, MayRefuse}
 pub use Rattle.cedar_slots.specs.declared.shortage.Shortage.TheVariants.{SlotLimit}
 pub use Rattle.cedar_table.specs.Table.Views.{cells, fields}
-pub use Rattle.cedar_tree.specs.Laws.{ArePathsAscending, ArePathsKeys}
-pub use Rattle.cedar_tree.specs.Queries.{asc, prefixes, prefixes_forest}
-pub use Rattle.cedar_tree.specs.Tree.{empty_tree, Forest, none, Tree}
+pub use Rattle.cedar_model.specs.Laws.{ArePathsAscending, ArePathsKeys}
+pub use Rattle.cedar_model.specs.Queries.{asc, prefixes, prefixes_forest}
+pub use Rattle.cedar_model.specs.Tree.{empty_tree, Forest, none, Tree}
 pub use Rattle.std.specs.List.{AllByRecursion}

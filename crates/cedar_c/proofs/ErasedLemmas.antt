@@ -2,10 +2,10 @@
 use Rattle.std.proofs.Common.{◌≡◌, ◌∙◌, ◌↔◌, ℕ, ◌+◌, ◌<◌, ◌≤◌, suc, Bool, true, false, IsTrue, List, [], ◌∷◌, ◌++◌, cond, drop, get_or, length, set, take, Option, Some, None, IsSome, is_some, refl, sym, ap, subst, arith}
 use Rattle.std.proofs.lemmas.List.{get_or-map, length-map, length-take-le, take_more}
 use Rattle.std.proofs.lemmas.List.Sums.{fold-append}
-use Rattle.cedar_tree.specs.Queries.{walk}
-use Rattle.cedar_tree.specs.State.{State, after_erase}
-use Rattle.cedar_tree.specs.Tree.{cut, number_at}
-use Rattle.cedar_tree.proofs.EntryLemmas.Counts.{length-walk-cut}
+use Rattle.cedarwood.specs.Queries.{walk}
+use Rattle.cedarwood.specs.State.{State, after_erase}
+use Rattle.cedarwood.specs.Tree.{cut, number_at}
+use Rattle.cedarwood.proofs.EntryLemmas.Counts.{length-walk-cut}
 use Rattle.cedarwood.specs.Batches.{held_in_turn, keys_erased}
 use Rattle.cedar_c.specs.Pairs.{named_keys}
 use Rattle.cedar_c.specs.declared.erasures.Key.{Key}

@@ -2,16 +2,16 @@
 use Rattle.std.proofs.Common.{arith, ◌≡◌, ◌≢◌, ℕ, inl, inr, List, [], ◌∷◌, take, Option, None, Some, IfSome, MatchOption, Ok, Err, refl, ap, sym, subst, ◌∙◌}
 use Rattle.std.specs.Prelude.{◌⊎◌}
 use Rattle.std.proofs.lemmas.Option.{none-some}
-use Rattle.cedar_model.specs.Table.Layouts.{LayoutKind, layout_byte}
-use Rattle.cedar_model.specs.Table.TableFields.{Fields}
-use Rattle.cedar_format.specs.declared.error.CedarPersistenceError.{CedarPersistenceError}
-use Rattle.cedar_format.specs.declared.error.CedarPersistenceError.TheVariants as errors
-use Rattle.cedar_format.specs.Format.{body_refusal, header_answer, header_at, header_refusal, size_refusal, trial_refusal}
-use Rattle.cedar_format.specs.declared.header.Header.{Header}
-use Rattle.cedar_format.specs.Reading.{IsIo, LacksTable}
-use Rattle.cedar_format.specs.Refusal.{Refusal, first_refusal, refusal_of}
+use Rattle.cedarwood.specs.Layouts.{LayoutKind, layout_byte}
+use Rattle.cedarwood.specs.TableFields.{Fields}
+use Rattle.cedarwood.specs.CedarPersistenceError.{CedarPersistenceError}
+use Rattle.cedarwood.specs.CedarPersistenceError.TheVariants as errors
+use Rattle.cedarwood.specs.Format.{body_refusal, header_answer, header_at, header_refusal, size_refusal, trial_refusal}
+use Rattle.cedarwood.specs.Header.{Header}
+use Rattle.cedarwood.specs.Reading.{IsIo, LacksTable}
+use Rattle.cedarwood.specs.Refusal.{Refusal, first_refusal, refusal_of}
 use Rattle.cedarwood.specs.Loading.{IsDecided, LoadAnswers}
-use Rattle.cedar_format.specs.Tables.{IsTableFile}
+use Rattle.cedarwood.specs.Tables.{IsTableFile}
 use Rattle.cedar_c.specs.Files.{early_refusal, file_status, IsOfNoTable, TellsHeader}
 
 -- whatever holds of each refusal

@@ -1,7 +1,7 @@
 -- Keywords written one after another.
 use Rattle.std.proofs.Common.{◌≡◌, ℕ, ◌+◌, ◌<◌, ℤ, List, [], ◌∷◌, ◌++◌, length, map, take, drop, set, Option, Some, None, sym, ap, ◌∙◌, arith}
 use Rattle.std.proofs.lemmas.List.{append_assoc, drop-drop, length-drop, take_more_set}
-use Rattle.cedar_tree.specs.Tree.{Tree}
+use Rattle.cedarwood.specs.Tree.{Tree}
 use Rattle.cedar_words.specs.Words.{keywords_of, longest}
 use Rattle.cedar_words.proofs.TokenLemmas.{tokens_next}
 use Rattle.cedar_c.specs.Scans.{WritesOn, found_keyword, found_keywords, found_spot}

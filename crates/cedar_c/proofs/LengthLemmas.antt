@@ -4,15 +4,15 @@ use Rattle.std.specs.Prelude.{ℤ, nat_eq}
 use Rattle.std.specs.List.{count_by, filter, range_with_len, starts_with}
 use Rattle.std.proofs.lemmas.Bool.{false≢true}
 use Rattle.std.proofs.lemmas.List.{length-map}
-use Rattle.cedar_tree.specs.Tree.{Forest, none, child, Tree}
-use Rattle.cedar_tree.specs.Queries.{Entry, own_entry, under, walk_forest, walk, predict, prefixes_forest, prefixes}
+use Rattle.cedarwood.specs.Tree.{Forest, none, child, Tree}
+use Rattle.cedarwood.specs.Queries.{Entry, own_entry, under, walk_forest, walk, predict, prefixes_forest, prefixes}
 use Rattle.std.proofs.lemmas.List.Sums.{count_by-le-length}
 use Rattle.std.proofs.lemmas.List.FromFn.{length-range_with_len}
-use Rattle.cedar_model.specs.Table.Cells.{is_held}
-use Rattle.cedar_model.specs.Meaning.Marks.{marks}
-use Rattle.cedar_model.specs.Meaning.WellFormed.{cells_in, IsWellFormed, tree_of}
-use Rattle.cedar_model.specs.Table.TableFields.{Fields, size_of}
-use Rattle.cedar_model.proofs.MeaningLemmas.HeldCount.{count_is_marked}
+use Rattle.cedarwood.specs.Cells.{is_held}
+use Rattle.cedarwood.specs.Marks.{marks}
+use Rattle.cedarwood.specs.WellFormed.{cells_in, IsWellFormed, tree_of}
+use Rattle.cedarwood.specs.TableFields.{Fields, size_of}
+use Rattle.cedarwood.proofs.HeldCount.{count_is_marked}
 use Rattle.cedarwood.specs.Dictionary.{Dictionary}
 use Rattle.cedarwood.specs.OnTable.{IsOnTable}
 use Rattle.cedar_c.specs.Matches.{all_longer, Fit, predicted_keys}

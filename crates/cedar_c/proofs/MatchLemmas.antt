@@ -2,16 +2,15 @@
 use Rattle.std.proofs.Common.{◌≡◌, ℕ, ◌+◌, ◌-◌, ◌<◌, ◌≤◌, ◌^◌, List, [], ◌∷◌, ◌++◌, length, take, drop, set, add-one, Bool, refl, sym, ap, subst, ◌∙◌, arith}
 use Rattle.std.specs.Prelude.{ℤ, nat_eq, Option, None, option_map}
 use Rattle.std.specs.List.{Contains, filter, last_or, starts_with}
-use Rattle.std.proofs.lemmas.List.{append_assoc, drop-set-lt, drop-drop, drop_all, drop_more, take-append-drop, take_all}
+use Rattle.std.proofs.lemmas.List.{append_assoc, drop-set-lt, drop-drop, drop_all, drop_more, take-append-drop, take_all, length-map}
 use Rattle.std.proofs.lemmas.Option.{none-some}
 use Rattle.std.proofs.Math.Seq.{take-suc-set}
 use Rattle.std.proofs.lemmas.List.Sums.{count_by-le-length, length-filter}
-use Rattle.std.proofs.lemmas.List.{length-map}
-use Rattle.cedar_tree.specs.Tree.{empty_tree, Tree}
-use Rattle.cedar_tree.specs.Queries.{Entry, front, predict, walk}
-use Rattle.cedar_tree.proofs.FrontLemmas.{held_from_front}
-use Rattle.cedar_tree.proofs.TreeLemmas.{number_at-empty}
-use Rattle.cedar_tree.proofs.FrontFromLemmas.{front_begins, front_short}
+use Rattle.cedarwood.specs.Tree.{empty_tree, Tree}
+use Rattle.cedarwood.specs.Queries.{Entry, front, predict, walk}
+use Rattle.cedarwood.proofs.FrontLemmas.{held_from_front}
+use Rattle.cedarwood.proofs.TreeLemmas.{number_at-empty}
+use Rattle.cedarwood.proofs.FrontFromLemmas.{front_begins, front_short}
 use Rattle.cedarwood.specs.Ranges.{longest_front}
 use Rattle.cedar_c.specs.Content.{content_tree}
 use Rattle.cedar_c.specs.declared.any.AnyCedar.{AnyCedar}

@@ -1,11 +1,11 @@
 -- Pairs of C's as the dictionary's own calls take them.
 use Rattle.std.proofs.Common.{◌≡◌, ◌⊎◌, inl, inr, ℕ, ◌<◌, ◌≤◌, List, [], ◌∷◌, length, map, take, Option, Some, None, IsSome, IfSome, IfErr, OnOk, OnErr, Result, Ok, Err, refl, sym, subst, ap, ◌∙◌, arith}
 use Rattle.std.proofs.lemmas.List.{take_all}
-use Rattle.cedar_tree.specs.Queries.{Entry}
+use Rattle.cedarwood.specs.Queries.{Entry}
 use Rattle.cedarwood.specs.declared.error.CedarError.{CedarError}
 use Rattle.cedarwood.specs.declared.error.CedarError.TheVariants.{Memory, SlotLimit}
-use Rattle.cedar_bulk.specs.Sorted.{entries_of}
-use Rattle.cedar_tree.specs.Tree.{number_at}
+use Rattle.cedarwood.specs.Sorted.{entries_of}
+use Rattle.cedarwood.specs.Tree.{number_at}
 use Rattle.cedarwood.specs.Builds.{all_stored, first_fault, path_at, IsRefusedBuild}
 use Rattle.cedarwood.specs.Dictionary.{Dictionary}
 use Rattle.cedarwood.specs.Fault.{fault, or_else, IsShortage}

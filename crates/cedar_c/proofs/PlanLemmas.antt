@@ -7,7 +7,7 @@ use Rattle.cedar_journal.specs.Files.{file_payloads, HasExtent}
 use Rattle.cedar_journal.specs.Formats.{frame_of, opening, overhead}
 use Rattle.cedar_journal.specs.Journal.{IsBeforeOrAfter}
 use Rattle.cedar_journal.proofs.Moments as moments
-use Rattle.cedar_disk.specs.Calls.{LeftSince, open_call, seen_after}
+use Rattle.cedar_plan.specs.Calls.{LeftSince, open_call, seen_after}
 use Rattle.cedar_plan.specs.Plans.{works_of}
 use Rattle.cedar_plan.specs.Works.{Work, append_works, end_of, format_in, opening_works}
 use Rattle.cedar_plan.specs.declared.plan.Plan.{Plan}
@@ -17,7 +17,7 @@ use Rattle.cedar_store.specs.Changes.{Change, after, all_changed, change_of, aft
 use Rattle.cedar_store.specs.Files.{IsEither, state_of}
 use Rattle.cedar_store.proofs.Payloads.{one_change}
 use Rattle.cedar_store.proofs.States.{either, state_added}
-use Rattle.cedar_tree.specs.State.{State, new_state, after_put}
+use Rattle.cedarwood.specs.State.{State, new_state, after_put}
 use Rattle.cedar_c.specs.Changes.{IsRecord}
 use Rattle.cedar_c.specs.Layouts.{dictionary_in}
 use Rattle.cedar_c.specs.Plans.{IsChangePlan, IsOpening}

@@ -2,8 +2,8 @@
 use Rattle.std.proofs.Common.{◌≡◌, ℕ, zero, suc, ◌+◌, ◌-◌, ◌<◌, ◌^◌, ℤ, List, [], ◌∷◌, ◌++◌, length, map, take, drop, set, Option, Some, None, option_map, refl, sym, ap, ◌∙◌, arith}
 use Rattle.std.specs.List.{filter_map, cons_option, range_with_len}
 use Rattle.std.proofs.lemmas.List.{append_assoc, drop-drop, take_more_set}
-use Rattle.cedar_tree.specs.Tree.{Tree, number_at}
-use Rattle.cedar_tree.specs.Queries.{front}
+use Rattle.cedarwood.specs.Tree.{Tree, number_at}
+use Rattle.cedarwood.specs.Queries.{front}
 use Rattle.cedar_words.specs.Words.{longest, len_of, found_number}
 use Rattle.cedar_c.specs.Matches.{Fit}
 use Rattle.cedar_c.specs.Scans.{found_spot, found_spots, found_token, found_tokens}

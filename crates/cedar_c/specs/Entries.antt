@@ -3,10 +3,10 @@ use Rattle.std.specs.Prelude.{◌≡◌, ◌⊎◌, ◌+◌, ◌-◌, ◌<◌, �
 use Rattle.std.specs.List.{filter, starts_with}
 use Rattle.std.specs.Cmp.Lexicographic.{slice_cmp}
 use Rattle.std.specs.Ordering.{is_gt, nat_cmp}
-use Rattle.cedar_model.specs.Table.TableFields.{Fields}
-use Rattle.cedar_tree.specs.Queries.{Entry, walk}
-use Rattle.cedar_tree.specs.State.{State}
-use Rattle.cedar_tree.specs.Tree.{Tree}
+use Rattle.cedarwood.specs.TableFields.{Fields}
+use Rattle.cedarwood.specs.Queries.{Entry, walk}
+use Rattle.cedarwood.specs.State.{State}
+use Rattle.cedarwood.specs.Tree.{Tree}
 use Rattle.cedar_walk.specs.declared.visits.Numbered.{Numbered}
 use Rattle.cedar_walk.specs.Ranges.{entries_with}
 use Rattle.cedar_walk.specs.Visits.{path_to}

@@ -1,8 +1,8 @@
 -- What a walk writes into a buffer.
 use Rattle.std.specs.Prelude.{ℕ, ◌+◌, ◌<◌, ◌^◌, ℤ, List, [], ◌∷◌, ◌++◌, drop, length, map, filter, nat_eq, take}
 use Rattle.std.specs.List.{starts_with}
-use Rattle.cedar_tree.specs.Tree.{Tree}
-use Rattle.cedar_tree.specs.Queries.{front, walk}
+use Rattle.cedarwood.specs.Tree.{Tree}
+use Rattle.cedarwood.specs.Queries.{front, walk}
 use Rattle.cedar_c.specs.declared.walks.Match.{Match}
 
 -- a number and a length; `found` has one that lacks some bytes

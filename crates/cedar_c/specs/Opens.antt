@@ -1,7 +1,7 @@
 -- What calls that open a handle say.
 use Rattle.std.specs.Prelude.{◌≡◌, ◌≢◌, ◌⊎◌, ◌↔◌, ◌≤ℤ◌, ◌<ℤ◌, ℕ, ℤ, pos, Bool, List, None, Some, IfSome}
-use Rattle.cedar_format.specs.Format.{header_answer}
-use Rattle.cedar_model.specs.Table.Layouts.{LayoutKind, layout_byte}
+use Rattle.cedarwood.specs.Format.{header_answer}
+use Rattle.cedarwood.specs.Layouts.{LayoutKind, layout_byte}
 use Rattle.cedarwood.specs.Words.{IsEmpty, IsOnTable, IsSorted}
 use Rattle.cedarwood.specs.Limits.{most_slots}
 use Rattle.cedarwood.specs.declared.builder.CedarBuilder.{CedarBuilder}

@@ -5,7 +5,7 @@ use Rattle.cedar_journal.specs.declared.format.Format.TheVariants.{Plain, Summed
 use Rattle.cedar_journal.specs.declared.records.Extent.{Extent}
 use Rattle.cedar_journal.specs.Files.{HasExtent}
 use Rattle.cedar_journal.specs.Formats.{overhead}
-use Rattle.cedar_disk.specs.Calls.{Call, open_call, seen_after}
+use Rattle.cedar_plan.specs.Calls.{Call, open_call, seen_after}
 use Rattle.cedar_plan.specs.Safety.{CrashLeaves, IsAtRest}
 use Rattle.cedar_plan.specs.Works.{AreCarriedOut, Work, all_done}
 use Rattle.cedar_salvage.specs.Whole.{cuts_records, TakesLong}

@@ -1,6 +1,6 @@
 -- What a dictionary that is lent for reading has.
 use Rattle.std.specs.Prelude.{ℕ, Option, option_map}
-use Rattle.cedar_model.specs.Table.Layouts.{LayoutKind}
+use Rattle.cedarwood.specs.Layouts.{LayoutKind}
 use Rattle.cedarwood.specs.Dictionary.{Dictionary}
 use Rattle.cedarwood.specs.Tree.{Tree}
 use Rattle.cedar_c.specs.Content.{content_figure, content_tree}

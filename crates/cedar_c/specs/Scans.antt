@@ -1,7 +1,7 @@
 -- What a text has at all of its positions, written into a buffer.
 use Rattle.std.specs.Prelude.{◌≡◌, ℕ, ◌+◌, ℤ, negsuc, List, [], ◌∷◌, ◌++◌, drop, map, Option, Some, None}
-use Rattle.cedar_tree.specs.Tree.{Tree}
-use Rattle.cedar_tree.specs.Queries.{front}
+use Rattle.cedarwood.specs.Tree.{Tree}
+use Rattle.cedarwood.specs.Queries.{front}
 use Rattle.cedar_words.specs.Words.{Spot, Token, keywords_of, tokens_behind}
 use Rattle.cedar_c.specs.declared.scans.Found.{Found}
 

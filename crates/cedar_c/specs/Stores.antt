@@ -1,7 +1,7 @@
 -- What a call says that stores many pairs.
 use Rattle.std.specs.Prelude.{◌≡◌, ◌<◌, ◌≤◌, ℕ, List, length, take, None, option_map}
-use Rattle.cedar_tree.specs.Tree.{number_at}
-use Rattle.cedar_tree.specs.Queries.{Entry}
+use Rattle.cedarwood.specs.Tree.{number_at}
+use Rattle.cedarwood.specs.Queries.{Entry}
 use Rattle.cedarwood.specs.Builds.{all_stored, path_at}
 use Rattle.cedarwood.specs.declared.error.CedarError.{CedarError}
 use Rattle.cedar_c.specs.Content.{content, state_in, tree_in}

@@ -1,5 +1,5 @@
 -- The words of clauses, from one place.
-pub use Rattle.cedar_bulk.specs.Sorted.{entries_of}
+pub use Rattle.cedarwood.specs.Sorted.{entries_of}
 pub use Rattle.cedar_c.specs.Changes.{IsRecord}
 pub use Rattle.cedar_c.specs.Content.{capacity_in, ChangesBy, content, ErasesUnder, layout_in, marks_in, size_in, state_in, tree_in}
 pub use Rattle.cedar_c.specs.Content.{trials_in}
@@ -21,24 +21,24 @@ pub use Rattle.cedar_c.specs.Status.{LacksOnlyNew, position_of, status_of, statu
 pub use Rattle.cedar_c.specs.Stores.{HoldsFront, HoldsPart, RefusesAll}
 pub use Rattle.cedar_c.specs.Updates.{KeepsSlots, StoresValue}
 pub use Rattle.cedar_c.specs.declared.any.AnyCedar.{AnyCedar}
-pub use Rattle.cedar_format.specs.Format.{header_answer}
-pub use Rattle.cedar_format.specs.Refusal.{refusal_of}
-pub use Rattle.cedar_format.specs.Tables.{IsTableFile, table_bytes}
+pub use Rattle.cedarwood.specs.Format.{header_answer}
+pub use Rattle.cedarwood.specs.Refusal.{refusal_of}
+pub use Rattle.cedarwood.specs.Tables.{IsTableFile, table_bytes}
 pub use Rattle.cedar_journal.specs.Files.{HasExtent}
 pub use Rattle.cedar_journal.specs.Formats.{frame_of, opening, overhead}
 pub use Rattle.cedar_journal.specs.Records.{length_bytes}
 pub use Rattle.cedar_journal.specs.declared.format.Format.{Format}
 pub use Rattle.cedar_journal.specs.declared.format.Format.TheVariants.{Plain, Summed}
-pub use Rattle.cedar_model.specs.Meaning.WellFormed.{IsWellFormed, tree_of}
-pub use Rattle.cedar_model.specs.Table.Layouts.{default_layout, layout_byte, reduced_layout}
+pub use Rattle.cedarwood.specs.WellFormed.{IsWellFormed, tree_of}
+pub use Rattle.cedarwood.specs.Layouts.{default_layout, layout_byte, reduced_layout}
 pub use Rattle.cedar_plan.specs.Plans.{works_of}
 pub use Rattle.cedar_plan.specs.Works.{append_works, end_of, format_in}
 pub use Rattle.cedar_salvage.specs.Whole.{CutsNone}
 pub use Rattle.cedar_store.specs.Causes.{LoadCause}
 pub use Rattle.cedar_store.specs.Changes.{erase_at, put_at}
 pub use Rattle.cedar_store.specs.Files.{state_of}
-pub use Rattle.cedar_tree.specs.Queries.{asc, prefixes, slots_of_tree, walk}
-pub use Rattle.cedar_tree.specs.Tree.{Tree}
+pub use Rattle.cedarwood.specs.Queries.{asc, prefixes, slots_of_tree, walk}
+pub use Rattle.cedarwood.specs.Tree.{Tree}
 pub use Rattle.cedar_walk.specs.Visits.{ComesToFirst, IsNumberedBelow}
 pub use Rattle.cedarwood.specs.Batches.{held_in_turn, keys_erased}
 pub use Rattle.cedarwood.specs.Builds.{all_stored, first_fault, outcome}

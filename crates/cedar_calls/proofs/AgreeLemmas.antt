@@ -4,22 +4,22 @@ use Rattle.std.specs.Prelude.{MatchOption}
 use Rattle.std.specs.List.{remove, slice_get, AllByRecursion}
 use Rattle.std.specs.declared.result.Result.{Result}
 use Rattle.std.proofs.lemmas.List.{map-append}
-use Rattle.cedar_tree.specs.Tree.{Tree, empty_tree, number_at}
-use Rattle.cedar_tree.specs.Queries.{asc, exact, front, predict}
-use Rattle.cedar_tree.specs.State.{State, after_erase, after_put}
+use Rattle.cedarwood.specs.Tree.{Tree, empty_tree, number_at}
+use Rattle.cedarwood.specs.Queries.{asc, exact, front, predict}
+use Rattle.cedarwood.specs.State.{State, after_erase, after_put}
 use Rattle.cedarwood.specs.Words.{entries_of}
 use Rattle.cedarwood.specs.Ranges.{entries_since, entries_with, longest_front}
 use Rattle.cedarwood.specs.RangeWalks.{entries_between}
-use Rattle.cedar_model.specs.Meaning.WellFormed.{tree_of}
-use Rattle.cedar_model.specs.Table.Layouts.{LayoutKind, default_layout, layout_byte}
-use Rattle.cedar_model.specs.Table.TableFields.{Fields}
-use Rattle.cedar_format.specs.declared.error.CedarPersistenceError.{CedarPersistenceError}
-use Rattle.cedar_format.specs.declared.error.CedarPersistenceError.TheVariants as errors
-use Rattle.cedar_format.specs.declared.header.Header.{Header}
-use Rattle.cedar_format.specs.Format.{header_answer, header_at}
-use Rattle.cedar_format.specs.Reading.{LacksTable}
-use Rattle.cedar_format.specs.Refusal.{Refusal, refusal, refusal_of}
-use Rattle.cedar_format.proofs.OneTable.{one_formed_table}
+use Rattle.cedarwood.specs.WellFormed.{tree_of}
+use Rattle.cedarwood.specs.Layouts.{LayoutKind, default_layout, layout_byte}
+use Rattle.cedarwood.specs.TableFields.{Fields}
+use Rattle.cedarwood.specs.CedarPersistenceError.{CedarPersistenceError}
+use Rattle.cedarwood.specs.CedarPersistenceError.TheVariants as errors
+use Rattle.cedarwood.specs.Header.{Header}
+use Rattle.cedarwood.specs.Format.{header_answer, header_at}
+use Rattle.cedarwood.specs.Reading.{LacksTable}
+use Rattle.cedarwood.specs.Refusal.{Refusal, refusal, refusal_of}
+use Rattle.cedarwood.proofs.OneTable.{one_formed_table}
 use Rattle.cedarwood.specs.Batches.{held_in_turn, keys_erased}
 use Rattle.cedarwood.specs.Builds.{all_stored, first_fault}
 use Rattle.cedarwood.specs.Dictionary.{Dictionary}

@@ -6,7 +6,7 @@ use Rattle.std.proofs.lemmas.Bool.{false≢true, true≢false}
 use Rattle.cedarwood.specs.declared.error.CedarError.{CedarError}
 use Rattle.cedarwood.specs.declared.error.CedarError.TheVariants.{Memory}
 use Rattle.cedar_calls.specs.Replies.{Collects, CollectsSome}
-use Rattle.cedar_tree.proofs.GeneralLemmas.{positive}
+use Rattle.cedarwood.proofs.GeneralLemmas.{positive}
 
 -- what has a part that isn't empty isn't empty
 pub some_of : {X : Type 0} (front rest all : List X) → front ++ rest ≡ all → 0 < length rest → 0 < length all

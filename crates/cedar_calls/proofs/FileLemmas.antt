@@ -2,13 +2,13 @@
 use Rattle.std.proofs.Common.{◌≡◌, ℕ, List, [], ◌∷◌, ◌++◌, Option, Some, Ok, Err, ap, sym, subst, ◌∙◌}
 use Rattle.std.specs.Borrow.{Bor}
 use Rattle.std.specs.declared.result.Result.{Result}
-use Rattle.cedar_tree.specs.State.{State}
-use Rattle.cedar_model.specs.Meaning.WellFormed.{tree_of}
-use Rattle.cedar_model.specs.Table.Layouts.{LayoutKind}
-use Rattle.cedar_model.specs.Table.TableFields.{Fields}
-use Rattle.cedar_format.specs.declared.error.CedarPersistenceError.{CedarPersistenceError}
-use Rattle.cedar_format.specs.Tables.{IsTableFile}
-use Rattle.cedar_format.proofs.OneTable.{one_formed_table}
+use Rattle.cedarwood.specs.State.{State}
+use Rattle.cedarwood.specs.WellFormed.{tree_of}
+use Rattle.cedarwood.specs.Layouts.{LayoutKind}
+use Rattle.cedarwood.specs.TableFields.{Fields}
+use Rattle.cedarwood.specs.CedarPersistenceError.{CedarPersistenceError}
+use Rattle.cedarwood.specs.Tables.{IsTableFile}
+use Rattle.cedarwood.proofs.OneTable.{one_formed_table}
 use Rattle.cedarwood.specs.Dictionary.{Dictionary}
 use Rattle.cedarwood.specs.OnTable.{IsOnTable}
 use Rattle.cedarwood.proofs.LoadLemmas.{loaded_saves_again}

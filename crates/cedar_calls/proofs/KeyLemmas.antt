@@ -1,12 +1,12 @@
 -- What a key holds after a change.
 use Rattle.std.proofs.Common.{◌≡◌, nat_eq, Bool, true, false, ℕ, ℤ, List, [], ◌∷◌, Option, Some, None, cond, fold, refl, ap, sym, ◌∙◌, true≢false}
 use Rattle.std.specs.List.{Contains, filter, starts_with}
-use Rattle.cedar_tree.specs.Tree.{Tree, cut, number_at, put, IsSoundBelow}
-use Rattle.cedar_tree.specs.Queries.{Entry, is_path, last_at, walk}
-use Rattle.cedar_tree.specs.State.{State, after_erase, after_put}
-use Rattle.cedar_tree.proofs.EntryLemmas.Built.{is_path_itself, same_path}
-use Rattle.cedar_tree.proofs.TreeLemmas.{number_at-cut_other, number_at-cut_same, number_at-empty, number_at-put_other, number_at-put_same, sound-cut}
-use Rattle.cedar_tree.proofs.MemberLemmas.{contains_first_or_later, contains_none, either_part, into_filter, walk_from_held}
+use Rattle.cedarwood.specs.Tree.{Tree, cut, number_at, put, IsSoundBelow}
+use Rattle.cedarwood.specs.Queries.{Entry, is_path, last_at, walk}
+use Rattle.cedarwood.specs.State.{State, after_erase, after_put}
+use Rattle.cedarwood.proofs.EntryLemmas.Built.{is_path_itself, same_path}
+use Rattle.cedarwood.proofs.TreeLemmas.{number_at-cut_other, number_at-cut_same, number_at-empty, number_at-put_other, number_at-put_same, sound-cut}
+use Rattle.cedarwood.proofs.MemberLemmas.{contains_first_or_later, contains_none, either_part, into_filter, walk_from_held}
 use Rattle.cedarwood.specs.declared.error.CedarError.{CedarError}
 use Rattle.cedarwood.specs.Words.{entries_of, keys_of}
 use Rattle.cedarwood.specs.Batches.{keys_erased}

@@ -5,14 +5,14 @@ use Rattle.std.specs.declared.result.Result.{Result}
 use Rattle.std.proofs.lemmas.Bool.{false≢true}
 use Rattle.std.proofs.lemmas.List.{map-append, map-set}
 use Rattle.std.proofs.lemmas.Option.{slice_get-map}
-use Rattle.cedar_tree.specs.Tree.{IsSoundBelow, number_at}
-use Rattle.cedar_tree.specs.Queries.{Entry, is_path, last_at}
-use Rattle.cedar_tree.proofs.EntryLemmas.Built.{number_at-asc}
-use Rattle.cedar_tree.proofs.TreeLemmas.{number_at-empty}
+use Rattle.cedarwood.specs.Tree.{IsSoundBelow, number_at}
+use Rattle.cedarwood.specs.Queries.{Entry, is_path, last_at}
+use Rattle.cedarwood.proofs.EntryLemmas.Built.{number_at-asc}
+use Rattle.cedarwood.proofs.TreeLemmas.{number_at-empty}
 use Rattle.cedarwood.specs.declared.error.CedarError.{CedarError}
 use Rattle.cedarwood.specs.Words.{Pair, entries_of, keys_of}
-use Rattle.cedar_model.specs.Table.Layouts.{LayoutKind}
-use Rattle.cedar_format.specs.declared.error.CedarPersistenceError.{CedarPersistenceError}
+use Rattle.cedarwood.specs.Layouts.{LayoutKind}
+use Rattle.cedarwood.specs.CedarPersistenceError.{CedarPersistenceError}
 use Rattle.cedarwood.specs.declared.builder.CedarBuilder.{CedarBuilder}
 use Rattle.cedarwood.specs.Builds.{first_fault}
 use Rattle.cedarwood.specs.Dictionary.{Dictionary}

@@ -2,14 +2,14 @@
 use Rattle.std.proofs.Common.{◌≡◌, ◌+◌, ◌<◌, inl, inr, Bool, true, false, ℕ, zero, suc, ℤ, List, [], ◌∷◌, arith, length, take, Option, Some, None, is_some, Ok, Err, IfSome, IfOk, IsSome, OnErr, ◌↔◌, refl, ap, sym, subst, ◌∙◌}
 use Rattle.std.specs.List.{AllByRecursion}
 use Rattle.std.specs.declared.result.Result.{Result}
-use Rattle.cedar_tree.specs.Tree.{Tree, empty_tree, number_at}
-use Rattle.cedar_tree.specs.Queries.{Entry, slots_of_tree, walk}
-use Rattle.cedar_tree.specs.State.{after_put, State}
+use Rattle.cedarwood.specs.Tree.{Tree, empty_tree, number_at}
+use Rattle.cedarwood.specs.Queries.{Entry, slots_of_tree, walk}
+use Rattle.cedarwood.specs.State.{after_put, State}
 use Rattle.cedarwood.specs.declared.batches.RefusedPair.{RefusedPair}
 use Rattle.cedarwood.specs.declared.error.CedarError.{CedarError}
 use Rattle.cedarwood.specs.declared.error.CedarError.TheVariants.{Memory, SlotLimit}
 use Rattle.cedarwood.specs.Words.{entries_of}
-use Rattle.cedar_model.specs.Table.Layouts.{LayoutKind, default_layout}
+use Rattle.cedarwood.specs.Layouts.{LayoutKind, default_layout}
 use Rattle.cedarwood.specs.Batches.{pair_at}
 use Rattle.cedarwood.specs.Builds.{all_stored, first_fault, IsBuild, outcome}
 use Rattle.cedarwood.specs.Dictionary.{Dictionary}

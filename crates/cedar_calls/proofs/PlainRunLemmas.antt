@@ -4,13 +4,13 @@ use Rattle.std.specs.List.{remove, slice_get, AllByRecursion}
 use Rattle.std.specs.declared.result.Result.{Result}
 use Rattle.std.proofs.lemmas.List.{map-append, map-set}
 use Rattle.std.proofs.lemmas.Option.{slice_get-map}
-use Rattle.cedar_tree.specs.Tree.{empty_tree}
-use Rattle.cedar_tree.specs.Queries.{Entry, asc, prefixes}
-use Rattle.cedar_tree.specs.State.{State}
+use Rattle.cedarwood.specs.Tree.{empty_tree}
+use Rattle.cedarwood.specs.Queries.{Entry, asc, prefixes}
+use Rattle.cedarwood.specs.State.{State}
 use Rattle.cedarwood.specs.declared.error.CedarError.{CedarError}
 use Rattle.cedarwood.specs.declared.error.CedarError.TheVariants.{Memory, SlotLimit}
 use Rattle.cedarwood.specs.Words.{Pair, entries_of}
-use Rattle.cedar_model.specs.Table.Layouts.{LayoutKind, default_layout}
+use Rattle.cedarwood.specs.Layouts.{LayoutKind, default_layout}
 use Rattle.cedarwood.specs.declared.builder.CedarBuilder.{CedarBuilder}
 use Rattle.cedarwood.specs.Builds.{first_fault}
 use Rattle.cedarwood.specs.Dictionary.{Dictionary}

@@ -3,7 +3,7 @@ use Rattle.std.proofs.Common.{◌≡◌, ℕ, ℤ, ◌+◌, Bool, true, false, c
 use Rattle.std.specs.Prelude.{String}
 use Rattle.std.specs.Str.{is_utf8, IsUtf8}
 use Rattle.std.proofs.lemmas.Str.{is_utf8-from_IsUtf8, IsUtf8-from_is_utf8, IsUtf8-string_bytes}
-use Rattle.cedar_tree.specs.Queries.{Entry}
+use Rattle.cedarwood.specs.Queries.{Entry}
 use Rattle.cedar_calls.specs.Plain.{text_entries_of}
 use Rattle.cedar_calls.specs.Replies.{AreTexts}
 

@@ -2,7 +2,7 @@
 use Rattle.std.specs.Prelude.{◌≡◌, ◌⊎◌, ℕ, Bool, true, List, [], ◌∷◌}
 use Rattle.std.specs.List.{AllByRecursion}
 use Rattle.cedarwood.specs.Words.{entries_of, keys_of}
-use Rattle.cedar_model.specs.Table.Layouts.{LayoutKind, default_layout}
+use Rattle.cedarwood.specs.Layouts.{LayoutKind, default_layout}
 use Rattle.cedarwood.specs.Dictionary.{Dictionary}
 use Rattle.cedar_calls.specs.Plain.{plain_answers, states_of, IsLoadless, IsMet}
 use Rattle.cedar_calls.specs.Runs.{IsRun}

@@ -1,14 +1,14 @@
 -- What a change of a dictionary returns, and the dictionary after it.
 use Rattle.std.specs.Prelude.{◌≡◌, ℕ, ℤ, ◌+◌, ◌-◌, ◌*◌, ◌<◌, ◌≤◌, Bool, List, length, IfErr, IfOk, IfSome, IsOk, IsSome, IsTrue, ◌↔◌, None, OnErr, OnOk, Option, Result, Err, take, Vec}
-use Rattle.cedar_tree.specs.Tree.{number_at}
-use Rattle.cedar_tree.specs.Queries.{Entry}
-use Rattle.cedar_tree.specs.State.{after_erase}
+use Rattle.cedarwood.specs.Tree.{number_at}
+use Rattle.cedarwood.specs.Queries.{Entry}
+use Rattle.cedarwood.specs.State.{after_erase}
 use Rattle.cedarwood.specs.declared.error.CedarError.{CedarError}
 use Rattle.cedarwood.specs.declared.batches.RefusedPair.{RefusedPair}
 use Rattle.cedarwood.specs.declared.error.CedarError.TheVariants.{Memory, SlotLimit}
 use Rattle.cedarwood.specs.Words.{entries_of, keys_of}
-use Rattle.cedar_model.specs.Meaning.Marks.{MarksCut}
-use Rattle.cedar_model.specs.Table.Layouts.{LayoutKind}
+use Rattle.cedarwood.specs.Marks.{MarksCut}
+use Rattle.cedarwood.specs.Layouts.{LayoutKind}
 use Rattle.cedarwood.specs.Batches.{held_in_turn, IsErasures, IsUpdates, keys_erased}
 use Rattle.cedarwood.specs.Builds.{all_stored, first_fault, outcome, IsBuild, IsRefusedBuild}
 use Rattle.cedarwood.specs.Dictionary.{capacity_after, Dictionary}

@@ -1,14 +1,14 @@
 -- What a key holds after some changes of a dictionary: only changes of that key have a part in it, the last of them decides.
 use Rattle.std.specs.Prelude.{◌≡◌, ◌<◌, ℕ, ℤ, List, [], ◌∷◌, ◌++◌, length, take, map, slice_get, slice_set, Option, Some, None, IsSome, fold, nat_eq, if◌then◌else◌, Result, Ok, Err, OnOk, MatchResult}
 use Rattle.std.specs.List.{remove, starts_with}
-use Rattle.cedar_tree.specs.Tree.{number_at, IsSoundBelow}
-use Rattle.cedar_tree.specs.Queries.{is_path, last_at}
-use Rattle.cedar_tree.specs.State.{State}
+use Rattle.cedarwood.specs.Tree.{number_at, IsSoundBelow}
+use Rattle.cedarwood.specs.Queries.{is_path, last_at}
+use Rattle.cedarwood.specs.State.{State}
 use Rattle.cedarwood.specs.Words.{entries_of, keys_of}
-use Rattle.cedar_model.specs.Meaning.WellFormed.{tree_of}
-use Rattle.cedar_model.specs.Table.Layouts.{LayoutKind}
-use Rattle.cedar_model.specs.Table.TableFields.{Fields}
-use Rattle.cedar_format.specs.Tables.{IsTableFile}
+use Rattle.cedarwood.specs.WellFormed.{tree_of}
+use Rattle.cedarwood.specs.Layouts.{LayoutKind}
+use Rattle.cedarwood.specs.TableFields.{Fields}
+use Rattle.cedarwood.specs.Tables.{IsTableFile}
 use Rattle.cedarwood.specs.Builds.{first_fault}
 use Rattle.cedarwood.specs.Dictionary.{Dictionary}
 use Rattle.cedarwood.specs.Fault.{fault}

@@ -2,8 +2,8 @@
 use Rattle.std.specs.Prelude.{◌≡◌, ℕ, List, [], ◌∷◌, ◌++◌, IfOk, MatchResult, Result, Ok, Err}
 use Rattle.cedarwood.specs.declared.error.CedarError.{CedarError}
 use Rattle.cedarwood.specs.declared.error.CedarError.TheVariants.{Memory}
-use Rattle.cedar_model.specs.Table.Layouts.{LayoutKind}
-use Rattle.cedar_format.specs.declared.error.CedarPersistenceError.{CedarPersistenceError}
+use Rattle.cedarwood.specs.Layouts.{LayoutKind}
+use Rattle.cedarwood.specs.CedarPersistenceError.{CedarPersistenceError}
 use Rattle.cedarwood.specs.Dictionary.{Dictionary}
 use Rattle.cedarwood.specs.Loading.{LoadAnswers}
 use Rattle.cedarwood.specs.OnTable.{IsOnTable}

@@ -2,9 +2,9 @@
 use Rattle.std.specs.Prelude.{◌≡◌, Bool, true, false, ℕ, ℤ, List, [], ◌∷◌, ◌++◌, ◌+◌, length, map, slice_get, slice_set, Option, option_map, Some, None, is_some, string_bytes, if◌then◌else◌, Result, Ok, Err}
 use Rattle.std.specs.List.{AllByRecursion, remove}
 use Rattle.std.specs.Str.{is_utf8}
-use Rattle.cedar_tree.specs.Tree.{empty_tree, number_at}
-use Rattle.cedar_tree.specs.Queries.{Entry, asc, exact, front, predict, slots_of_tree, walk}
-use Rattle.cedar_tree.specs.State.{State, after_erase, after_put}
+use Rattle.cedarwood.specs.Tree.{empty_tree, number_at}
+use Rattle.cedarwood.specs.Queries.{Entry, asc, exact, front, predict, slots_of_tree, walk}
+use Rattle.cedarwood.specs.State.{State, after_erase, after_put}
 use Rattle.cedarwood.specs.declared.batches.RefusedPair.{RefusedPair}
 use Rattle.cedarwood.specs.declared.error.CedarError.{CedarError}
 use Rattle.cedarwood.specs.Words.{entries_of, keys_of}
@@ -12,9 +12,9 @@ use Rattle.cedarwood.specs.Ranges.{entries_since, entries_with, longest_front}
 use Rattle.cedarwood.specs.RangeWalks.{entries_between}
 use Rattle.cedarwood.specs.Ends.{first_entry, last_entry}
 use Rattle.cedarwood.specs.Erasures.{erased_under}
-use Rattle.cedar_model.specs.Table.Layouts.{LayoutKind, default_layout}
-use Rattle.cedar_format.specs.declared.error.CedarPersistenceError.{CedarPersistenceError}
-use Rattle.cedar_format.specs.Refusal.{Refusal, AllocationFailed, refusal_of}
+use Rattle.cedarwood.specs.Layouts.{LayoutKind, default_layout}
+use Rattle.cedarwood.specs.CedarPersistenceError.{CedarPersistenceError}
+use Rattle.cedarwood.specs.Refusal.{Refusal, AllocationFailed, refusal_of}
 use Rattle.cedarwood.specs.Batches.{held_in_turn, keys_erased}
 use Rattle.cedarwood.specs.Builds.{all_stored, first_fault}
 use Rattle.cedarwood.specs.Dictionary.{Dictionary}

@@ -1,16 +1,16 @@
 -- What a question to a dictionary returns.
 use Rattle.std.specs.Prelude.{◌≡◌, Bool, true, false, ℕ, ℤ, ◌+◌, ◌-◌, ◌*◌, ◌/◌, ◌<◌, List, [], ◌∷◌, length, map, Option, option_map, Some, None, is_some, IsTrue, ◌↔◌, MatchResult, Result, string_bytes}
 use Rattle.std.specs.Str.{IsUtf8}
-use Rattle.cedar_tree.specs.Tree.{number_at}
-use Rattle.cedar_tree.specs.Queries.{Entry, exact, front, predict, slots_of_tree, walk}
+use Rattle.cedarwood.specs.Tree.{number_at}
+use Rattle.cedarwood.specs.Queries.{Entry, exact, front, predict, slots_of_tree, walk}
 use Rattle.cedarwood.specs.declared.error.CedarError.{CedarError}
 use Rattle.cedarwood.specs.declared.error.CedarError.TheVariants.{Memory}
-use Rattle.cedar_model.specs.Table.Layouts.{LayoutKind, default_layout}
+use Rattle.cedarwood.specs.Layouts.{LayoutKind, default_layout}
 use Rattle.cedarwood.specs.Words.{keys_of}
 use Rattle.cedarwood.specs.Ranges.{entries_since, entries_with, longest_front}
 use Rattle.cedarwood.specs.RangeWalks.{entries_between}
 use Rattle.cedarwood.specs.Ends.{first_entry, last_entry}
-use Rattle.cedar_format.specs.Tables.{IsTableFile}
+use Rattle.cedarwood.specs.Tables.{IsTableFile}
 use Rattle.cedarwood.specs.Dictionary.{Dictionary, held_slots}
 use Rattle.cedarwood.specs.declared.figures.MemoryStats.{MemoryStats}
 use Rattle.cedar_calls.specs.declared.call.Figure.{Figure}

@@ -8,9 +8,9 @@ use Rattle.std.specs.Result.{result_ok}
 use Rattle.hex.specs.Hex.{decode_of}
 use Rattle.hex.specs.declared.error.FromHexError.{FromHexError}
 use Rattle.hex.proofs.HexLemmas.{decode_of-ok}
-use Rattle.cedar_tree.specs.State.{after_put, State}
-use Rattle.cedar_tree.specs.Tree.{number_at}
-use Rattle.cedar_tree.proofs.TreeLemmas.{number_at-put_same}
+use Rattle.cedarwood.specs.State.{after_put, State}
+use Rattle.cedarwood.specs.Tree.{number_at}
+use Rattle.cedarwood.proofs.TreeLemmas.{number_at-put_same}
 use Rattle.cedarwood.specs.Dictionary.{Dictionary, Grows, capacity_after}
 use Rattle.cedarwood.proofs.GrowthLemmas.{grows_further, grows_none}
 use Rattle.cedar_cli.specs.Blocks.{GrowsWithin, GrowsBefore}

@@ -3,14 +3,14 @@ use Rattle.std.proofs.Common.{◌≡◌, ◌+◌, ◌++◌, ℕ, zero, suc, ℤ,
 use Rattle.std.specs.Prelude.{is_some}
 use Rattle.std.proofs.lemmas.Bool.{eqb-true, false≢true, and_from, or_cases, or_right, and_parts, or_left}
 use Rattle.std.proofs.lemmas.Bool.Decides.{eqb_tells}
-use Rattle.cedar_tree.specs.State.{State, after_put, after_erase}
-use Rattle.cedar_tree.specs.Tree.{IsSound, Tree, is_bare, number_at}
-use Rattle.cedar_tree.specs.Queries.{IsFront, is_path, node_at, prefixes, slots_of_tree, walk}
-use Rattle.cedar_tree.proofs.EntryLemmas.Built.{is_path_itself, same_path}
-use Rattle.cedar_tree.proofs.EntryLemmas.Prefixes.{front_of_node, node_of_held}
+use Rattle.cedarwood.specs.State.{State, after_put, after_erase}
+use Rattle.cedarwood.specs.Tree.{IsSound, Tree, is_bare, number_at}
+use Rattle.cedarwood.specs.Queries.{IsFront, is_path, node_at, prefixes, slots_of_tree, walk}
+use Rattle.cedarwood.proofs.EntryLemmas.Built.{is_path_itself, same_path}
+use Rattle.cedarwood.proofs.EntryLemmas.Prefixes.{front_of_node, node_of_held}
 use Rattle.cedarwood.specs.declared.error.CedarError.{CedarError}
-use Rattle.cedar_model.specs.Meaning.Marks.{HasMark, IsProperFront, MarksCut, MarksPut}
-use Rattle.cedar_model.specs.Table.Layouts.{LayoutKind, default_layout, reduced_layout}
+use Rattle.cedarwood.specs.Marks.{HasMark, IsProperFront, MarksCut, MarksPut}
+use Rattle.cedarwood.specs.Layouts.{LayoutKind, default_layout, reduced_layout}
 use Rattle.cedarwood.specs.Dictionary.{Dictionary, IsMarked, some_numbers}
 use Rattle.cedarwood.specs.Fault.{fault}
 use Rattle.cedarwood.proofs.MarkedLemmas.{same_numbers}

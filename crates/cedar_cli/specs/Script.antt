@@ -3,10 +3,10 @@
 use Rattle.std.specs.Prelude.{◌≡◌, ◌⊎◌, ℕ, ◌<◌, Bool, true, false, if◌then◌else◌, ℤ, List, [], ◌∷◌, ◌++◌, length, Option, Some, None, Result, Err, OnOk, IfErr, IsSome, MatchOption, codes, decimal, is_some}
 use Rattle.std.specs.Fmt.{signed_decimal}
 use Rattle.std.specs.Io.KnownBytes.{Appends}
-use Rattle.cedar_tree.specs.Tree.{number_at}
-use Rattle.cedar_tree.specs.Queries.{Entry, front, predict, walk}
-use Rattle.cedar_tree.specs.State.{after_erase, after_put}
-use Rattle.cedar_model.specs.Table.Layouts.{LayoutKind}
+use Rattle.cedarwood.specs.Tree.{number_at}
+use Rattle.cedarwood.specs.Queries.{Entry, front, predict, walk}
+use Rattle.cedarwood.specs.State.{after_erase, after_put}
+use Rattle.cedarwood.specs.Layouts.{LayoutKind}
 use Rattle.cedar_cli.specs.declared.command.Verb.TheVariants.{Put, Erase, Exact, Segment, Prefixes, Predict, Entries, Figures}
 use Rattle.cedar_cli.specs.declared.script.ScriptError.{ScriptError}
 use Rattle.cedar_cli.specs.declared.script.ScriptError.TheVariants.{Read, Write, Memory, SlotLimit}

@@ -1,9 +1,9 @@
 -- What a script sees of a dictionary, and how storing and removing a key change that.
 use Rattle.std.specs.Prelude.{ℕ, ◌+◌, ℤ, Bool, true, false, not, ◌&&◌, ◌||◌, ◌==◌, if◌then◌else◌, List, [], ◌∷◌, length, is_some}
-use Rattle.cedar_tree.specs.Tree.{Tree, is_bare, number_at}
-use Rattle.cedar_tree.specs.Queries.{is_path, node_at, prefixes, slots_of_tree, walk}
-use Rattle.cedar_tree.specs.State.{State, after_put, after_erase}
-use Rattle.cedar_model.specs.Table.Layouts.{LayoutKind, default_layout, reduced_layout}
+use Rattle.cedarwood.specs.Tree.{Tree, is_bare, number_at}
+use Rattle.cedarwood.specs.Queries.{is_path, node_at, prefixes, slots_of_tree, walk}
+use Rattle.cedarwood.specs.State.{State, after_put, after_erase}
+use Rattle.cedarwood.specs.Layouts.{LayoutKind, default_layout, reduced_layout}
 use Rattle.cedarwood.specs.Dictionary.{Dictionary, some_numbers}
 
 -- its layout, the state that its results come from, and the tree with just those numbers that have slots of their own

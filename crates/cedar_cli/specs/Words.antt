@@ -12,10 +12,10 @@ pub use Rattle.cedar_cli.specs.Script.{found_text, hex_entry_line, hex_entry_lin
 pub use Rattle.cedar_cli.specs.Script.{number_text, pair_text, pairs_text, put_text, spaced_texts, Stops, token_text, tokens_text}
 pub use Rattle.cedar_cli.specs.Statuses.{AsksForFile, EndsBy, fault_text, IsReported, ShowsCause, TellsCause, WritesOrFailed}
 pub use Rattle.cedar_cli.specs.View.{View, view_of}
-pub use Rattle.cedar_model.specs.Table.Layouts.{layout_byte}
+pub use Rattle.cedarwood.specs.Layouts.{layout_byte}
 pub use Rattle.cedarwood.specs.Words.{IsSlotLimit}
-pub use Rattle.cedar_tree.specs.State.{after_erase, after_put}
-pub use Rattle.cedar_tree.specs.Tree.{number_at}
+pub use Rattle.cedarwood.specs.State.{after_erase, after_put}
+pub use Rattle.cedarwood.specs.Tree.{number_at}
 pub use Rattle.cedarwood.specs.Dictionary.{Grows}
 pub use Rattle.cedarwood.specs.Fault.{fault}
 pub use Rattle.cedarwood.specs.WatchedDevice.{device_of, has_failed}

@@ -2,8 +2,8 @@
 use Rattle.std.proofs.Common.{◌≡◌, ◌≢◌, ◌∙◌, false, ℕ, zero, suc, ◌+◌, ◌*◌, ◌≤◌, ◌⊎◌, ◌==◌, cond, List, [], ◌∷◌, ◌++◌, length, take, drop, ap, arith, inl, inr, refl, subst, sym, Some, Result, Ok, Err}
 use Rattle.std.specs.Prelude.{ℤ, IfOk, OnOk}
 use Rattle.std.proofs.lemmas.Bool.{cases_eq, cond-false, ne_eqb}
-use Rattle.cedar_tree.specs.Edits.{edit_at}
-use Rattle.cedar_tree.specs.Tree.{Forest, IsKey, Tree}
+use Rattle.cedar_model.specs.Edits.{edit_at}
+use Rattle.cedar_model.specs.Tree.{Forest, IsKey, Tree}
 use Rattle.cedar_slots.specs.declared.shortage.Shortage.{Shortage}
 use Rattle.cedar_model.specs.declared.layout.Stored.TheVariants.{AtBase}
 use Rattle.cedar_model.specs.Edit.KeyWalk.{Walked}

@@ -29,6 +29,6 @@ pub use Rattle.cedar_model.specs.Table.TableFields.{capacity_of, SameFrame, size
 pub use Rattle.cedar_model.specs.declared.layout.Stored.TheVariants.{AtBase, OwnNumber}
 pub use Rattle.cedar_slots.specs.Places.{IsTable, MayRefuse, SameSlots}
 pub use Rattle.cedar_table.specs.Table.Views.{cells, fields}
-pub use Rattle.cedar_tree.specs.Edits.{add_leaf, edit_at}
-pub use Rattle.cedar_tree.specs.Queries.{node_at}
-pub use Rattle.cedar_tree.specs.Tree.{cut, Forest, has_label, is_bare, IsAscending, IsKey, number_at, put, without}
+pub use Rattle.cedar_model.specs.Edits.{add_leaf, edit_at}
+pub use Rattle.cedar_model.specs.Queries.{node_at}
+pub use Rattle.cedar_model.specs.Tree.{cut, Forest, has_label, is_bare, IsAscending, IsKey, number_at, put, without}

@@ -1,7 +1,7 @@
 -- What a life of sessions leaves.
 use Rattle.std.specs.Prelude.{Bool, Option, None, Some}
 use Rattle.std.proofs.Common.{◌≡◌, inl, ⊎_elim, ℕ, suc, true, false, List, [], ◌∷◌, length, refl, sym, ◌∙◌, ap, subst}
-use Rattle.cedar_tree.specs.State.{State}
+use Rattle.cedar_store.specs.State.{State}
 use Rattle.cedar_store.specs.Files.{IsEither, state_of}
 use Rattle.cedar_runs.specs.Lives.{CrashesIn, IsLife, IsSession, Session, after_session, calling, after_life, while_opening, with_last}
 use Rattle.cedar_runs.specs.Runs.{IsStoreRun, failed_after_all, sure_after_all}

@@ -1,7 +1,7 @@
 -- Runs that go one call further, and what is known behind a run.
 use Rattle.std.specs.Prelude.{pos}
 use Rattle.std.proofs.Common.{◌≡◌, ℕ, List, [], ◌∷◌, ◌++◌, append_assoc, ap, refl, sym, subst, ◌∙◌}
-use Rattle.cedar_tree.specs.State.{State}
+use Rattle.cedar_store.specs.State.{State}
 use Rattle.cedar_runs.specs.Runs.{AddsStoreRun, IsStoreRun, failed_after_all, held_after_all, sure_after_all}
 use Rattle.cedar_runs.specs.Steps.{IsKnown, IsCallStep, Point, after_call, sure_once}
 use Rattle.cedar_runs.specs.declared.call.StoreCall.{StoreCall}

@@ -1,6 +1,6 @@
 -- A store that is opened, called and stopped, again and again.
 use Rattle.std.specs.Prelude.{◌≡◌, ℕ, Bool, false, cond, List, [], ◌∷◌, length, Option, Some, None}
-use Rattle.cedar_tree.specs.State.{State}
+use Rattle.cedar_store.specs.State.{State}
 use Rattle.cedar_store.specs.Files.{StandsFor, state_of}
 use Rattle.cedar_runs.specs.Steps.{IsCallStep, Point, after_call, under_way}
 use Rattle.cedar_runs.specs.Runs.{IsStoreRun, failed_after_all, held_after_all, sure_after_all}

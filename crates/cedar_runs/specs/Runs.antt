@@ -1,6 +1,6 @@
 -- Calls of a store one after another.
 use Rattle.std.specs.Prelude.{◌≡◌, ℕ, Bool, List, [], ◌∷◌, ◌++◌}
-use Rattle.cedar_tree.specs.State.{State}
+use Rattle.cedar_store.specs.State.{State}
 use Rattle.cedar_runs.specs.Steps.{IsCallStep, Point, after_call, failed_once, held_once, sure_once}
 use Rattle.cedar_runs.specs.declared.call.StoreCall.{StoreCall}
 use Rattle.cedar_runs.specs.declared.call.Outcome.{Outcome}

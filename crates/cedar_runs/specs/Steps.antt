@@ -1,6 +1,6 @@
 -- What a call of a store does to its dictionary, and to what a crash may leave.
 use Rattle.std.specs.Prelude.{◌≡◌, ℕ, Bool, true, false, List}
-use Rattle.cedar_tree.specs.State.{State, after_erase, after_put}
+use Rattle.cedar_store.specs.State.{State, after_erase, after_put}
 use Rattle.cedar_store.specs.Changes.{all_changed}
 use Rattle.cedar_store.specs.Files.{IsEither}
 use Rattle.cedar_store.specs.Told.{changes_told}

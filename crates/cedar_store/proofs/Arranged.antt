@@ -4,10 +4,10 @@ use Rattle.std.proofs.Common.{◌≡◌, ℕ, Bool, true, false, ℤ, List, [], 
 use Rattle.std.specs.Cmp.Lexicographic.{bytes_decides, pointwise}
 use Rattle.std.specs.List.{AllByRecursion}
 use Rattle.std.proofs.lemmas.Bool.{true≢false}
-use Rattle.cedar_tree.specs.State.{State, after_put, after_erase}
-use Rattle.cedar_tree.specs.Tree.{number_at, put, cut, IsKey, IsSound, IsAscending}
-use Rattle.cedar_tree.proofs.TreeLemmas.{number_at-put_same, number_at-put_other, number_at-cut_same, number_at-cut_other, is_sound-put, is_sound-cut}
-use Rattle.cedar_tree.proofs.OrderLemmas.{ascending-put, ascending-cut, one_tree}
+use Rattle.cedarwood.specs.State.{State, after_put, after_erase}
+use Rattle.cedarwood.specs.Tree.{number_at, put, cut, IsKey, IsSound, IsAscending}
+use Rattle.cedarwood.proofs.TreeLemmas.{number_at-put_same, number_at-put_other, number_at-cut_same, number_at-cut_other, is_sound-put, is_sound-cut}
+use Rattle.cedarwood.proofs.OrderLemmas.{ascending-put, ascending-cut, one_tree}
 use Rattle.cedar_store.specs.Changes.{Change, put_at, erase_at, after_change, all_changed}
 use Rattle.cedar_store.specs.Batches.{only_updated, all_updated, is_put_by, late_erased, all_erased_late, HasKey}
 

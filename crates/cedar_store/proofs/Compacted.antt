@@ -16,12 +16,12 @@ use Rattle.cedar_journal.specs.Images.{image_of, records_of}
 use Rattle.cedar_journal.specs.Journal.{IsSettled}
 use Rattle.cedar_journal.specs.Replacing.{IfKept}
 use Rattle.cedar_journal.proofs.Images.{image_stands}
-use Rattle.cedar_tree.specs.Queries.{Entry, walk}
-use Rattle.cedar_tree.specs.State.{State, new_state}
-use Rattle.cedar_tree.specs.Tree.{AllNumbers, IsAscending, IsKey, IsPath, IsSound, Tree, number_at, put}
-use Rattle.cedar_tree.proofs.EntryLemmas.Keys.{asc-walk, held_key, all_contained}
-use Rattle.cedar_tree.proofs.MemberLemmas.{contains_here, contains_later, held_from_walk}
-use Rattle.cedar_tree.proofs.TreeLemmas.{all-number_at}
+use Rattle.cedarwood.specs.Queries.{Entry, walk}
+use Rattle.cedarwood.specs.State.{State, new_state}
+use Rattle.cedarwood.specs.Tree.{AllNumbers, IsAscending, IsKey, IsPath, IsSound, Tree, number_at, put}
+use Rattle.cedarwood.proofs.EntryLemmas.Keys.{asc-walk, held_key, all_contained}
+use Rattle.cedarwood.proofs.MemberLemmas.{contains_here, contains_later, held_from_walk}
+use Rattle.cedarwood.proofs.TreeLemmas.{all-number_at}
 use Rattle.cedarwood.specs.Builds.{all_stored}
 use Rattle.cedarwood.specs.Fault.{fault, key_fault, or_else, value_fault}
 use Rattle.cedarwood.specs.SortedInput.{HasNoNul}

@@ -3,7 +3,7 @@ use Rattle.std.specs.Prelude.{◌||◌, Bool, true, false}
 use Rattle.std.proofs.Common.{◌≡◌, ℕ, suc, zero, ◌+◌, ◌-◌, ◌≤◌, ◌<◌, List, [], ◌∷◌, length, drop, sym, ◌∙◌, ap, arith}
 use Rattle.std.proofs.lemmas.Bool.{true≢false}
 use Rattle.std.proofs.lemmas.List.{drop-drop, drop_all, drop_more}
-use Rattle.cedar_tree.specs.State.{State}
+use Rattle.cedarwood.specs.State.{State}
 use Rattle.cedar_store.specs.Batches.{all_erased_late, change_at, is_put_by, late_erased, puts}
 use Rattle.cedar_store.specs.Changes.{Change, erase_at}
 

@@ -2,7 +2,7 @@
 use Rattle.std.specs.Prelude.{option_and_then, option_map, Option, Some, None}
 use Rattle.std.proofs.Common.{◌≡◌, ℕ, true, List, [], ◌∷◌, refl, ◌∙◌, subst}
 use Rattle.cedar_journal.specs.Files.{file_payloads}
-use Rattle.cedar_tree.specs.State.{State, new_state}
+use Rattle.cedarwood.specs.State.{State, new_state}
 use Rattle.cedar_store.specs.Changes.{Change, put_at, erase_at, after_change, all_changed, changes_of, after_payloads}
 use Rattle.cedar_store.specs.Files.{state_of}
 

@@ -5,7 +5,7 @@ use Rattle.std.proofs.lemmas.List.{drop-drop}
 use Rattle.cedar_journal.specs.declared.format.Format.{Format}
 use Rattle.cedar_journal.specs.Files.{HasRecords, IsNewFile}
 use Rattle.cedar_journal.specs.Formats.{AreUndamaged, Reading, read_behind, damaged, payloads_read, records_read, stands}
-use Rattle.cedar_tree.specs.State.{State, new_state}
+use Rattle.cedarwood.specs.State.{State, new_state}
 use Rattle.cedar_store.specs.declared.error.DurableError.{DurableError}
 use Rattle.cedar_store.specs.declared.error.DurableError.TheVariants as error
 use Rattle.cedar_store.specs.Causes.{ReplayCause, LoadCause}

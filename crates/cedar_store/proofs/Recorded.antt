@@ -14,7 +14,7 @@ use Rattle.cedar_store.specs.Causes.{FrameCause, PayloadCause}
 use Rattle.cedar_store.specs.Changes.{Change, change_of, changes_of, each_change, records_length}
 use Rattle.cedar_store.proofs.Batched.{whole_batch}
 use Rattle.cedar_store.proofs.Payloads.{of_batch}
-use Rattle.cedar_tree.proofs.GeneralLemmas.{all_at}
+use Rattle.cedarwood.proofs.GeneralLemmas.{all_at}
 
 -- ---- the record of one payload
 

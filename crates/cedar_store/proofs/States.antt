@@ -4,7 +4,7 @@ use Rattle.std.proofs.Common.{◌≡◌, inl, inr, ⊎_elim, ℕ, true, List, []
 use Rattle.std.proofs.lemmas.Bool.{false≢true}
 use Rattle.cedar_journal.specs.Files.{file_payloads, with_payload}
 use Rattle.cedar_journal.specs.Journal.{IsBeforeOrAfter}
-use Rattle.cedar_tree.specs.State.{State, new_state}
+use Rattle.cedarwood.specs.State.{State, new_state}
 use Rattle.cedar_store.specs.Changes.{Change, changes_of, all_changed, after, after_payloads}
 use Rattle.cedar_store.specs.Files.{state_of, has_no_change, IsCorrupt, IsEither}
 

@@ -1,9 +1,9 @@
 -- A put is taken back.
 use Rattle.std.specs.Prelude.{ℤ, Option, Some, None, Result, Ok, Err, OnOk, IfErr}
 use Rattle.std.proofs.Common.{◌≡◌, ℕ, List, sym, ◌∙◌, ap}
-use Rattle.cedar_tree.specs.Tree.{Tree, number_at}
-use Rattle.cedar_tree.specs.State.{State, after_put, after_erase}
-use Rattle.cedar_tree.proofs.TreeLemmas.{cut-put, put-put, put_held, number_at-put_same}
+use Rattle.cedarwood.specs.Tree.{Tree, number_at}
+use Rattle.cedarwood.specs.State.{State, after_put, after_erase}
+use Rattle.cedarwood.proofs.TreeLemmas.{cut-put, put-put, put_held, number_at-put_same}
 use Rattle.cedarwood.specs.declared.error.CedarError.{CedarError}
 use Rattle.cedarwood.specs.Fault.{fault, or_else, IsShortage}
 use Rattle.cedar_store.specs.Undo.{IsPutOf}

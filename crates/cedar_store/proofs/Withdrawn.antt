@@ -5,13 +5,13 @@ use Rattle.std.proofs.Common.{◌≡◌, inl, inr, true, ℕ, ◌+◌, ◌≤◌
 use Rattle.std.proofs.lemmas.Bool.{cases_eq, eqb-true}
 use Rattle.std.proofs.lemmas.List.{get_or-map, get_or-take, length-map, get_or-set_other, get_or-set_same, length-take-le, take-take, take_all, take_more}
 use Rattle.std.proofs.lemmas.List.Sums.{fold-append}
-use Rattle.cedar_tree.specs.State.{State}
+use Rattle.cedarwood.specs.State.{State}
 use Rattle.cedar_store.specs.Batches.{AreHeld, IsHeld, change_at, only_updated, all_updated}
 use Rattle.cedar_store.specs.Changes.{Change, erase_at}
 use Rattle.cedar_store.specs.Told.{change_told, changes_told}
 use Rattle.cedar_store.specs.declared.change.Change.{Change as ToldChange}
 use Rattle.cedar_store.specs.declared.change.Change.TheVariants as told
-use Rattle.cedar_tree.proofs.GeneralLemmas.{all_and_one}
+use Rattle.cedarwood.proofs.GeneralLemmas.{all_and_one}
 
 -- what follows the changes that are given
 abbrev pub blank : ToldChange

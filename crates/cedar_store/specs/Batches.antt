@@ -2,8 +2,8 @@
 use Rattle.std.specs.Prelude.{◌≡◌, ℕ, ◌+◌, ◌<◌, ℤ, Bool, false, ◌||◌, cond, List, [], ◌∷◌, ◌++◌, fold, get_or, length, take, Option, None, Some, nat_eq}
 use Rattle.std.specs.Cmp.Lexicographic.{pointwise}
 use Rattle.cedar_journal.specs.Records.{length_bytes}
-use Rattle.cedar_tree.specs.State.{State, after_put, after_erase}
-use Rattle.cedar_tree.specs.Tree.{IsKey}
+use Rattle.cedarwood.specs.State.{State, after_put, after_erase}
+use Rattle.cedarwood.specs.Tree.{IsKey}
 use Rattle.cedarwood.specs.declared.error.CedarError.{CedarError}
 use Rattle.cedarwood.specs.Fault.{fault}
 use Rattle.cedar_store.specs.Changes.{Change, put_at, erase_at, change_of}

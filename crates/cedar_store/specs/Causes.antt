@@ -3,7 +3,7 @@ use Rattle.std.specs.Prelude.{◌≡◌, ◌⊎◌, ℕ, ◌<◌, ◌≤◌, Boo
 use Rattle.cedar_journal.specs.declared.device.DeviceError.TheVariants.{Failed}
 use Rattle.cedar_journal.specs.Files.{file_payloads, file_reading}
 use Rattle.cedar_journal.specs.Formats.{damaged}
-use Rattle.cedar_tree.specs.State.{State}
+use Rattle.cedarwood.specs.State.{State}
 use Rattle.cedarwood.specs.declared.error.CedarError.{CedarError}
 use Rattle.cedarwood.specs.declared.error.CedarError.TheVariants as cedar
 use Rattle.cedarwood.specs.Fault.{IsShortage}

@@ -5,7 +5,7 @@ use Rattle.cedar_journal.specs.declared.frame.FrameError.{FrameError}
 use Rattle.cedar_journal.specs.declared.frame.FrameError.TheVariants as frame
 use Rattle.cedar_journal.specs.declared.replace.ReplaceError.{ReplaceError}
 use Rattle.cedar_journal.specs.declared.replace.ReplaceError.TheVariants as replace
-use Rattle.cedar_tree.specs.Queries.{Entry}
+use Rattle.cedarwood.specs.Queries.{Entry}
 use Rattle.cedar_store.specs.Changes.{changes_of, put_at}
 use Rattle.cedar_store.specs.declared.compaction.Compaction.{Compaction}
 use Rattle.cedar_store.specs.declared.compaction.Compaction.TheVariants.{Never, Beyond}

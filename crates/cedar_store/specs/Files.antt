@@ -1,7 +1,7 @@
 -- The dictionary that a file represents.
 use Rattle.std.specs.Prelude.{◌≡◌, ◌⊎◌, ℕ, Bool, true, false, ◌||◌, not, is_some, List, [], ◌∷◌, Option, Some, option_and_then}
 use Rattle.cedar_journal.specs.Files.{file_payloads, with_payload}
-use Rattle.cedar_tree.specs.State.{State, new_state}
+use Rattle.cedarwood.specs.State.{State, new_state}
 use Rattle.cedar_store.specs.Changes.{after_payloads, Change, changes_of}
 
 -- The state after the changes of all records that count. None: the file is of another kind, or one of its records is no change.

@@ -1,7 +1,7 @@
 -- What a put returns, and what it leaves.
 use Rattle.std.specs.Prelude.{◌≡◌, ℕ, ℤ, List, None, IfSome, IfErr, OnOk, OnErr, Result, Err}
-use Rattle.cedar_tree.specs.Tree.{number_at}
-use Rattle.cedar_tree.specs.State.{after_put, State}
+use Rattle.cedarwood.specs.Tree.{number_at}
+use Rattle.cedarwood.specs.State.{after_put, State}
 use Rattle.cedarwood.specs.declared.error.CedarError.{CedarError}
 use Rattle.cedarwood.specs.Fault.{fault, IsShortage}
 

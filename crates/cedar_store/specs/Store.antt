@@ -2,7 +2,7 @@
 use Rattle.std.specs.Prelude.{◌≡◌, ℕ, Bool, false, true, List, Some}
 use Rattle.cedar_journal.specs.declared.format.Format.{Format}
 use Rattle.cedar_journal.specs.Journal.{IsSettled}
-use Rattle.cedar_tree.specs.State.{State}
+use Rattle.cedarwood.specs.State.{State}
 use Rattle.cedar_store.specs.Files.{state_of}
 
 -- the file is at rest and on the disk, and represents the dictionary's state

@@ -1,7 +1,7 @@
 -- A put that can be taken back.
 use Rattle.std.specs.Prelude.{◌≡◌, ℤ, List, ℕ, Option, None, IfSome}
-use Rattle.cedar_tree.specs.State.{after_put, State}
-use Rattle.cedar_tree.specs.Tree.{IsSound, number_at}
+use Rattle.cedarwood.specs.State.{after_put, State}
+use Rattle.cedarwood.specs.Tree.{IsSound, number_at}
 use Rattle.cedarwood.specs.Fault.{key_fault, value_fault}
 
 -- the one state is the other after a value was put at a key, which held this before

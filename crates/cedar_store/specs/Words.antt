@@ -19,8 +19,8 @@ pub use Rattle.cedar_store.specs.Store.{IsConsistent, IsReady}
 pub use Rattle.cedar_store.specs.Told.{change_told, changes_told, file_error, frame_error, journal_error}
 pub use Rattle.cedar_store.specs.Undo.{IsPutOf}
 pub use Rattle.cedar_store.specs.declared.error.DurableError.TheVariants.{Device, Foreign, Full, NoRoom, Refused, TooLong}
-pub use Rattle.cedar_tree.specs.State.{State, new_state}
-pub use Rattle.cedar_tree.specs.Tree.{IsAscending}
+pub use Rattle.cedarwood.specs.State.{State, new_state}
+pub use Rattle.cedarwood.specs.Tree.{IsAscending}
 pub use Rattle.cedarwood.specs.Words.{IsLimit, IsShortage, IsSound, all_stored, after_erase, fault, key_fault, number_at, outcome, after_put, value_fault, walk}
 pub use Rattle.cedarwood.specs.declared.error.CedarError.TheVariants.{Memory}
 pub use Rattle.std.specs.List.{AllByRecursion}

@@ -22,7 +22,7 @@ pub use Rattle.cedar_slots.specs.declared.shortage.Shortage.TheVariants.{Memory}
 pub use Rattle.cedar_table.specs.Table.Parts.{parts_fields}
 pub use Rattle.cedar_table.specs.Table.Room.{LacksBlocks}
 pub use Rattle.cedar_table.specs.Table.Views.{cells, fields}
-pub use Rattle.cedar_tree.specs.Edits.{edit_at, HasPath}
-pub use Rattle.cedar_tree.specs.Queries.{exact, node_at}
-pub use Rattle.cedar_tree.specs.Tree.{empty_tree, Forest, has_label, number_at, subtree, Tree}
+pub use Rattle.cedar_model.specs.Edits.{edit_at, HasPath}
+pub use Rattle.cedar_model.specs.Queries.{exact, node_at}
+pub use Rattle.cedar_model.specs.Tree.{empty_tree, Forest, has_label, number_at, subtree, Tree}
 pub use Rattle.std.specs.List.{range_with_len}

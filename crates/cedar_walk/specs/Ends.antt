@@ -1,6 +1,6 @@
 -- The last node of a walk in a table, and the way to it.
 use Rattle.std.specs.Prelude.{◌≡◌, ◌-◌, ◌<◌, List, [], ◌∷◌, ◌++◌, length}
-use Rattle.cedar_tree.specs.Queries.{Entry, walk}
+use Rattle.cedar_model.specs.Queries.{Entry, walk}
 use Rattle.cedar_walk.specs.declared.visits.Numbered.{Numbered}
 use Rattle.cedar_walk.specs.declared.visits.Place.{Place}
 use Rattle.cedar_model.specs.Table.TableFields.{Fields}

@@ -1,8 +1,8 @@
 -- Where a walk over a range of keys begins in a table.
 use Rattle.std.specs.Prelude.{◌≡◌, ◌⊎◌, ℕ, ◌<◌, ◌≤◌, false, true, get_or, List, [], ◌++◌, length, map, MatchOption, Option, take}
-use Rattle.cedar_tree.specs.Tree.{Forest, has_label}
-use Rattle.cedar_tree.specs.Queries.{node_at}
-use Rattle.cedar_tree.specs.Walks.{behind, visited_entries, node_up, Visit, visit_from, visits_below}
+use Rattle.cedar_model.specs.Tree.{Forest, has_label}
+use Rattle.cedar_model.specs.Queries.{node_at}
+use Rattle.cedar_model.specs.Walks.{behind, visited_entries, node_up, Visit, visit_from, visits_below}
 use Rattle.cedar_model.specs.Edit.NodeEdits.{IsAt}
 use Rattle.cedar_model.specs.Table.TableFields.{Fields}
 use Rattle.cedar_model.specs.Meaning.WellFormed.{cells_in, tree_of}

@@ -5,8 +5,8 @@ pub use Rattle.cedar_model.specs.Meaning.StandsFor.{Stands}
 pub use Rattle.cedar_model.specs.Meaning.WellFormed.{IsWellFormed, tree_of}
 pub use Rattle.cedar_model.specs.Table.TableFields.{size_of}
 pub use Rattle.cedar_table.specs.Table.Views.{cells, fields}
-pub use Rattle.cedar_tree.specs.Queries.{exact, node_at, walk}
-pub use Rattle.cedar_tree.specs.Tree.{has_label, Tree}
+pub use Rattle.cedar_model.specs.Queries.{exact, node_at, walk}
+pub use Rattle.cedar_model.specs.Tree.{has_label, Tree}
 pub use Rattle.cedar_walk.specs.Batch.{AreLanes, IsLane, keys_of}
 pub use Rattle.cedar_walk.specs.Ends.{GoesPast, IsLastNumber, IsOnLastWay}
 pub use Rattle.cedar_walk.specs.Fronts.{front_length, IsNextFront, IsOnQuery}

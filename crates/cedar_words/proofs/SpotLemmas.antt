@@ -7,7 +7,7 @@ use Rattle.std.proofs.lemmas.List.{length-drop, take_all}
 use Rattle.cedarwood.specs.Tree.{Tree, number_at}
 use Rattle.cedarwood.specs.Queries.{front}
 use Rattle.cedarwood.proofs.FrontLemmas.{front_from_held, held_from_front}
-use Rattle.cedar_tree.proofs.MemberLemmas.{contains_none, either_part, from_map, into_map}
+use Rattle.cedarwood.proofs.MemberLemmas.{contains_none, either_part, from_map, into_map}
 use Rattle.cedar_words.specs.Spots.{IsKeyIn, IsLeftmost, keywords_in, keywords_of, Spot, spot, spots_from, spots_left}
 use Rattle.cedar_words.specs.Steps.{AreWithin}
 use Rattle.cedar_words.specs.Tokens.{len_of, longest, found_number, tokens_behind}

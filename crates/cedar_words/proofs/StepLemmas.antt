@@ -6,7 +6,7 @@ use Rattle.std.proofs.lemmas.Bool.Decides.{eqb_tells, leb_tells}
 use Rattle.cedarwood.specs.Tree.{Tree, number_at}
 use Rattle.cedarwood.specs.Queries.{front}
 use Rattle.cedarwood.proofs.FrontLemmas.{front_from_held, held_from_front}
-use Rattle.cedar_tree.proofs.MemberLemmas.{contains_first_or_later, contains_here, contains_later, contains_none, either_part}
+use Rattle.cedarwood.proofs.MemberLemmas.{contains_first_or_later, contains_here, contains_later, contains_none, either_part}
 use Rattle.cedar_words.specs.Cuts.{price}
 use Rattle.cedar_words.specs.Steps.{AreCostsOver, AreWithin, best_from, best_of, better_of, cost_at, cut_along, key_step, step_over}
 use Rattle.cedar_words.specs.declared.costs.Step.{Step}

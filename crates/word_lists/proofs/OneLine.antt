@@ -1,8 +1,8 @@
 -- What one line stores, and what is reported of it.
 use Rattle.std.proofs.Common.{◌≡◌, ◌∙◌, ℕ, ℤ, List, Bool, true, cond, is_some, Option, Some, None, refl, sym, ap}
 use Rattle.std.specs.List.{before_first}
-use Rattle.cedar_tree.specs.State.{State}
-use Rattle.cedar_tree.specs.Tree.{number_at}
+use Rattle.cedarwood.specs.State.{State}
+use Rattle.cedarwood.specs.Tree.{number_at}
 use Rattle.cedarwood.specs.Fault.{fault}
 use Rattle.word_lists.specs.Reading.{read_as}
 use Rattle.word_lists.specs.Stored.{is_tab, line_stored, line_told, number_of_line, stored_by, stored_with, told_by, told_with, word_of}

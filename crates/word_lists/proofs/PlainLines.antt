@@ -3,8 +3,8 @@ use Rattle.std.proofs.Common.{◌≡◌, ◌<◌, ◌+◌, ◌-◌, zero, suc, t
 use Rattle.std.specs.Prelude.{Result, Ok, Err}
 use Rattle.std.specs.Io.BufRead.{drop_through, take_through}
 use Rattle.hex.specs.Hex.{decode_sized}
-use Rattle.cedar_tree.specs.Queries.{Entry, asc}
-use Rattle.cedar_tree.specs.State.{State, new_state, after_put}
+use Rattle.cedarwood.specs.Queries.{Entry, asc}
+use Rattle.cedarwood.specs.State.{State, new_state, after_put}
 use Rattle.std.proofs.lemmas.List.{map-append}
 use Rattle.cedarwood.specs.Words.{entries_of, LayoutKind, Pair}
 use Rattle.cedarwood.specs.Builds.{all_stored}

@@ -2,8 +2,8 @@
 use Rattle.std.proofs.Common.{◌≡◌, ℤ, List, ℕ, Bool, true, false, cond, is_some, Option, Some, None, IfSome, refl, sym, ap, subst}
 use Rattle.std.proofs.lemmas.Bool.{false≢true}
 use Rattle.std.specs.Prelude.{IsSome, IsTrue, ◌↔◌, Result, Ok, Err, IfOk, OnOk}
-use Rattle.cedar_tree.specs.State.{State, after_erase, after_put}
-use Rattle.cedar_tree.specs.Tree.{number_at}
+use Rattle.cedarwood.specs.State.{State, after_erase, after_put}
+use Rattle.cedarwood.specs.Tree.{number_at}
 use Rattle.cedarwood.specs.Fault.{IsShortage}
 use Rattle.cedarwood.specs.declared.error.CedarError.{CedarError}
 use Rattle.cedarwood.specs.declared.error.CedarError.TheVariants as errors
@@ -12,7 +12,7 @@ use Rattle.word_lists.specs.declared.lines.StoreError.{StoreError}
 use Rattle.word_lists.specs.declared.lines.StoreError.TheVariants.{SlotLimit}
 use Rattle.word_lists.specs.Stored.{absent_of, IsWant, line_absent, line_erased, line_held, line_refusal, stored_by, told_by, want_of, word_of}
 use Rattle.text_lines.specs.Lines.{is_filled}
-use Rattle.cedar_tree.proofs.GeneralLemmas.{on_ok}
+use Rattle.cedarwood.proofs.GeneralLemmas.{on_ok}
 
 -- a want of slots is that of the dictionary
 pub slots_wanted : (e : CedarError) → ◌≡◌ {A = StoreError} (want_of e) SlotLimit → e ≡ errors.SlotLimit

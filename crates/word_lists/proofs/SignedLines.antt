@@ -3,9 +3,9 @@ use Rattle.std.proofs.Common.{◌≡◌, suc, ℕ, List, [], ◌∷◌, ◌++◌
 use Rattle.std.proofs.lemmas.Bool.{lt-ltb}
 use Rattle.std.specs.Prelude.{ltb}
 use Rattle.std.specs.Io.KnownBytes.{Appends}
-use Rattle.cedar_tree.specs.Queries.{Entry}
-use Rattle.cedar_tree.specs.State.{after_put, State}
-use Rattle.cedar_tree.specs.Tree.{Tree}
+use Rattle.cedarwood.specs.Queries.{Entry}
+use Rattle.cedarwood.specs.State.{after_put, State}
+use Rattle.cedarwood.specs.Tree.{Tree}
 use Rattle.cedarwood.specs.Builds.{all_stored}
 use Rattle.text_lines.specs.Written.{AppendsFront, WritesFront}
 use Rattle.word_lists.specs.Lines.{entries_missing, holds_entry, signed_line, signed_lines}

@@ -2,7 +2,7 @@
 use Rattle.std.proofs.Common.{◌≡◌, ◌<◌, suc, ℕ, List, [], ◌∷◌, ◌++◌, Bool, true, cond, Option, refl, sym, ap, subst, ◌∙◌, append_assoc, append-nil, length, take, drop, get_or, ◌-◌, length-drop, arith, length-append}
 use Rattle.std.proofs.lemmas.List.{take_all}
 use Rattle.std.specs.Io.KnownBytes.{Appends}
-use Rattle.cedar_tree.specs.Queries.{Entry}
+use Rattle.cedarwood.specs.Queries.{Entry}
 use Rattle.text_lines.specs.Written.{WritesFront}
 use Rattle.hex.specs.Hex.{encode_lower}
 use Rattle.word_lists.specs.Lines.{byte_text, entry_line, entry_lines, escape, is_plain, word_text}

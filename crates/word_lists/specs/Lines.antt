@@ -4,8 +4,8 @@ use Rattle.std.specs.Ordering.{int_eq}
 use Rattle.std.specs.Str.{is_utf8}
 use Rattle.std.specs.Fmt.{signed_decimal}
 use Rattle.hex.specs.Hex.{encode_lower}
-use Rattle.cedar_tree.specs.Queries.{Entry}
-use Rattle.cedar_tree.specs.Tree.{Tree, number_at}
+use Rattle.cedarwood.specs.Queries.{Entry}
+use Rattle.cedarwood.specs.Tree.{Tree, number_at}
 
 -- whether a byte of a word is written as it is: no tab, no byte 10, no backslash, and below 128 where the word isn't UTF-8
 abbrev pub is_plain : Bool → ℕ → Bool

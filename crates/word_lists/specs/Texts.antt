@@ -1,7 +1,7 @@
 -- Texts by the words of a dictionary: the words that one begins with, the words that are in it, and its cuts.
 use Rattle.std.specs.Prelude.{ℕ, ℤ, ◌+◌, ◌-◌, ◌^◌, ◌<◌, ltb, nat_le, Bool, ◌==◌, ◌&&◌, ◌||◌, not, if◌then◌else◌, Option, Some, None, List, [], ◌∷◌, ◌++◌, map, length, take, drop, get_or, is_some, decimal, codes, int_le, pos, unsigned_abs}
-use Rattle.cedar_tree.specs.Queries.{Entry, front}
-use Rattle.cedar_tree.specs.Tree.{Tree}
+use Rattle.cedarwood.specs.Queries.{Entry, front}
+use Rattle.cedarwood.specs.Tree.{Tree}
 use Rattle.cedar_words.specs.Words.{IsAheadCapped, IsCheapestBy, IsCut, IsLeastCapped, Spot, Token, character_price, keywords_in, segments, spots_from}
 use Rattle.std.specs.Borrow.{Bor}
 use Rattle.word_lists.specs.declared.cut.Style.{Style}

@@ -1,5 +1,5 @@
 -- The words of clauses, from one place.
-pub use Rattle.cedar_tree.specs.Tree.{number_at}
+pub use Rattle.cedarwood.specs.Tree.{number_at}
 pub use Rattle.cedar_words.specs.Words.{keywords_in, segments, Spot, spots_from, Token}
 pub use Rattle.cedarwood.specs.Words.{after_put, all_stored, entries_of, fault, IsLimit, new_state, State}
 pub use Rattle.cedarwood.specs.WatchedDevice.{has_failed}

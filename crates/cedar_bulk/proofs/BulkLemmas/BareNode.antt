@@ -1,8 +1,8 @@
 -- A node with neither number nor label, in the tree and in its slots.
 use Rattle.std.proofs.Common.{◌≡◌, ℕ, ◌∙◌, sym, ap, subst, refl, Option, None, List, [], ◌∷◌}
 use Rattle.std.specs.Prelude.{ℤ, pos}
-use Rattle.cedar_tree.specs.Tree.{child, empty_tree, Forest, none, Tree}
-use Rattle.cedar_tree.specs.Queries.{node_at}
+use Rattle.cedar_model.specs.Tree.{child, empty_tree, Forest, none, Tree}
+use Rattle.cedar_model.specs.Queries.{node_at}
 use Rattle.cedar_model.specs.declared.layout.Stored.TheVariants.{AtBase}
 use Rattle.cedar_model.specs.Table.Cells.{Cells}
 use Rattle.cedar_model.specs.Edit.NodeEdits.{IsAt}

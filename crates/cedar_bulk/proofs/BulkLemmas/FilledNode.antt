@@ -3,9 +3,9 @@ use Rattle.std.proofs.Common.{◌≡◌, ℕ, ◌<◌, ◌≤◌, ◌⊎◌, ◌
 use Rattle.std.specs.Prelude.{◌%◌, ℤ, pos, bit_xor}
 use Rattle.std.specs.Int.Bits.{xor_self}
 use lib.Bits.{xor_assoc, xor_zero_r}
-use Rattle.cedar_tree.specs.Tree.{empty_tree, Forest, IsAscending, none, Tree}
-use Rattle.cedar_tree.specs.Queries.{node_at}
-use Rattle.cedar_tree.specs.Edits.{edit_at}
+use Rattle.cedar_model.specs.Tree.{empty_tree, Forest, IsAscending, none, Tree}
+use Rattle.cedar_model.specs.Queries.{node_at}
+use Rattle.cedar_model.specs.Edits.{edit_at}
 use Rattle.cedar_model.specs.declared.layout.Stored.TheVariants.{AtBase, OwnNumber}
 use Rattle.cedar_model.specs.Table.Cells.{Cells, HasPlaces, Held, SameHeld, Takes}
 use Rattle.cedar_model.specs.Edit.NodeEdits.{Above, IsAt, SetsNumber}

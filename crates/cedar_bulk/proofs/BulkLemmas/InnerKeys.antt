@@ -3,11 +3,11 @@ use Rattle.std.proofs.Common.{◌≡◌, ◌⊎◌, ℕ, ◌∙◌, ◌==◌, co
 use Rattle.std.specs.Prelude.{ℤ, is_some}
 use Rattle.std.proofs.lemmas.Bool.{cases_Bool, false≢true}
 use Rattle.std.proofs.lemmas.Bool.Decides.{eqb_tells}
-use Rattle.cedar_tree.specs.Tree.{child, empty_tree, Forest, has_label, none, number_at, replace, subtree, Tree}
-use Rattle.cedar_tree.specs.Queries.{node_at}
-use Rattle.cedar_tree.specs.Edits.{edit_at, number_on}
-use Rattle.cedar_tree.proofs.EntryLemmas.Steps.{changed, edit_is_replace}
-use Rattle.cedar_tree.proofs.TreeLemmas.{has_label-replace, number_at-empty, subtree-replace_other, subtree-replace_same, subtree_absent}
+use Rattle.cedar_model.specs.Tree.{child, empty_tree, Forest, has_label, none, number_at, replace, subtree, Tree}
+use Rattle.cedar_model.specs.Queries.{node_at}
+use Rattle.cedar_model.specs.Edits.{edit_at, number_on}
+use Rattle.cedar_model.proofs.EntryLemmas.Steps.{changed, edit_is_replace}
+use Rattle.cedar_model.proofs.TreeLemmas.{has_label-replace, number_at-empty, subtree-replace_other, subtree-replace_same, subtree_absent}
 use Rattle.cedar_model.specs.declared.layout.Stored.TheVariants.{AtBase, OwnNumber}
 use Rattle.cedar_model.specs.Table.Cells.{Cells}
 use Rattle.cedar_model.specs.Table.Layouts.{LayoutKind, reduced_layout}
@@ -16,7 +16,7 @@ use Rattle.cedar_model.specs.Edit.Steps.{root_of}
 use Rattle.cedar_bulk.specs.Sorted.{Fills, leaves}
 use Rattle.cedar_bulk.specs.SortedMarks.{KeepsLast, KeepsOwn}
 use Rattle.cedar_model.proofs.EditLemmas.AtPath.{held_node}
-use Rattle.cedar_tree.proofs.OrderLemmas.{number_of_node}
+use Rattle.cedar_model.proofs.OrderLemmas.{number_of_node}
 
 -- ---- a node that was bare gets a number and leaves
 

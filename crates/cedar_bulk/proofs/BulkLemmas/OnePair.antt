@@ -3,8 +3,8 @@ use Rattle.std.proofs.Common.{◌≡◌, ℕ, suc, ◌<◌, ◌≤◌, ◌∙◌
 use Rattle.std.proofs.lemmas.List.{take_all}
 use Rattle.std.specs.Prelude.{nat_lt, is_some, bit_xor, ℤ}
 use Rattle.std.proofs.lemmas.Bool.Decides.{nat_tests}
-use Rattle.cedar_tree.specs.Tree.{Forest, none, child, Tree, IsSoundBelow}
-use Rattle.cedar_tree.specs.Queries.{Entry, walk, walk_forest}
+use Rattle.cedar_model.specs.Tree.{Forest, none, child, Tree, IsSoundBelow}
+use Rattle.cedar_model.specs.Queries.{Entry, walk, walk_forest}
 use Rattle.cedar_model.specs.Meaning.StandsFor.{labels}
 use Rattle.cedar_bulk.specs.Sorted.{entries_by, label_of, run}
 use Rattle.cedar_bulk.specs.Spans.{Covers, first_label, GoesOnAlike, IsAlike, IsTreeOfSpan, Lists, Part, entries_behind}

@@ -3,9 +3,9 @@ use Rattle.std.proofs.Common.{◌≡◌, ℕ, ◌+◌, ◌-◌, ◌*◌, ◌<◌
 use Rattle.std.specs.Prelude.{ℤ, nat_lt, IfSome}
 use Rattle.std.proofs.lemmas.Bool.{cases_lt, cond-true}
 use Rattle.std.proofs.lemmas.Bool.Decides.{nat_tests}
-use Rattle.cedar_tree.specs.Tree.{AllNumbers, child, Forest, IsAscending, IsSoundBelow, none, Tree}
-use Rattle.cedar_tree.specs.Edits.{edit_at}
-use Rattle.cedar_tree.specs.Queries.{Entry}
+use Rattle.cedar_model.specs.Tree.{AllNumbers, child, Forest, IsAscending, IsSoundBelow, none, Tree}
+use Rattle.cedar_model.specs.Edits.{edit_at}
+use Rattle.cedar_model.specs.Queries.{Entry}
 use Rattle.cedar_model.specs.Edit.NodeEdits.{IsAt}
 use Rattle.cedar_model.specs.Edit.Steps.{MakesBlocks}
 use Rattle.cedar_model.specs.Meaning.Family.{Among, base_of, below}

@@ -5,8 +5,8 @@ use Rattle.std.specs.Prelude.{ℤ, nat_lt, is_some, bit_xor}
 use mir.Val.{bool_byte}
 use Rattle.std.proofs.lemmas.Bool.{or_parts, true≢false}
 use Rattle.std.proofs.lemmas.Bool.Decides.{eqb_tells, nat_tests}
-use Rattle.cedar_tree.specs.Tree.{AllAbove, Forest, none, child, Tree, has_label, is_bare, IsAscending, IsSoundBelow}
-use Rattle.cedar_tree.specs.Queries.{Entry, own_entry, under, walk, walk_forest}
+use Rattle.cedar_model.specs.Tree.{AllAbove, Forest, none, child, Tree, has_label, is_bare, IsAscending, IsSoundBelow}
+use Rattle.cedar_model.specs.Queries.{Entry, own_entry, under, walk, walk_forest}
 use Rattle.cedar_model.specs.Meaning.StandsFor.{labels}
 use Rattle.cedar_bulk.specs.Sorted.{entries_by, label_of, run, slot_labels}
 use Rattle.cedar_bulk.specs.Spans.{Covers, first_label, first_number, IsDeeper, IsTreeOfSpan, Lists, Part, entries_behind}

@@ -3,7 +3,7 @@ use Rattle.std.proofs.Common.{◌≡◌, ◌≢◌, ℕ, ◌+◌, ◌<◌, List,
 use Rattle.std.specs.Prelude.{bit_xor, IfSome, negsuc, pos}
 use Rattle.std.specs.List.{count_by, range_with_len}
 use Rattle.std.proofs.lemmas.Bool.Decides.{Decides-int_eq}
-use Rattle.cedar_tree.specs.Tree.{AllNumbers, Forest, IsAscending, is_bare, IsSoundBelow, none, child}
+use Rattle.cedar_model.specs.Tree.{AllNumbers, Forest, IsAscending, is_bare, IsSoundBelow, none, child}
 use Rattle.cedar_file.specs.declared.check.tree.Walk.{Walk}
 use Rattle.cedar_model.specs.Table.Cells.{Cells, is_held}
 use Rattle.cedar_file.specs.TreeWalk.{ComesBack, LooksLikeRoot, walk_start}

@@ -3,7 +3,7 @@
 use Rattle.std.proofs.Common.{◌≡◌, ℕ, ◌⊎◌, List, [], ◌∷◌, sym, ◌∙◌, ap, refl, subst, inl, inr, arith, true, false, cond, Option, Some, None, ℤ}
 use Rattle.std.specs.Prelude.{bit_xor, IfSome, pos}
 use Rattle.std.proofs.lemmas.Bool.{cases_Bool, false≢true}
-use Rattle.cedar_tree.specs.Tree.{Forest, none, child, is_bare}
+use Rattle.cedar_model.specs.Tree.{Forest, none, child, is_bare}
 use Rattle.cedar_model.specs.declared.layout.Stored.{Stored}
 use Rattle.cedar_model.specs.declared.layout.Stored.TheVariants.{AtBase, OwnNumber, Nothing}
 use Rattle.cedar_model.specs.Table.Cells.{Cells}

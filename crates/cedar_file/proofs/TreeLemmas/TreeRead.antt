@@ -3,8 +3,8 @@ use Rattle.std.proofs.Common.{◌≡◌, ℕ, zero, suc, ◌+◌, ◌<◌, ◌�
 use Rattle.std.specs.Prelude.{pos}
 use Rattle.std.proofs.lemmas.Bool.{cases_eq}
 use Rattle.std.proofs.lemmas.List.{length-map}
-use Rattle.cedar_tree.specs.Tree.{AllAbove, Forest, none, child}
-use Rattle.cedar_tree.specs.Queries.{own_entry, under, walk_forest}
+use Rattle.cedar_model.specs.Tree.{AllAbove, Forest, none, child}
+use Rattle.cedar_model.specs.Queries.{own_entry, under, walk_forest}
 use Rattle.cedar_model.specs.Table.Cells.{Cells}
 use Rattle.cedar_file.specs.TreeWalk.{ComesBack, GoesDown, LooksLikeNode, number_count_at, slots_at, walk_at, walk_start}
 use Rattle.cedar_model.specs.Meaning.Family.{base_of, below, Links}
@@ -12,7 +12,7 @@ use Rattle.cedar_model.specs.Meaning.StandsFor.{labels}
 use Rattle.cedar_model.specs.Meaning.Reading.{first_in, has_number_slot, number_in}
 use Rattle.cedar_model.specs.Meaning.WellFormed.{number_slots, slots_below}
 use Rattle.cedar_model.proofs.MeaningLemmas.ExclusiveOr.{pos_injective, xor_back}
-use Rattle.cedar_tree.proofs.OrderLemmas.{all_above_more}
+use Rattle.cedar_model.proofs.OrderLemmas.{all_above_more}
 
 -- ---- what a node adds to the counts
 

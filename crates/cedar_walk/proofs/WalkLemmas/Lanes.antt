@@ -5,8 +5,8 @@ use Rattle.std.proofs.Math.ListN.{get_or-map as map_at, length-set, replicate}
 use Rattle.std.proofs.lemmas.List.{drop_all, ext_get_or, get_or-map, get_or-replicate, length-map, get_or-set_other, get_or-set_same}
 use Rattle.std.proofs.lemmas.Bool.{cases_lt}
 use Rattle.std.specs.Borrow.{Bor}
-use Rattle.cedar_tree.specs.Tree.{Tree, has_label, subtree, number_at}
-use Rattle.cedar_tree.specs.Queries.{exact}
+use Rattle.cedar_model.specs.Tree.{Tree, has_label, subtree, number_at}
+use Rattle.cedar_model.specs.Queries.{exact}
 use Rattle.cedar_model.specs.Meaning.StandsFor.{Stands}
 use Rattle.cedar_model.specs.Meaning.WellFormed.{cells_in, IsWellFormed, tree_of}
 use Rattle.cedar_model.specs.Table.TableFields.{Fields, size_of}

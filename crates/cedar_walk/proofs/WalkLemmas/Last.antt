@@ -3,9 +3,9 @@ use Rattle.std.proofs.Common.{◌≡◌, ℕ, suc, ◌+◌, ◌-◌, ◌<◌, �
 use Rattle.std.specs.Prelude.{pos, unsigned_abs}
 use Rattle.std.proofs.lemmas.List.{length-append}
 use Rattle.std.proofs.lemmas.List.Elements.{filter_map-append}
-use Rattle.cedar_tree.specs.Tree.{has_label}
-use Rattle.cedar_tree.specs.Queries.{Entry, node_at, walk}
-use Rattle.cedar_tree.specs.Walks.{behind, node_up, Visit, visit_from, visited_entries, visits_below}
+use Rattle.cedar_model.specs.Tree.{has_label}
+use Rattle.cedar_model.specs.Queries.{Entry, node_at, walk}
+use Rattle.cedar_model.specs.Walks.{behind, node_up, Visit, visit_from, visited_entries, visits_below}
 use Rattle.cedar_model.specs.Meaning.Family.{below}
 use Rattle.cedar_model.specs.Edit.NodeEdits.{IsAt}
 use Rattle.cedar_model.specs.Table.TableFields.{Fields}

@@ -3,11 +3,11 @@ use Rattle.std.proofs.Common.{◌≡◌, ℕ, zero, suc, ◌+◌, ◌-◌, ◌<�
 use Rattle.std.specs.Prelude.{pos, unsigned_abs, cond}
 use Rattle.std.proofs.lemmas.List.{length-append, take-take, take_all, take_at}
 use Rattle.std.proofs.lemmas.Bool.Decides.{eqb_tells}
-use Rattle.cedar_tree.specs.Tree.{Forest, none, child, Tree, has_label, subtree, IsSoundBelow}
-use Rattle.cedar_tree.specs.Queries.{node_at}
-use Rattle.cedar_tree.specs.Walks.{behind, forwards, node_up, visits_after, visits_left}
-use Rattle.cedar_tree.proofs.OrderLemmas.{sound_node_at}
-use Rattle.cedar_tree.proofs.VisitLemmas.{goes_down, goes_past_leaf, goes_right, goes_up, has_behind, has_here, next_behind, node_up_is, subtree_here}
+use Rattle.cedar_model.specs.Tree.{Forest, none, child, Tree, has_label, subtree, IsSoundBelow}
+use Rattle.cedar_model.specs.Queries.{node_at}
+use Rattle.cedar_model.specs.Walks.{behind, forwards, node_up, visits_after, visits_left}
+use Rattle.cedar_model.proofs.OrderLemmas.{sound_node_at}
+use Rattle.cedar_model.proofs.VisitLemmas.{goes_down, goes_past_leaf, goes_right, goes_up, has_behind, has_here, next_behind, node_up_is, subtree_here}
 use Rattle.cedar_walk.specs.declared.visits.Visited.{Visited}
 use Rattle.cedar_model.specs.Table.Cells.{Cells}
 use Rattle.cedar_model.specs.Meaning.Family.{Among, base_of, below, Begins, Head, Links, own, plain, top, valued}
@@ -23,7 +23,7 @@ use Rattle.cedar_model.proofs.EditLemmas.LeafAtPlace.{below_root, ends}
 use Rattle.cedar_model.proofs.MeaningLemmas.ReadBack.{path_short}
 use Rattle.cedar_model.proofs.MeaningLemmas.ExclusiveOr.{pos_injective, xor_back}
 use Rattle.cedar_model.proofs.MeaningLemmas.TreeOf.{in_use}
-use Rattle.cedar_tree.proofs.GeneralLemmas.{positive}
+use Rattle.cedar_model.proofs.GeneralLemmas.{positive}
 
 -- ---- chains
 

@@ -4,13 +4,13 @@ use Rattle.std.specs.Prelude.{pos, bit_xor, is_none, ◌&&◌}
 use lib.Bits.{xor_zero_r}
 use Rattle.std.proofs.lemmas.Bool.{true≢false}
 use Rattle.std.proofs.lemmas.List.{append-nil, length-append}
-use Rattle.cedar_tree.specs.Tree.{Forest, none, child, Tree, has_label, is_bare, is_leafless, subtree}
-use Rattle.cedar_tree.specs.Queries.{node_at, walk}
-use Rattle.cedar_tree.specs.Walks.{visited_entries, forwards}
-use Rattle.cedar_tree.proofs.CutLemmas.{node_at-end}
-use Rattle.cedar_tree.proofs.OrderLemmas.{sound_node_at}
-use Rattle.cedar_tree.proofs.TreeLemmas.{bare-subtree}
-use Rattle.cedar_tree.proofs.VisitLemmas.{walk_visits}
+use Rattle.cedar_model.specs.Tree.{Forest, none, child, Tree, has_label, is_bare, is_leafless, subtree}
+use Rattle.cedar_model.specs.Queries.{node_at, walk}
+use Rattle.cedar_model.specs.Walks.{visited_entries, forwards}
+use Rattle.cedar_model.proofs.CutLemmas.{node_at-end}
+use Rattle.cedar_model.proofs.OrderLemmas.{sound_node_at}
+use Rattle.cedar_model.proofs.TreeLemmas.{bare-subtree}
+use Rattle.cedar_model.proofs.VisitLemmas.{walk_visits}
 use Rattle.cedar_walk.specs.declared.visits.Numbered.{Numbered}
 use Rattle.cedar_walk.specs.declared.visits.Place.{Place}
 use Rattle.cedar_model.specs.declared.layout.Stored.TheVariants.{AtBase, OwnNumber}

@@ -4,12 +4,12 @@ use Rattle.std.specs.Prelude.{pos, unsigned_abs}
 use Rattle.std.proofs.lemmas.Bool.{eqb-false, eqb-true, true≢false}
 use Rattle.std.proofs.lemmas.Bool.Decides.{eqb_tells}
 use Rattle.std.proofs.lemmas.List.{drop_more, drop-set, length-append, length-set, length-take-le, take_all, take-append-drop, take-set, take-take}
-use Rattle.cedar_tree.specs.Edits.{HasPath}
-use Rattle.cedar_tree.specs.Tree.{Forest, none, child, Tree, has_label, IsSoundBelow, subtree}
-use Rattle.cedar_tree.specs.Queries.{node_at, walk}
-use Rattle.cedar_tree.specs.Walks.{behind, visited_entries, forwards, node_up, visits_left}
-use Rattle.cedar_tree.proofs.OrderLemmas.{sound_node_at}
-use Rattle.cedar_tree.proofs.VisitLemmas.{node_up_is}
+use Rattle.cedar_model.specs.Edits.{HasPath}
+use Rattle.cedar_model.specs.Tree.{Forest, none, child, Tree, has_label, IsSoundBelow, subtree}
+use Rattle.cedar_model.specs.Queries.{node_at, walk}
+use Rattle.cedar_model.specs.Walks.{behind, visited_entries, forwards, node_up, visits_left}
+use Rattle.cedar_model.proofs.OrderLemmas.{sound_node_at}
+use Rattle.cedar_model.proofs.VisitLemmas.{node_up_is}
 use Rattle.cedar_model.specs.Meaning.Family.{Among, base_of, below}
 use Rattle.cedar_model.specs.Meaning.StandsFor.{labels}
 use Rattle.cedar_model.specs.Edit.NodeEdits.{IsAt}
@@ -29,7 +29,7 @@ use Rattle.cedar_walk.specs.RangePlaces.{AboveFrom, BeginsAt, IsReached, left_ab
 use Rattle.cedar_walk.proofs.WalkLemmas.NextNode.{child_is_at, child_owned, last_of, next_label, node_stands, parent_below, up_of, way_one_more}
 use Rattle.cedar_walk.proofs.WalkLemmas.NextNumber.{last_label, number_there}
 use Rattle.cedar_walk.proofs.WalkLemmas.Since.{above_first, above_label, above_none, above_on, ascending_at, at_up, since_missing, since_node, since_none}
-use Rattle.cedar_tree.proofs.EntryLemmas.Keys.{label_bounds}
+use Rattle.cedar_model.proofs.EntryLemmas.Keys.{label_bounds}
 
 -- ---- labels
 

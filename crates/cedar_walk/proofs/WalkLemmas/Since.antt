@@ -7,18 +7,18 @@ use Rattle.std.proofs.lemmas.Bool.{ltb-true, ltb-false, ne_eqb}
 use Rattle.std.proofs.lemmas.Bool.Decides.{eqb_tells}
 use Rattle.std.proofs.lemmas.List.{append-nil, map-append}
 use Rattle.std.proofs.lemmas.List.Elements.{filter-append, filter_map-append}
-use Rattle.cedar_tree.specs.Tree.{Forest, none, child, Tree, has_label, subtree, IsAscending, IsSoundBelow, AllAbove}
-use Rattle.cedar_tree.specs.Edits.{HasPath}
-use Rattle.cedar_tree.specs.Queries.{Entry, own_entry, under, walk_forest, walk, node_at}
-use Rattle.cedar_tree.specs.Walks.{Visit, behind, visited_entries, forwards, node_up, visit_from, visits_after, visits_below, visits_left}
-use Rattle.cedar_tree.proofs.OrderLemmas.{ascending_subtree, all_above_more}
-use Rattle.cedar_tree.proofs.PredictLemmas.{map-after}
-use Rattle.cedar_tree.proofs.VisitLemmas.{goes_down, goes_right, has_behind, has_here, next_behind, node_up_is, subtree_here, walk_visits, behind_here, entries_below, visits_from_none}
-use Rattle.cedar_tree.proofs.WalkLemmas.{filter-map, filter-none, ltb-from_lt, nat_lt_itself}
+use Rattle.cedar_model.specs.Tree.{Forest, none, child, Tree, has_label, subtree, IsAscending, IsSoundBelow, AllAbove}
+use Rattle.cedar_model.specs.Edits.{HasPath}
+use Rattle.cedar_model.specs.Queries.{Entry, own_entry, under, walk_forest, walk, node_at}
+use Rattle.cedar_model.specs.Walks.{Visit, behind, visited_entries, forwards, node_up, visit_from, visits_after, visits_below, visits_left}
+use Rattle.cedar_model.proofs.OrderLemmas.{ascending_subtree, all_above_more}
+use Rattle.cedar_model.proofs.PredictLemmas.{map-after}
+use Rattle.cedar_model.proofs.VisitLemmas.{goes_down, goes_right, has_behind, has_here, next_behind, node_up_is, subtree_here, walk_visits, behind_here, entries_below, visits_from_none}
+use Rattle.cedar_model.proofs.WalkLemmas.{filter-map, filter-none, ltb-from_lt, nat_lt_itself}
 use Rattle.cedar_walk.specs.Visits.{first_sibling_label}
 use Rattle.cedar_walk.specs.RangePlaces.{AboveFrom, AreLast}
 use Rattle.cedar_walk.specs.Ranges.{behind_path, entries_since, siblings_above}
-use Rattle.cedar_tree.proofs.GeneralLemmas.{filter-same}
+use Rattle.cedar_model.proofs.GeneralLemmas.{filter-same}
 
 abbrev since : List ℕ → Entry → Bool
 since q e = is_ge (slice_cmp nat_cmp e.0 q)

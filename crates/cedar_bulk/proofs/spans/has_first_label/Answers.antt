@@ -2,7 +2,7 @@ use Rattle.std.proofs.Common.{◌≡◌, ◌<◌, ◌∙◌, ℕ, List, arith, a
 use Rattle.std.specs.Prelude.{IsTrue, nat_eq, ℤ}
 use Rattle.std.proofs.lemmas.Bool.Decides.{nat_tests}
 use Rattle.std.proofs.lemmas.List.{get_or-map}
-use Rattle.cedar_tree.specs.Queries.{Entry}
+use Rattle.cedar_model.specs.Queries.{Entry}
 use Rattle.cedar_bulk.specs.Sorted.{entries_by, label_of}
 use Rattle.cedar_bulk.proofs.BulkLemmas.Runs.{run_inside, run_tells}
 use Rattle.cedar_bulk.proofs.BulkLemmas.Spans.{as_many}

@@ -1,6 +1,6 @@
 use Rattle.std.proofs.Common.{◌≡◌, ◌<◌, true, [], ◌∙◌, ap, inl, inr, length, subst, sym}
-use Rattle.cedar_model.specs.Meaning.WellFormed.{tree_of}
-use Rattle.cedar_tree.specs.Queries.{node_at, walk}
+use Rattle.cedarwood.specs.WellFormed.{tree_of}
+use Rattle.cedarwood.specs.Queries.{node_at, walk}
 use Rattle.cedar_walk.specs.Ranges.{entries_with}
 use Rattle.cedar_walk.proofs.WalkLemmas.Prefixed.{entries_with_node}
 use Rattle.cedar_walk.proofs.WalkLemmas.Ranges.{empty_key, some_key}

@@ -2,8 +2,8 @@ use Rattle.std.proofs.Common.{rules, ◌≡◌, ◌<◌, ◌≤◌, ◌+◌, ◌
 use mir.Val.{of_z, to_z}
 use Rattle.std.specs.List.{starts_with}
 use Rattle.std.proofs.lemmas.Int.{to_z-of_z}
-use Rattle.cedar_tree.specs.Queries.{Entry}
-use Rattle.cedar_tree.specs.Walks.{visited_entries}
+use Rattle.cedarwood.specs.Queries.{Entry}
+use Rattle.cedarwood.specs.Words.{visited_entries}
 use Rattle.cedar_walk.specs.Ranges.{behind_path}
 use Rattle.cedar_walk.specs.Visits.{left_at, path_to}
 use Rattle.cedarwood.specs.RangeWalks.{entries_left, IsRangePlace}

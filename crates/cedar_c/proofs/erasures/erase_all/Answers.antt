@@ -1,6 +1,6 @@
 use Rattle.std.proofs.Common.{◌≡◌, ◌∙◌, ◌≤◌, List, [], ℕ, ap, arith, length, take}
-use Rattle.cedar_tree.specs.Queries.{walk}
-use Rattle.cedar_tree.specs.State.{State}
+use Rattle.cedarwood.specs.Queries.{walk}
+use Rattle.cedarwood.specs.State.{State}
 use Rattle.cedarwood.specs.Batches.{keys_erased}
 use Rattle.cedar_c.specs.Pairs.{named_keys}
 use Rattle.cedar_c.specs.declared.erasures.Key.{Key}

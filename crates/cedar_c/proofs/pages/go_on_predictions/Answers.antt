@@ -1,7 +1,6 @@
 use Rattle.std.proofs.Common.{rules, ◌<◌, ◌^◌, ◌∙◌, ap, sym, subst, drop, length, arith}
 use Rattle.std.proofs.lemmas.List.{drop-map}
-use Rattle.cedarwood.specs.Queries.{predict, walk}
-use Rattle.cedar_tree.specs.Queries.{prefixes}
+use Rattle.cedarwood.specs.Queries.{predict, walk, prefixes}
 use Rattle.cedar_c.specs.Matches.{Fit, filled_matches, all_longer, longer}
 use Rattle.cedar_c.proofs.LengthLemmas.{predicted_fit, predicted_whole, prefixes_are_few}
 use Rattle.cedar_c.proofs.MatchLemmas.{predictions_fit}

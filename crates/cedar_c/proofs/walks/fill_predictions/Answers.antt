@@ -1,6 +1,5 @@
 use Rattle.std.proofs.Common.{rules, ◌<◌, ◌^◌, ◌∙◌, ap, sym, subst, length, arith}
-use Rattle.cedarwood.specs.Queries.{walk}
-use Rattle.cedar_tree.specs.Queries.{prefixes}
+use Rattle.cedarwood.specs.Queries.{walk, prefixes}
 use Rattle.cedar_c.specs.Matches.{Fit, filled_matches, all_longer}
 use Rattle.cedar_c.proofs.LengthLemmas.{predicted_fit, predicted_whole, prefixes_are_few}
 use Rattle.cedar_c.proofs.MatchLemmas.{predictions_fit}

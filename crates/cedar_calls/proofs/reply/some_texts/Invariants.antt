@@ -1,6 +1,6 @@
 use Rattle.std.proofs.Common.{◌+◌, ◌≤◌, ◌++◌, List, Option, ℕ, ℤ, length, map, option_map, vec_len, string_bytes}
 use Rattle.std.specs.Vec.{vec_capacity}
-use Rattle.cedar_tree.specs.Queries.{walk}
+use Rattle.cedarwood.specs.Queries.{walk}
 use Rattle.cedar_calls.specs.Replies.{AreTexts}
 use Rattle.cedar_calls.proofs.reply.some_texts.Given as goal
 

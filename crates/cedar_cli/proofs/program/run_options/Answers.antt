@@ -7,7 +7,7 @@ use Rattle.cedar_cli.specs.Statuses.{EndsBy}
 use Rattle.cedar_cli.specs.View.{view_of}
 use Rattle.cedar_cli.proofs.Begun.{begins_empty}
 use Rattle.cedar_cli.proofs.Runs.{none_front}
-use Rattle.cedar_tree.proofs.GeneralLemmas.{on_ok}
+use Rattle.cedarwood.proofs.GeneralLemmas.{on_ok}
 use Rattle.cedar_cli.proofs.program.run_options.Goals as goal
 
 pub returns-then-not-fits-clause-begun : goal.returns-then-not-fits-clause-begun

@@ -10,7 +10,7 @@ use Rattle.cedar_cli.proofs.Bytes.{line_done, line_left, may_stop, not_begun, th
 use Rattle.cedar_cli.proofs.Runs.{short_line}
 use Rattle.cedar_cli.proofs.Newlines.{long_line_stop, open_append, taken_on_ok, stopped_on_err}
 use Rattle.cedar_cli.proofs.Faults.{fault_on, memory_fault, memory_no_limit, no_success}
-use Rattle.cedar_tree.proofs.GeneralLemmas.{on_ok}
+use Rattle.cedarwood.proofs.GeneralLemmas.{on_ok}
 use Rattle.cedar_cli.proofs.script.end_line.Goals as goal
 
 pub returns-then-is_empty : goal.returns-then-is_empty

@@ -1,7 +1,7 @@
 use Rattle.std.proofs.Common.{arith, length, sym, Some, ap, subst, ◌∙◌, ◌++◌, ◌∷◌, [], ◌≡◌, None, ℤ, to_z, of_z, w32, Err}
 use Rattle.std.proofs.lemmas.Int.{to_z-of_z}
 use Rattle.std.specs.Prelude.{Result}
-use Rattle.cedar_tree.specs.State.{after_put}
+use Rattle.cedarwood.specs.State.{after_put}
 use Rattle.cedarwood.specs.declared.error.CedarError.{CedarError}
 use Rattle.cedarwood.specs.declared.error.CedarError.TheVariants.{Memory, SlotLimit}
 use Rattle.cedarwood.specs.Fault.{fault, IsShortage}

@@ -1,6 +1,6 @@
 use Rattle.std.proofs.Common.{rules, ap, ◌≡◌, ℤ, to_z, of_z, w32, FitsSigned, ◌∙◌}
 use Rattle.std.proofs.lemmas.Int.{to_z-of_z}
-use Rattle.cedar_tree.specs.State.{after_put}
+use Rattle.cedarwood.specs.State.{after_put}
 use Rattle.cedar_cli.proofs.BlockCounts.{same_blocks}
 use Rattle.cedar_cli.proofs.Orders.{put_back}
 use Rattle.cedar_cli.proofs.verbs.take_back.Goals as goal

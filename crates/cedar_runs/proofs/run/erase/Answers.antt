@@ -1,5 +1,5 @@
 use Rattle.std.proofs.Common.{subst, sym}
-use Rattle.cedar_tree.specs.State.{after_erase}
+use Rattle.cedar_store.specs.State.{after_erase}
 use Rattle.cedar_runs.specs.Steps.{IsCallStep, point_of}
 use Rattle.cedar_runs.proofs.StepLemmas.{change_left, erasure_step, error_step}
 use Rattle.cedar_runs.proofs.run.erase.Goals as goal

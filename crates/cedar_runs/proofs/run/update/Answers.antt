@@ -2,7 +2,7 @@ use Rattle.std.specs.Prelude.{FitsSigned}
 use Rattle.std.proofs.Common.{◌∙◌, ap, rules, subst, sym}
 use Rattle.std.proofs.lemmas.Int.{to_z-of_z}
 use mir.Syntax.{w32}
-use Rattle.cedar_tree.specs.State.{after_put}
+use Rattle.cedar_store.specs.State.{after_put}
 use Rattle.cedar_store.specs.Promises.{CrashLeavesEither, LeavesStore}
 use Rattle.cedar_runs.specs.Steps.{IsCallStep, point_of}
 use Rattle.cedar_runs.proofs.StepLemmas.{change_left, error_step, made_step}

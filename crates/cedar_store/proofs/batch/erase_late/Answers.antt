@@ -1,5 +1,5 @@
 use Rattle.std.proofs.Common.{◌≡◌, ◌+◌, ◌∙◌, ap, cond, drop, sym, get_or}
-use Rattle.cedar_tree.specs.State.{after_erase}
+use Rattle.cedarwood.specs.State.{after_erase}
 use Rattle.cedar_store.specs.Batches.{change_at, late_erased}
 use Rattle.cedar_store.specs.Told.{change_told, changes_told}
 use Rattle.cedar_store.proofs.Withdrawn.{blank, told_at}

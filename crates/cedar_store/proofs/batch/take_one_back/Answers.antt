@@ -1,5 +1,5 @@
 use Rattle.std.proofs.Common.{◌≡◌, ◌∙◌, ap, subst, sym}
-use Rattle.cedar_tree.specs.State.{after_put}
+use Rattle.cedarwood.specs.State.{after_put}
 use Rattle.cedar_store.specs.Batches.{IsHeld, only_updated}
 use Rattle.cedar_store.specs.Told.{change_told}
 use Rattle.cedar_store.specs.Undo.{IsPutOf}

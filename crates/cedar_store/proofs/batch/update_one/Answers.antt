@@ -3,10 +3,10 @@ use Rattle.std.proofs.Common.{◌≡◌, ◌∙◌, ap, refl, rules, subst, sym}
 use Rattle.std.proofs.lemmas.Int.{to_z-of_z}
 use mir.Val.{of_z, to_z}
 use mir.Syntax.{w32}
-use Rattle.cedar_tree.specs.Tree.{number_at}
-use Rattle.cedar_tree.specs.State.{after_put}
-use Rattle.cedar_tree.proofs.EntryLemmas.Keys.{held_key}
-use Rattle.cedar_tree.proofs.TreeLemmas.{number_at-put_same}
+use Rattle.cedarwood.specs.Tree.{number_at}
+use Rattle.cedarwood.specs.State.{after_put}
+use Rattle.cedarwood.proofs.EntryLemmas.Keys.{held_key}
+use Rattle.cedarwood.proofs.TreeLemmas.{number_at-put_same}
 use Rattle.cedarwood.specs.Fault.{fault}
 use Rattle.cedar_store.specs.Batches.{HasKey, IsFaultless, IsHeld, only_updated}
 use Rattle.cedar_store.specs.Told.{change_told}

@@ -4,8 +4,8 @@ use Rattle.std.proofs.Common.{◌≡◌, ◌∙◌, [], ◌∷◌, ap, arith, le
 use Rattle.std.proofs.lemmas.Int.{to_z-of_z}
 use mir.Syntax.{w32}
 use Rattle.cedar_journal.specs.Image.{payloads_of}
-use Rattle.cedar_tree.specs.Queries.{Entry}
-use Rattle.cedar_tree.specs.State.{new_state}
+use Rattle.cedarwood.specs.Queries.{Entry}
+use Rattle.cedarwood.specs.State.{new_state}
 use Rattle.cedarwood.specs.Builds.{all_stored}
 use Rattle.cedarwood.specs.Fault.{fault}
 use Rattle.cedar_store.specs.Changes.{after_payloads, changes_of, put_at}

@@ -2,7 +2,7 @@ use Rattle.std.specs.Prelude.{option_map, None, Some}
 use Rattle.std.specs.List.{AllByRecursion}
 use Rattle.std.proofs.Common.{◌≡◌, ◌+◌, length}
 use Rattle.cedar_journal.specs.Image.{image_bytes, payloads_of}
-use Rattle.cedar_tree.specs.State.{new_state}
+use Rattle.cedarwood.specs.State.{new_state}
 use Rattle.cedarwood.specs.Builds.{all_stored}
 use Rattle.cedarwood.specs.Fault.{fault}
 use Rattle.cedar_store.specs.Changes.{after_payloads}

@@ -7,7 +7,7 @@ use Rattle.cedar_store.specs.Told.{change_told, changes_told}
 use Rattle.cedar_store.proofs.Payloads.{handed_on}
 use Rattle.cedar_store.proofs.Recorded.{AreRecorded, batch_recorded, longer_cause, longest, none_recorded, one_recorded}
 use Rattle.cedar_store.proofs.Withdrawn.{as_many, blank, told_at}
-use Rattle.cedar_tree.proofs.GeneralLemmas.{all_at}
+use Rattle.cedarwood.proofs.GeneralLemmas.{all_at}
 use Rattle.cedar_store.proofs.frames.batch_payload.Goals as goal
 
 pub loop-index-init : goal.loop-index-init

@@ -4,7 +4,7 @@ use Rattle.std.proofs.lemmas.Bool.{eqb-true}
 use Rattle.cedar_store.specs.Causes.{ReplayCause}
 use Rattle.cedar_store.specs.Changes.{after_change, put_of}
 use Rattle.cedar_store.proofs.Payloads.{of_nothing, of_erase, of_put, of_other, some_byte, rest_is}
-use Rattle.cedar_tree.specs.State.{after_erase}
+use Rattle.cedarwood.specs.State.{after_erase}
 use Rattle.cedar_store.proofs.replay.apply_one.Goals as goal
 
 pub returns-then-is_empty-clause-cause : goal.returns-then-is_empty-clause-cause

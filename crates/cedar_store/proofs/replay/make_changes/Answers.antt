@@ -2,7 +2,7 @@ use Rattle.std.specs.Prelude.{Some, OnOk, IfErr}
 use Rattle.std.proofs.Common.{◌≡◌, ◌-◌, ◌∙◌, length, take, drop, ap, sym, subst}
 use Rattle.cedar_journal.specs.Files.{HasExtent}
 use Rattle.cedar_journal.specs.Formats.{AreUndamaged, payloads_read, records_read}
-use Rattle.cedar_tree.specs.State.{new_state}
+use Rattle.cedarwood.specs.State.{new_state}
 use Rattle.cedar_store.specs.Causes.{ReplayCause}
 use Rattle.cedar_store.specs.Changes.{after_payloads}
 use Rattle.cedar_store.proofs.Payloads.{rest_is}

@@ -1,7 +1,7 @@
 use Rattle.std.proofs.Common.{◌<◌, ◌≤◌, arith, rules}
-use Rattle.cedar_tree.specs.Queries.{node_at}
-use Rattle.cedar_tree.specs.Tree.{Forest, IsSoundBelow}
-use Rattle.cedar_tree.proofs.OrderLemmas.{sound_node_at}
+use Rattle.cedar_model.specs.Queries.{node_at}
+use Rattle.cedar_model.specs.Tree.{Forest, IsSoundBelow}
+use Rattle.cedar_model.proofs.OrderLemmas.{sound_node_at}
 use Rattle.cedar_model.specs.Meaning.Family.{below}
 use Rattle.cedar_model.specs.Meaning.WellFormed.{tree_of}
 use Rattle.cedar_model.specs.Table.TableFields.{size_of}
@@ -10,7 +10,7 @@ use Rattle.cedar_table.specs.Table.Views.{cells, fields}
 use Rattle.cedar_walk.proofs.WalkLemmas.NextNode.{child_inside, node_inside, node_stands}
 use Rattle.cedar_walk.proofs.WalkLemmas.Ranges.{fewer_left, sibling_on}
 use Rattle.cedar_walk.proofs.WalkLemmas.Since.{above_label}
-use Rattle.cedar_tree.proofs.EntryLemmas.Keys.{label_bounds}
+use Rattle.cedar_model.proofs.EntryLemmas.Keys.{label_bounds}
 use Rattle.cedar_walk.proofs.ranges.child_above.Goals as goal
 
 pub slot_below-requires : goal.slot_below-requires

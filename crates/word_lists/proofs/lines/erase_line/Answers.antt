@@ -1,7 +1,7 @@
 use Rattle.std.proofs.Common.{rules, ◌≡◌, ◌∙◌, ap, sym, subst}
 use Rattle.std.specs.Prelude.{IsSome, IsTrue, ◌↔◌}
-use Rattle.cedar_tree.specs.State.{after_erase}
-use Rattle.cedar_tree.specs.Tree.{number_at}
+use Rattle.cedarwood.specs.State.{after_erase}
+use Rattle.cedarwood.specs.Tree.{number_at}
 use Rattle.word_lists.specs.Stored.{absent_of, word_of}
 use Rattle.word_lists.proofs.Figures.{filled_unless, unfilled_if}
 use Rattle.word_lists.proofs.Refusals.{absent_none, erased_none, erased_word, held_is, word_held}

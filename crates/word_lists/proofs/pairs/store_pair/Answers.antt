@@ -1,6 +1,6 @@
 use Rattle.std.proofs.Common.{rules, ◌≡◌, ◌∙◌, ℤ, subst, sym, FitsSigned, w32}
 use Rattle.std.proofs.lemmas.Int.{to_z-of_z}
-use Rattle.cedar_tree.specs.State.{after_put}
+use Rattle.cedarwood.specs.State.{after_put}
 use Rattle.word_lists.specs.Stored.{IsWant}
 use Rattle.word_lists.specs.declared.lines.StoreError.TheVariants.{SlotLimit}
 use Rattle.word_lists.proofs.Refusals.{slots_wanted, store_same, update_err, wants}

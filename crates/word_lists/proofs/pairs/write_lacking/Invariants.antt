@@ -1,7 +1,7 @@
 use Rattle.std.proofs.Common.{◌≡◌, ◌++◌, List, length}
 use Rattle.std.specs.Prelude.{ltb}
 use Rattle.std.specs.Io.KnownBytes.{Appends}
-use Rattle.cedar_tree.specs.Queries.{Entry}
+use Rattle.cedarwood.specs.Queries.{Entry}
 use Rattle.cedarwood.specs.WatchedDevice.{device_of, has_failed}
 use Rattle.word_lists.specs.Lines.{entries_missing, signed_lines}
 use Rattle.word_lists.proofs.pairs.write_lacking.Given as goal

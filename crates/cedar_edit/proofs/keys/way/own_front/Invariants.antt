@@ -1,5 +1,5 @@
 use Rattle.std.proofs.Common.{drop, take, ◌<◌}
-use Rattle.cedar_tree.specs.Tree.{IsPath}
+use Rattle.cedar_model.specs.Tree.{IsPath}
 use Rattle.cedar_model.specs.Edit.NodeEdits.{IsAt}
 use Rattle.cedar_model.specs.Edit.Own.{HasWay}
 use Rattle.cedar_table.specs.Table.Views.{cells, fields}

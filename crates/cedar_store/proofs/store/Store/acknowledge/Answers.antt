@@ -3,7 +3,7 @@ use Rattle.std.proofs.Common.{◌≡◌, false, true, ◌∙◌, ap, inl, inr, �
 use Rattle.std.proofs.lemmas.Bool.{false≢true}
 use Rattle.cedar_journal.specs.Frames.{payload_of}
 use Rattle.cedar_journal.proofs.Moments.{joins, weakens}
-use Rattle.cedar_tree.specs.State.{new_state}
+use Rattle.cedarwood.specs.State.{new_state}
 use Rattle.cedar_store.specs.Batches.{all_erased_late}
 use Rattle.cedar_store.specs.Changes.{after_payloads}
 use Rattle.cedar_store.specs.declared.error.DurableError.TheVariants as error

@@ -1,7 +1,7 @@
 use Rattle.std.specs.Prelude.{option_and_then, option_map}
 use Rattle.std.proofs.Common.{◌≡◌, [], ◌∷◌, false, length, ◌+◌, ◌∙◌, ap, rules}
 use Rattle.cedar_journal.specs.Frames.{payload_of}
-use Rattle.cedar_tree.specs.State.{after_erase}
+use Rattle.cedarwood.specs.State.{after_erase}
 use Rattle.cedar_store.specs.Changes.{after, all_changed, erase_at}
 use Rattle.cedar_store.proofs.Compacted.{recorded_in}
 use Rattle.cedar_store.proofs.Payloads.{handed_on}

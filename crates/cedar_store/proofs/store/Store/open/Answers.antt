@@ -1,7 +1,7 @@
 use Rattle.std.specs.Prelude.{option_and_then}
 use Rattle.std.proofs.Common.{◌∙◌, ap, refl}
 use Rattle.cedar_journal.specs.Files.{file_payloads}
-use Rattle.cedar_tree.specs.State.{new_state}
+use Rattle.cedarwood.specs.State.{new_state}
 use Rattle.cedar_store.specs.Changes.{after_payloads}
 use Rattle.cedar_store.proofs.Ordered.{is_ordered}
 use Rattle.cedar_store.proofs.States.{not_corrupt}

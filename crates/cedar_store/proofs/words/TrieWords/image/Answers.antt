@@ -2,8 +2,8 @@ use Rattle.std.specs.Prelude.{IfOk, None, Some}
 use Rattle.std.specs.List.{AllByRecursion}
 use Rattle.std.proofs.Common.{◌≡◌, ◌∙◌, ap, length, subst, sym}
 use Rattle.cedar_journal.specs.Image.{image_bytes, payloads_of}
-use Rattle.cedar_tree.specs.Queries.{Entry}
-use Rattle.cedar_tree.specs.State.{new_state}
+use Rattle.cedarwood.specs.Queries.{Entry}
+use Rattle.cedarwood.specs.State.{new_state}
 use Rattle.cedarwood.specs.Builds.{all_stored}
 use Rattle.cedarwood.specs.Fault.{fault}
 use Rattle.cedar_store.specs.Changes.{after_payloads}
