@@ -441,7 +441,7 @@ uint32_t cedar_save_file(const cedar_dictionary *d, bool is_full, const char *pa
  *
  * - The new file's name is that of the path with `.new` behind it, or with `.1.new` to `.99.new` if something has that name already. What
  *   has such a name stays as it is, and a link isn't followed. If all of them are taken, errno is EEXIST. Where the name would have more
- *   than 255 bytes, its first 247 stand before the suffix, or up to 3 fewer, so that no character of UTF-8 is cut.
+ *   than 255 bytes, its first 247 come before the suffix, or up to 3 fewer, so that no character of UTF-8 is cut.
  * - It gets the mode of the old file, and its owner and group if the system allows that. If it doesn't, the bits set-user-ID and
  *   set-group-ID are taken away. Access lists and other attributes aren't kept. Until it is whole, only the user who writes it may read
  *   it. If there is no old file, the mode is 0666 without the bits of the umask from the beginning.
@@ -518,7 +518,7 @@ CEDAR_INLINE size_t cedar_store_damaged_at(const cedar_store *s) {
 /* Returns the path of the file that keeps what the opening of *s cut off, or NULL if nothing had to be kept, or if *s is closed. The path
  * ends with a byte 0, and lives until *s is closed or opened again.
  *
- * A crash leaves at most the record under way behind the end of a file's records, as far as any test has found. If whole records stand
+ * A crash leaves at most the record under way behind the end of a file's records, as far as any test has found. If whole records are
  * there, somebody else has closed a gate, which takes all later records with it. If that may be so, an opening first puts all that it cuts
  * off, behind the file's header, into a new file beside it. That is on the disk before anything is cut.
  *
@@ -590,7 +590,7 @@ size_t cedar_store_waiting(const cedar_store *s);
 
 /* Replaces the file by one that has the dictionary's entries alone, on the disk: some 10 bytes and the key for each. The changes that wait
  * are in it too. A store that has failed in a change goes on then, with all that its dictionary has. It takes the time of all entries, and
- * memory for 4 MiB and the longest key. A crash at any moment leaves the old file or the new one, which stand for the same dictionary.
+ * memory for 4 MiB and the longest key. A crash at any moment leaves the old file or the new one, which represent the same dictionary.
  *
  * The new file is made beside the old one, under its name with `.cedar-compaction` behind it. It has its mode, and its owner if the system
  * allows it, and is locked. If a crash leaves it there, the next opening removes it. Returns:
@@ -604,7 +604,7 @@ uint32_t cedar_store_compact(cedar_store *s);
 
 /* Sets when changes compact the file by themselves: if it has more than factor times the bytes that it would have behind a compaction, and
  * `spare` bytes more. At first these are 2 and 65536. A factor of 1 counts as 2, and with 0 no change does it. A change does so last, once
- * it is on the disk. If that fails, it is no error of the change: cedar_store_last_compaction tells it. Only if the store has failed then,
+ * it is on the disk. If that fails, it is no error of the change: cedar_store_last_compaction has it. Only if the store has failed then,
  * the change returns CEDAR_STORE_DEVICE. Returns CEDAR_OK or CEDAR_IS_CLOSED. */
 uint32_t cedar_store_compact_beyond(cedar_store *s, size_t factor, size_t spare);
 
@@ -621,7 +621,7 @@ uint32_t cedar_store_compacted_len(const cedar_store *s, size_t *length);
 /* Returns whether the device has failed in a change. False if closed. */
 bool cedar_store_failed(const cedar_store *s);
 
-/* Puts the changes that wait on the disk, closes the file, and frees the memory of *s. *s is closed then. Only cedar_store_sync tells
+/* Puts the changes that wait on the disk, closes the file, and frees the memory of *s. *s is closed then. Only cedar_store_sync says
  * whether the disk has the changes. Does nothing if *s is closed. */
 void cedar_store_close(cedar_store *s);
 

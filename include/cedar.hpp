@@ -344,15 +344,15 @@ public:
     const_iterator cbegin() const { return begin(); }
     const_iterator cend() const noexcept { return {}; }
 
-    /// Returns an iterator that stands at a key, or end() if the key isn't held. get is cheaper where only the value is wanted.
+    /// Returns an iterator at a key, or end() if the key isn't held. get is cheaper where only the value is wanted.
     const_iterator find(std::string_view key) const {
         return const_iterator(detail::page::only({&inside_, {}, std::nullopt}, key));
     }
 
-    /// Returns an iterator that stands at the first key that isn't below this one, or end().
+    /// Returns an iterator at the first key that isn't below this one, or end().
     const_iterator lower_bound(std::string_view key) const { return const_iterator(first_behind(key, std::nullopt, true)); }
 
-    /// Returns an iterator that stands at the first key above this one, or end(): the next key.
+    /// Returns an iterator at the first key above this one, or end(): the next key.
     const_iterator upper_bound(std::string_view key) const { return const_iterator(first_behind(key, std::nullopt, false)); }
 
     /// Calls `callable(occurrence)` for each key in a text: position after position, and at each the shortest first. If `callable` returns
@@ -463,7 +463,7 @@ private:
         return made;
     }
 
-    // The first answers of a walk, as far as they are wanted, in pieces that double: each goes past those before it again.
+    // The first results of a walk, as far as they are wanted, in pieces that double: each goes past those before it again.
     std::vector<match> walked(walk_from call, std::string_view text, std::size_t most) const {
         const cedar_dictionary mine = inside_;
         std::vector<match> found;

@@ -65,7 +65,7 @@ public:
 
 namespace detail {
 
-// What every dictionary refuses: it stands for each value that is out of range.
+// What every dictionary refuses: it takes the part of each value that is out of range.
 inline constexpr std::int32_t refused_value = -1;
 
 // Integers, and those enumerations that C++ takes for integers.

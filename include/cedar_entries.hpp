@@ -217,8 +217,8 @@ private:
 /// value is shown as it was when its page was taken, or not at all. The dictionary must not be destroyed before the last step. If it is
 /// moved away, the next page throws CEDAR_IS_CLOSED.
 ///
-/// A key's bytes stay as long as an iterator stands at the key or before it on its way, or as the range that the iterator comes from
-/// (`entries`) lives. Two iterators are equal if both are at the end, or if they stand at equal keys. An iterator, its copies and its range
+/// A key's bytes stay as long as an iterator is at the key or before it on its way, or as the range that the iterator comes from
+/// (`entries`) lives. Two iterators are equal if both are at the end, or if they are at equal keys. An iterator, its copies and its range
 /// are used by one thread at a time.
 class entry_iterator {
 public:
