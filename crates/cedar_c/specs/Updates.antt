@@ -19,7 +19,7 @@ pub record StoresValue (key : List ℕ) (value : ℤ) (before after : Handle) (f
   -- without a fault memory or slots are wanting: none where a block is spare for each byte, and only for a key that isn't held
   pub memory : status ≡ MEMORY → (size_in after ≡ capacity_in after) × (capacity_in after < most_slots)
   pub limit : status ≡ SLOT_LIMIT → size_in after ≡ most_slots
-  pub spare : IsSome (content before) → fault key value ≡ None → 256 * length key ≤ capacity_in before - size_in after → status ≡ OK
+  pub spare : IsSome (content before) → fault key value ≡ None → 256 * length key ≤ capacity_in before - size_in before → status ≡ OK
   pub refused : IsSome (content before) → fault key value ≡ None → LacksOnlyNew (tree_in before) key status
   -- only an error that tells a position writes it
   pub stays : TellsPosition status ⊎ (told ≡ found)
