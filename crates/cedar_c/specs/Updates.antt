@@ -13,7 +13,7 @@ pub record StoresValue (key : List ℕ) (value : ℤ) (before after : Handle) (f
   pub closed : (status ≡ CLOSED) ↔ (content before ≡ None)
   pub ok : status ≡ OK → state_in after ≡ option_map (λ s. after_put s key value) (state_in before)
   pub err : (status ≡ OK) ⊎ (state_in after ≡ state_in before)
-  -- a fault of the pair is refused before anything changes, and its number is told
+  -- a fault of the pair is refused before anything changes, and its number is returned
   pub unchanged : IsSome (fault key value) → content after ≡ content before
   pub faulty : IsSome (content before) → IfSome (fault key value) (λ e. (status ≡ status_of e) × (told ≡ position_of found e))
   -- without a fault memory or slots are wanting: none where a block is spare for each byte, and only for a key that isn't held
@@ -21,7 +21,7 @@ pub record StoresValue (key : List ℕ) (value : ℤ) (before after : Handle) (f
   pub limit : status ≡ SLOT_LIMIT → size_in after ≡ most_slots
   pub spare : IsSome (content before) → fault key value ≡ None → 256 * length key ≤ capacity_in before - size_in before → status ≡ OK
   pub refused : IsSome (content before) → fault key value ≡ None → LacksOnlyNew (tree_in before) key status
-  -- only an error that tells a position writes it
+  -- only an error that has a position writes it
   pub stays : TellsPosition status ⊎ (told ≡ found)
   pub layout : layout_in after ≡ layout_in before
   pub trials : trials_in after ≡ trials_in before
