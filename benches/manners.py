@@ -2,17 +2,20 @@
 
     python3 benches/manners.py            # with the package roskvidh installed, or its folder on PYTHONPATH; about a minute
 
-Each line has a row's name and its figure. Figures of threads are of a machine with four processors or more. Nothing is stored.
+Each line has a row's name and its figure. Figures of threads are of a machine with four processors or more. A store is made in a folder for
+the time being, and nothing else is stored.
 """
 
 import itertools
+import os
 import random
 import signal
 import sys
+import tempfile
 import threading
 import time
 
-from roskvidh import Cedar
+from roskvidh import Cedar, Store
 
 KEYS = 100_000
 
@@ -217,6 +220,18 @@ def signals(d, keys):
     other.join()
 
 
+def batches():
+    with tempfile.TemporaryDirectory() as folder:
+        path = os.path.join(folder, "words.store")
+        with Store(path, text=True) as store, store.batch():
+            store["mine"] = 1
+            other = threading.Thread(target=store.__setitem__, args=("another's", 2))
+            other.start()
+            other.join()
+            with Store(path, text=True, mode="r") as on_disk:
+                tell("what is on the disk of a thread's batch, and of another's change beside it", sorted(on_disk))
+
+
 def main():
     keys = words()
     d = Cedar(((key, i) for i, key in enumerate(keys)), text=True)
@@ -224,6 +239,7 @@ def main():
     tell("copy() of 100,000 keys, milliseconds", f"{seconds(d.copy) * 1e3:.2f}")
     tell("a file's bytes and their load, for comparison, milliseconds", f"{seconds(lambda: Cedar.load(d.to_bytes(), text=True)) * 1e3:.2f}")
     threads(d, keys)
+    batches()
     signals(d, keys)
     return 0
 

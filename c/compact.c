@@ -82,6 +82,7 @@ typedef struct made {
     cedar_dictionary beside; /* has one key at a time: the calls that change it make the records */
     bool is_summed;
     size_t end;
+    size_t records;
     uint8_t *bytes;
     size_t room;
     size_t filled;
@@ -94,7 +95,9 @@ static uint32_t write_group(made *m) {
     uint32_t status = cedar_plan_group(m->filled, m->is_summed, &m->end, m->bytes, m->room, &plan);
     m->filled = 0;
     if (status != CEDAR_OK) return status;
-    return store_carry_out(&m->disk, &plan, m->bytes) ? CEDAR_OK : CEDAR_STORE_KEPT;
+    if (!store_carry_out(&m->disk, &plan, m->bytes)) return CEDAR_STORE_KEPT;
+    m->records++;
+    return CEDAR_OK;
 }
 
 static uint32_t make_room(made *m, size_t room) {
@@ -131,7 +134,8 @@ static uint32_t begin(made *m, const disk_file *old) {
     static const uint8_t NONE[1];
     cedar_plan plan;
     size_t damaged_at;
-    uint32_t status = cedar_plan_open(&m->beside, true, NONE, 0, &m->is_summed, &m->end, &damaged_at, buffer, sizeof buffer, &plan);
+    uint32_t status = cedar_plan_open(&m->beside, true, NONE, 0, &m->is_summed, &m->end, &m->records, &damaged_at, buffer, sizeof buffer,
+                                      &plan);
     if (status != CEDAR_OK) return status;
     return disk_make_beside(old, &m->disk) && store_carry_out(&m->disk, &plan, buffer) ? CEDAR_OK : CEDAR_STORE_KEPT;
 }
@@ -142,6 +146,7 @@ static uint32_t put_in_place(struct cedar_store_file *file, made *m) {
         file->has_failed = false;
         file->is_summed = m->is_summed;
         file->end = file->base = m->end;
+        file->records = m->records;
         file->waiting = file->filled = 0;
         return CEDAR_OK;
     }
@@ -152,7 +157,7 @@ static uint32_t put_in_place(struct cedar_store_file *file, made *m) {
 }
 
 static uint32_t compact(cedar_store *s) {
-    made m = {DISK_CLOSED, CEDAR_CLOSED, false, 0, NULL, 0, 0};
+    made m = {DISK_CLOSED, CEDAR_CLOSED, false, 0, 0, NULL, 0, 0};
     uint32_t status = begin(&m, &s->file->disk);
     if (status == CEDAR_OK) status = take_entries(&s->dictionary, add_record, &m);
     if (status == CEDAR_OK) status = write_group(&m);

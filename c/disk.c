@@ -244,22 +244,65 @@ bool disk_take_place(disk_file *file, disk_file *beside, bool *is_unsure) {
 
 /* ---- a file that is kept */
 
-/* Makes a file beside one, of the first name that nothing has. */
-static bool make_kept(const disk_file *file, disk_file *kept) {
+/* What is kept of the file of a store: its first bytes, and those from a place on. */
+struct cut {
+    const uint8_t *bytes;
+    size_t first, from, length;
+};
+
+/* Whether a file has these bytes from a place on. */
+static bool has_bytes(int number, size_t at, const uint8_t *bytes, size_t length) {
+    uint8_t found[4096];
+    while (length > 0) {
+        ssize_t count = pread(number, found, length < sizeof found ? length : sizeof found, (off_t)at);
+        if (count < 0 && errno == EINTR) continue;
+        if (count <= 0 || memcmp(found, bytes, (size_t)count) != 0) return false;
+        at += (size_t)count;
+        bytes += count;
+        length -= (size_t)count;
+    }
+    return true;
+}
+
+/* Opens what has a name beside a file. It is on the disk then, if it is a file of exactly these bytes: an earlier opening has kept them. */
+static bool open_same(const disk_file *file, const struct cut *cut, disk_file *kept) {
+    struct stat about;
+    size_t rest = cut->length - cut->from;
+    kept->number = openat(file->folder, kept->name, O_RDONLY | O_NOFOLLOW | O_NONBLOCK | O_NOCTTY | O_CLOEXEC);
+    return kept->number >= 0 && fstat(kept->number, &about) == 0 && S_ISREG(about.st_mode) && (size_t)about.st_size == cut->first + rest
+        && has_bytes(kept->number, 0, cut->bytes, cut->first) && has_bytes(kept->number, cut->first, cut->bytes + cut->from, rest)
+        && sync_all(kept->number) && sync_all(file->folder);
+}
+
+/* Makes a file beside one, of the first name that nothing has; or opens one in front of that which has the bytes already. */
+static bool make_kept(const disk_file *file, const struct cut *cut, disk_file *kept, bool *is_same) {
     char suffix[32] = ".cut";
+    *is_same = false;
     for (int number = 1; !make_beside(file, suffix, kept); number++) {
-        if (errno != EEXIST || number == TRIED_NAMES) return false;
+        if (errno != EEXIST) return false;
+        *is_same = open_same(file, cut, kept);
+        if (*is_same) return true;
         disk_close(kept);
+        errno = EEXIST;
+        if (number == TRIED_NAMES) return false;
         snprintf(suffix, sizeof suffix, ".%d.cut", number);
     }
     return true;
 }
 
+/* Writes the bytes to the new file. They are on the disk then, and its name. */
+static bool fill_kept(const disk_file *file, const struct cut *cut, const disk_file *kept) {
+    bool is_full;
+    return take_rights(file, kept) && disk_write(kept, 0, cut->bytes, cut->first, &is_full)
+        && disk_write(kept, cut->first, cut->bytes + cut->from, cut->length - cut->from, &is_full) && sync_all(kept->number)
+        && sync_all(file->folder);
+}
+
 uint32_t disk_keep(const disk_file *file, const uint8_t *bytes, size_t first, size_t from, size_t length, char **path) {
     disk_file kept;
-    bool is_full;
-    if (make_kept(file, &kept) && take_rights(file, &kept) && disk_write(&kept, 0, bytes, first, &is_full)
-        && disk_write(&kept, first, bytes + from, length - from, &is_full) && sync_all(kept.number) && sync_all(file->folder)) {
+    bool is_same;
+    const struct cut cut = {bytes, first, from, length};
+    if (make_kept(file, &cut, &kept, &is_same) && (is_same || fill_kept(file, &cut, &kept))) {
         *path = kept.path;
         kept.path = NULL;
         disk_close(&kept);

@@ -39,8 +39,9 @@ bool disk_make_beside(const disk_file *file, disk_file *beside);
 bool disk_take_place(disk_file *file, disk_file *beside, bool *is_unsure);
 
 /* Keeps bytes of a file that is open for changes, its first ones and those from `from` on, in a new file beside it, which is on the disk
- * then: of the name with .cut behind it, or .1.cut to .99.cut where something has that name, and with its owner and mode. Returns a status of
- * cedar.h, and the new file's path in memory that the caller frees. After an error the new file is removed. */
+ * then: of the name with .cut behind it, or .1.cut to .99.cut where something has that name, and with its owner and mode. A file on the way
+ * that has exactly these bytes is taken in its place. Returns a status of cedar.h, and that file's path in memory that the caller frees.
+ * After an error the new file is removed. */
 uint32_t disk_keep(const disk_file *file, const uint8_t *bytes, size_t first, size_t from, size_t length, char **path);
 
 /* Removes the file beside, and closes it. errno stays. */

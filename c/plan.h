@@ -32,18 +32,19 @@ enum { CEDAR_PLAN_HEADER = 13 };
 /* How many bytes stand in front of the records of a group: in a file whose records have sums, and in one of version 1. */
 enum { CEDAR_PLAN_SUMMED_GROUP = 10, CEDAR_PLAN_GROUP = 6 };
 
-/* The bytes are those of the file, which was synced before it was read. Once the plan is carried out the records end at *end, and
- * *is_summed says whether they have sums. With CEDAR_STORE_DAMAGED *damaged_at is where in the file the first such record begins. */
+/* The bytes are those of the file, which was synced before it was read. Once the plan is carried out there are *records records, which end
+ * at *end, and *is_summed says whether they have sums. With CEDAR_STORE_DAMAGED *damaged_at is where in the file the first such record
+ * begins. */
 uint32_t cedar_plan_open(cedar_dictionary *d, bool is_reduced, const uint8_t *bytes, size_t length, bool *is_summed, size_t *end,
-                         size_t *damaged_at, uint8_t *buffer, size_t room, cedar_plan *plan);
+                         size_t *records, size_t *damaged_at, uint8_t *buffer, size_t room, cedar_plan *plan);
 
 /* Whether the plan of an opening of a file of these bytes may cut off more than the record under way: whole records, which no test has found
  * a crash to leave there. False of a file that is refused, and of a new one. It takes a time of 16 times the bytes at most. */
 bool cedar_plan_may_cut_records(const uint8_t *bytes, size_t length);
 
-/* The change is made in the dictionary, and its plan is told: it is acknowledged once the plan is carried out. *end is where the records end
- * before the plan, and then where they end behind it. Nothing is to be carried out of an erasure that answers CEDAR_OK and *held false.
- * `is_summed` is what the opening told, or false for a record that waits for those of a group. */
+/* The change is made in the dictionary, and its plan is told: it is acknowledged once the plan is carried out, and the file has one record
+ * more. *end is where the records end before the plan, and then where they end behind it. Nothing is to be carried out of an erasure that
+ * answers CEDAR_OK and *held false. `is_summed` is what the opening told, or false for a record that waits for those of a group. */
 uint32_t cedar_plan_put(cedar_dictionary *d, const uint8_t *key, size_t length, int32_t value, bool is_summed, size_t *end,
                         uint8_t *buffer, size_t room, cedar_plan *plan, bool *held, int32_t *before, size_t *position);
 uint32_t cedar_plan_erase(cedar_dictionary *d, const uint8_t *key, size_t length, bool is_summed, size_t *end, uint8_t *buffer, size_t room,

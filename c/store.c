@@ -47,8 +47,8 @@ static uint32_t make_ready(cedar_store *s, bool is_reduced) {
     cedar_plan plan;
     uint32_t status = disk_read(&file->disk, &bytes, &length);
     if (status == CEDAR_OK) {
-        status = cedar_plan_open(&s->dictionary, is_reduced, bytes, length, &file->is_summed, &file->end, &s->damaged_at, buffer,
-                                 sizeof buffer, &plan);
+        status = cedar_plan_open(&s->dictionary, is_reduced, bytes, length, &file->is_summed, &file->end, &file->records,
+                                 &s->damaged_at, buffer, sizeof buffer, &plan);
     }
     if (status == CEDAR_OK && !file->is_to_read) status = mend(file, &plan, buffer, bytes, length);
     int cause = errno;
@@ -115,6 +115,10 @@ size_t cedar_store_waiting(const cedar_store *s) {
     return s->file == NULL ? 0 : s->file->waiting;
 }
 
+size_t cedar_store_records(const cedar_store *s) {
+    return s->file == NULL ? 0 : s->file->records;
+}
+
 const char *cedar_store_kept(const cedar_store *s) {
     return s->file == NULL ? NULL : s->file->kept;
 }
@@ -124,7 +128,10 @@ const char *cedar_store_kept(const cedar_store *s) {
 uint32_t store_acknowledge(struct cedar_store_file *file, const cedar_plan *plan, size_t end) {
     bool is_full;
     size_t done = carry_out(&file->disk, plan, file->bytes, &is_full);
-    if (done == plan->count) return CEDAR_OK;
+    if (done == plan->count) {
+        file->records++;
+        return CEDAR_OK;
+    }
     int cause = errno;
     /* The first step writes the record behind the closed gate. What is there of it is cut off. */
     if (done == 0 && is_full && disk_cut(&file->disk, plan->steps[0].at)) {

@@ -17,6 +17,7 @@ struct cedar_store_file {
     bool is_unsure;             /* it has failed when another file got its name */
     bool is_summed;             /* whether its records have sums */
     size_t end;                 /* where its records end */
+    size_t records;             /* how many there are */
     uint8_t *bytes;             /* those of a plan */
     size_t room;
     size_t every;               /* how many changes go to the disk together, or 0 */
@@ -47,8 +48,8 @@ uint32_t store_write_waiting(struct cedar_store_file *file);
 /* Makes the file short if it is too long for what its entries take. It fails only where the store has failed then. */
 uint32_t store_compact_if_due(cedar_store *s);
 
-/* Acknowledges what a plan does that writes a record behind those that ended at `end`. If there is no room for the record, the file is as it
- * was, and so is file->end: CEDAR_STORE_NO_ROOM. Otherwise the device has failed. */
+/* Acknowledges what a plan does that writes a record behind those that ended at `end`, and counts that record. If there is no room for it,
+ * the file is as it was, and so is file->end: CEDAR_STORE_NO_ROOM. Otherwise the device has failed. */
 uint32_t store_acknowledge(struct cedar_store_file *file, const cedar_plan *plan, size_t end);
 
 #endif

@@ -523,7 +523,8 @@ CEDAR_INLINE size_t cedar_store_damaged_at(const cedar_store *s) {
  * off, behind the file's header, into a new file beside it. That is on the disk before anything is cut.
  *
  * - It has the name of the store's file with `.cut` behind it, or `.1.cut` to `.99.cut` if something has that name. What has such a name
- *   stays as it is, and a link isn't followed. If the path of the store is a link, it is beside what that leads to.
+ *   stays as it is, and a link isn't followed. If that is a file with the very same bytes, which an earlier opening has kept, its path is
+ *   returned, and none is made. If the path of the store is a link, it is beside what that leads to.
  * - It has the mode of the store's file, and its owner if the system allows it.
  * - `./roskvidh recover` makes a store of its whole records.
  * - Of what is cut off at most 16 times the bytes are looked at. If that isn't enough to say that no record is whole, it is kept.
@@ -613,6 +614,11 @@ uint32_t cedar_store_last_compaction(const cedar_store *s);
 
 /* Returns how many bytes the file has, without changes that wait. 0 if closed. */
 size_t cedar_store_file_len(const cedar_store *s);
+
+/* Returns how many records the file has, without changes that wait. 0 if closed. A change is one; so are changes that went to the disk
+ * together, and those of a cedar_store_apply. A compaction leaves one for each 4 MiB of entries; a program in Rattle leaves one for each
+ * entry. A change that has failed on the disk isn't counted, though the file may have it. */
+size_t cedar_store_records(const cedar_store *s);
 
 /* Writes how many bytes the file would have behind a compaction. It takes the time of all entries. Returns CEDAR_OK, CEDAR_IS_CLOSED or
  * CEDAR_MEMORY. */

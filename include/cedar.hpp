@@ -21,14 +21,16 @@
 //     dictionary                                    CEDAR_INVALID_MAX_TRIAL, memory
 //     from_pairs                                    fault, CEDAR_INVALID_MAX_TRIAL, CEDAR_SLOT_LIMIT, memory
 //     from_sorted                                   the same, CEDAR_DUPLICATE_KEY, CEDAR_KEYS_NOT_SORTED
-//     update, insert, update_all                    fault, closed; for a key that isn't held CEDAR_SLOT_LIMIT, memory
+//     update, insert                                fault, closed; for a key that isn't held CEDAR_SLOT_LIMIT, memory
+//     update_all                                    fault, closed, CEDAR_SLOT_LIMIT, memory
 //     reserve, shrink_to_fit                        closed, CEDAR_SLOT_LIMIT, memory
 //     clone, save, cheapest                         closed, memory
 //     erase_all, prefixes, predictions, entries,    memory
 //       entries_with_prefix, begin, cbegin, find
 //     entries_from, range, lower_bound,             CEDAR_NOT_ASCENDING if the dictionary isn't ordered; memory
 //       upper_bound
-//     a step (++) of an iterator                    closed, memory; after find also CEDAR_NOT_ASCENDING
+//     a step (++) of an iterator                    closed, memory; CEDAR_NOT_ASCENDING if the dictionary isn't ordered, after find or
+//                                                   after an assignment or a swap
 //     scan, segment, keywords                       what the callable throws; scan also memory
 //     load                                          CEDAR_FILE_TRUNCATED to CEDAR_FILE_TRAILING, memory
 //     load_from_path                                the same, system
@@ -130,6 +132,8 @@ public:
     using key_type = std::string;
     using mapped_type = std::int32_t;
     using value_type = owned_entry;
+    using reference = entry;
+    using const_reference = entry;
     using size_type = std::size_t;
     using difference_type = std::ptrdiff_t;
     using const_iterator = entry_iterator;
@@ -440,9 +444,8 @@ public:
     }
 
 private:
-    using walk_from = std::size_t (*)(const cedar_dictionary *, const std::uint8_t *, std::size_t, std::size_t *, cedar_match *, std::size_t);
-    using text_walk = std::size_t (*)(const cedar_dictionary *, const std::uint8_t *, std::size_t, std::size_t *, cedar_found *, std::size_t);
-
+    template <class Found>
+    using walk = std::size_t (*)(const cedar_dictionary *, const std::uint8_t *, std::size_t, std::size_t *, Found *, std::size_t);
     using build = std::uint32_t (*)(cedar_dictionary *, bool, std::int32_t, const cedar_pair *, std::size_t, std::size_t *);
 
     struct closed {};
@@ -464,7 +467,7 @@ private:
     }
 
     // The first results of a walk, as far as they are wanted, in pieces that double: each goes past those before it again.
-    std::vector<match> walked(walk_from call, std::string_view text, std::size_t most) const {
+    std::vector<match> walked(walk<match> call, std::string_view text, std::size_t most) const {
         const cedar_dictionary mine = inside_;
         std::vector<match> found;
         std::size_t next = 0;
@@ -479,7 +482,7 @@ private:
 
     // Tells a text in pieces. Where none fits, one position has more keys than there is room.
     template <class Tell>
-    void told(text_walk call, std::string_view text, Tell tell) const {
+    void told(walk<occurrence> call, std::string_view text, Tell tell) const {
         std::array<cedar_found, 256> first{};
         std::vector<cedar_found> more;
         cedar_found *found = first.data();
@@ -621,6 +624,10 @@ public:
 
     /// Returns how many bytes the file has, without changes that wait.
     std::size_t file_size() const noexcept { return cedar_store_file_len(&inside_); }
+
+    /// Returns how many records the file has, without changes that wait. Changes that went to the disk together are one, and a compaction
+    /// leaves few: cedar.h says which.
+    std::size_t records() const noexcept { return cedar_store_records(&inside_); }
 
     /// Returns how many bytes the file would have behind a compaction. It takes the time of all entries.
     std::size_t compacted_size() const {

@@ -90,8 +90,9 @@ constexpr std::int32_t value_of(Number value) noexcept {
 
 } // namespace detail
 
-/// A value that is handed to a call, of any type of integers. One that isn't from 0 to 2147483645 is refused by the call
-/// (value_out_of_range), and none is cut.
+/// A value that is handed to a call, of any type of integers, or of an enumeration that isn't scoped. One that isn't from 0 to 2147483645
+/// is refused by the call (value_out_of_range), and none is cut. A floating-point number, a scoped enumeration or an object that converts
+/// to an integer isn't compiled: cast it.
 class any_integer {
 public:
     template <class Number, std::enable_if_t<detail::is_whole<Number>, int> = 0>

@@ -215,7 +215,7 @@ private:
 ///
 /// The dictionary may be changed meanwhile. An entry that is there all the while is shown once; one that is stored, erased or given another
 /// value is shown as it was when its page was taken, or not at all. The dictionary must not be destroyed before the last step. If it is
-/// moved away, the next page throws CEDAR_IS_CLOSED.
+/// moved away, the next page throws CEDAR_IS_CLOSED; if it is assigned to or swapped, the next page has what it holds then.
 ///
 /// A key's bytes stay as long as an iterator is at the key or before it on its way, or as the range that the iterator comes from
 /// (`entries`) lives. Two iterators are equal if both are at the end, or if they are at equal keys. An iterator, its copies and its range
@@ -244,8 +244,8 @@ public:
     entry operator*() const noexcept { return page_->at(index_); }
     pointer operator->() const noexcept { return pointer(**this); }
 
-    /// Goes on to the next entry. Throws std::bad_alloc; CEDAR_NOT_ASCENDING if it comes from find and labels don't ascend; and
-    /// CEDAR_IS_CLOSED. Then it stays where it was.
+    /// Goes on to the next entry. Throws std::bad_alloc; CEDAR_IS_CLOSED; and CEDAR_NOT_ASCENDING if labels don't ascend and it comes from
+    /// find, or the dictionary was assigned to or swapped meanwhile. Then it stays where it was.
     entry_iterator &operator++() {
         if (index_ + 1 < page_->count()) {
             ++index_;
@@ -285,6 +285,9 @@ public:
     using iterator = entry_iterator;
     using const_iterator = entry_iterator;
     using value_type = owned_entry;
+    using reference = entry;
+    using const_reference = entry;
+    using difference_type = std::ptrdiff_t;
 
     iterator begin() const noexcept { return iterator(first_); }
     iterator end() const noexcept { return {}; }

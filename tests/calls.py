@@ -100,15 +100,15 @@ class Watch:
         if subprocess.run([compiler, *flags, "-o", self.library, os.path.join(HERE, "calls.c")]).returncode != 0:
             sys.exit("tests/calls.c isn't built")
 
-    def run(self, words, folder, fail=None):
-        """Runs the program, and notes its calls on a folder's files. `fail` is the number of the first call that fails, the error, and how
+    def run(self, words, folder, fail=None, program=PROGRAM):
+        """Runs a program, and notes its calls on a folder's files. `fail` is the number of the first call that fails, the error, and how
         many calls fail. No sync is asked of the system: it would take the time of the real disk, and change nothing here."""
         if os.path.exists(self.notes):
             os.remove(self.notes)
         settings = {"LD_PRELOAD": self.library, "CALLS_FOLDER": folder, "CALLS_NOTES": self.notes, "CALLS_SYNC": "0"}
         if fail is not None:
             settings["CALLS_FAIL"] = " ".join(map(str, fail))
-        run = run_of([PROGRAM, *words], settings)
+        run = run_of([program, *words], settings)
         run.notes = list(notes_in(self.notes)) if os.path.exists(self.notes) else []
         return run
 

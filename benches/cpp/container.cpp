@@ -109,10 +109,9 @@ void first_ten(const cedar_dictionary &c, const dictionary &d, const Plain &plai
 
 void next_key(const dictionary &d, const Plain &plain) {
     const std::string key = std::next(plain.begin(), 60000)->first;
-    const auto by_map = [&] { return static_cast<std::uint64_t>(plain.upper_bound(key)->second); };
-    same(timed("next key", "std::map", 10000, by_map), timed("next key", "C++, upper_bound", 10000, [&] {
-        return static_cast<std::uint64_t>(d.upper_bound(key)->value);
-    }));
+    const auto next = [&key](const auto &all) { return all.upper_bound(key); };
+    const std::uint64_t wanted = timed("next key", "std::map", 10000, [&] { return static_cast<std::uint64_t>(next(plain)->second); });
+    same(wanted, timed("next key", "C++, upper_bound", 10000, [&] { return static_cast<std::uint64_t>(next(d)->value); }));
 }
 
 template <class Entries>

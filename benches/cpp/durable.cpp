@@ -111,6 +111,28 @@ private:
 };
 #else
 #include <cedar.h>
+#include <pthread.h>
+
+// A lock that who changes gets before those who come to read later. By std::shared_mutex of glibc these would go first, for ever.
+class Lock {
+public:
+    Lock() {
+        pthread_rwlockattr_t kind;
+        expect(pthread_rwlockattr_init(&kind) == 0, "no lock");
+        expect(pthread_rwlockattr_setkind_np(&kind, PTHREAD_RWLOCK_PREFER_WRITER_NONRECURSIVE_NP) == 0, "no such lock");
+        expect(pthread_rwlock_init(&inside, &kind) == 0, "no lock");
+        pthread_rwlockattr_destroy(&kind);
+    }
+    ~Lock() { pthread_rwlock_destroy(&inside); }
+    Lock(const Lock &) = delete;
+    void lock() { expect(pthread_rwlock_wrlock(&inside) == 0, "the lock isn't given"); }
+    void unlock() { pthread_rwlock_unlock(&inside); }
+    void lock_shared() { expect(pthread_rwlock_rdlock(&inside) == 0, "the lock isn't given"); }
+    void unlock_shared() { pthread_rwlock_unlock(&inside); }
+
+private:
+    pthread_rwlock_t inside;
+};
 
 // A commit puts the changes that wait on the disk. Who reads waits for a change or a commit that is under way.
 class Store {
@@ -139,7 +161,7 @@ public:
 private:
     cedar_store store = CEDAR_STORE_CLOSED;
     bool each;
-    std::shared_mutex lock;
+    Lock lock;
 
     static const uint8_t *bytes_of(const std::string &key) { return reinterpret_cast<const uint8_t *>(key.data()); }
 };

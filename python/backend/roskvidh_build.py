@@ -29,7 +29,7 @@ PREFIXES = ("/usr/local", "/usr")
 # What pip and a user see of a failed build is its text alone.
 MISSING = (
     "{place} has no {name}: run ./build-c in the repository first, or set ROSKVIDH_PREFIX to the prefix that it was installed to, "
-    "or CEDAR_LIBRARY_FOLDER to the folder that it filled"
+    "or CEDAR_LIBRARY_FOLDER to the folder that it filled, each as a path from the root on"
 )
 
 
@@ -69,7 +69,8 @@ def library():
         found = next((made for made in tries if not made.lacks()), tries[0])
     lacking = found.lacks()
     if lacking:
-        raise SystemExit("roskvidh: " + MISSING.format(place=lacking.parent, name=lacking.name))
+        # pip builds in the folder of the sources: of a relative path it is shown where it leads to from there.
+        raise SystemExit("roskvidh: " + MISSING.format(place=lacking.parent.absolute(), name=lacking.name))
     if found.version() != version():
         raise SystemExit(f"roskvidh: {found.headers / 'cedar.h'} is of version {found.version()}, and the package of {version()}")
     return found

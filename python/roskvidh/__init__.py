@@ -17,7 +17,7 @@ try:
 except ImportError as error:
     raise ImportError(
         f"the compiled part of roskvidh is missing or can't be loaded ({error}). "
-        "In the repository run ./build-c, and then: pip install ./python"
+        "Install the package by pip, into an environment: python/README.md says how"
     ) from error
 
 from .cedar import Cedar

@@ -190,14 +190,46 @@ def _copied(cls: Type[Self], given: _core.Core[Any]) -> Self:
     return made
 
 
-def _pairs_of(pairs: Pairs[Any]) -> Iterable[Tuple[Any, int]]:
+def _name_item(error: Exception, item: str) -> None:
+    """Says in the text of an error which item of many has the fault, as the compiled part does."""
+    if isinstance(error, UnicodeEncodeError):  # its text is made of its attributes
+        error.reason = f"{item}: {error.reason}"
+    else:
+        error.args = (f"{item}: {error}",)
+
+
+def _each_pair(pairs: Any) -> Iterator[Tuple[str, Any, Any]]:
+    """Gives for each pair what it is called in an error, its key and its value. The errors of the compiled part are the same."""
+    for number, given in enumerate(_pairs_of(pairs)):
+        try:
+            pair = tuple(given)
+        except TypeError:
+            raise TypeError(f"pair {number} can't be converted to a sequence") from None
+        if len(pair) != 2:
+            raise ValueError(f"pair {number} has length {len(pair)}; 2 is required")
+        key, value = pair
+        yield f"pair {number}", key, value
+
+
+def _store_each(mapping: Any, pairs: Any) -> None:
+    """Stores pairs one after another."""
+    for item, key, value in _each_pair(pairs):
+        try:
+            mapping[key] = value
+        except (TypeError, ValueError) as error:
+            _name_item(error, item)
+            raise
+
+
+def _pairs_of(pairs: Any) -> Iterable[Tuple[Any, Any]]:
     if isinstance(pairs, AnyMapping):
         return pairs.items()
     if hasattr(pairs, "keys"):
         return _pairs_by_key(pairs)
-    return pairs
+    each: Iterable[Tuple[Any, Any]] = pairs
+    return each
 
 
-def _pairs_by_key(mapping: Any) -> Iterator[Tuple[Any, int]]:
+def _pairs_by_key(mapping: Any) -> Iterator[Tuple[Any, Any]]:
     for key in mapping.keys():
         yield key, mapping[key]

@@ -2,12 +2,13 @@
 
 import threading
 from collections.abc import Mapping as AnyMapping
-from typing import Any, Dict, Generic, ItemsView, Iterable, Iterator, List, Literal, Mapping, MutableMapping, NamedTuple, Optional, Tuple
-from typing import Type, TypeVar, Union, ValuesView, overload
+from itertools import chain
+from reprlib import recursive_repr
+from typing import Any, Dict, Generic, ItemsView, Iterable, Iterator, KeysView, List, Literal, Mapping, MutableMapping, NamedTuple, Optional
+from typing import Tuple, Type, TypeVar, Union, ValuesView, overload
 
 from . import _core
-from .cedar import Cedar, _pairs_of
-from .views import Keys
+from .cedar import Cedar, _each_pair, _pairs_of, _store_each
 
 K = TypeVar("K", bytes, str)
 V = TypeVar("V")
@@ -57,7 +58,7 @@ class CedarMap(MutableMapping[K, V]):
         self._lock = threading.RLock()
         keys: List[Any] = []
         values: List[Any] = []
-        for key, value in _pairs_of(pairs):
+        for _, key, value in _each_pair(pairs):
             keys.append(key)
             values.append(value)
         ids: Cedar[Any] = Cedar(zip(keys, range(len(keys))), text=text, reduced=reduced)
@@ -111,7 +112,8 @@ class CedarMap(MutableMapping[K, V]):
             try:
                 ids[key] = number
             except BaseException:
-                del values[number]
+                if ids.get(key) != number:  # a signal's handler may raise once it is stored
+                    del values[number]
                 raise
 
     def _new_number(self) -> int:
@@ -141,8 +143,13 @@ class CedarMap(MutableMapping[K, V]):
         """
         with self._lock:
             ids, values = self._held
-            number = ids.pop(key) if default is _ABSENT else ids.pop(key, None)
-            return default if number is None else values.pop(number)
+            number = ids.get(key)
+            if number is not None:
+                del ids[key]
+                return values.pop(number)
+        if default is _ABSENT:
+            raise KeyError(key)
+        return default
 
     def popitem(self) -> Tuple[K, V]:
         """Removes some key and returns it with its value. An empty mapping raises KeyError."""
@@ -160,12 +167,18 @@ class CedarMap(MutableMapping[K, V]):
 
     # ---- many keys
 
-    def update(self, pairs: Given[K, V] = (), /, **keywords: V) -> None:  # type: ignore[override]
-        """Stores the pairs of a mapping or of an iterable, one after another: the last value of a key counts."""
-        for key, value in _pairs_of(pairs):
-            self[key] = value
-        for name, value in keywords.items():
-            self[name] = value  # type: ignore[index]  # of a mapping of bytes it is refused
+    @overload  # type: ignore[override]  # keys may be bytes beside keywords
+    def update(self, pairs: Mapping[K, V], /, **keywords: V) -> None: ...
+
+    @overload
+    def update(self, pairs: Iterable[Tuple[K, V]] = ..., /, **keywords: V) -> None: ...
+
+    def update(self, pairs: Any = (), /, **keywords: V) -> None:
+        """Stores the pairs of a mapping or of an iterable, one after another: the last value of a key counts.
+
+        If a pair has a fault, those before it are stored.
+        """
+        _store_each(self, chain(_pairs_of(pairs), keywords.items()))
 
     def clear(self) -> None:
         """Removes all keys."""
@@ -202,9 +215,9 @@ class CedarMap(MutableMapping[K, V]):
     def __iter__(self) -> Iterator[K]:
         return iter(self._held[0])
 
-    def keys(self, prefix: Optional[K] = None) -> Keys[K]:
+    def keys(self, prefix: Optional[K] = None) -> "Keys[K]":
         """Returns a view of the keys, or of those that begin with a prefix."""
-        return self._held[0].keys(prefix)
+        return Keys(self, prefix)
 
     def values(self, prefix: Optional[K] = None) -> "Values[K, V]":
         """Returns a view of the values, or of those of the keys that begin with a prefix."""
@@ -269,6 +282,7 @@ class CedarMap(MutableMapping[K, V]):
 
     # ---- the whole
 
+    @recursive_repr("CedarMap(...)")
     def __repr__(self) -> str:
         if len(self) > _SHOWN:
             return f"<{type(self).__name__} of {len(self)} keys>"
@@ -280,12 +294,18 @@ class CedarMap(MutableMapping[K, V]):
             return NotImplemented
         return self.copy().__ior__(other)
 
+    def __ror__(self: Self, other: Mapping[Any, Any]) -> Self:
+        if not isinstance(other, AnyMapping):
+            return NotImplemented
+        return _restore(type(self), self.text, self.reduced).__ior__(other).__ior__(self)
+
     def __ior__(self: Self, other: Given[Any, Any]) -> Self:
         self.update(other)
         return self
 
     def __reduce__(self) -> Tuple[Any, ...]:
-        return _restore, (type(self), self.text, self.reduced, list(self.items())), getattr(self, "__dict__", None) or None
+        # The pairs come last, so that a mapping may have itself as a value.
+        return _restore, (type(self), self.text, self.reduced), getattr(self, "__dict__", None) or None, None, iter(list(self.items()))
 
     def __copy__(self: Self) -> Self:
         made = self.copy()
@@ -294,10 +314,10 @@ class CedarMap(MutableMapping[K, V]):
         return made
 
 
-def _restore(cls: Type[Self], text: bool, reduced: bool, pairs: List[Tuple[Any, Any]]) -> Self:
-    """Returns the mapping of a pickle."""
+def _restore(cls: Type[Self], text: bool, reduced: bool) -> Self:
+    """Returns an empty mapping; pickles call it by this name."""
     made = cls.__new__(cls)
-    CedarMap.__init__(made, pairs, text=text, reduced=reduced)
+    CedarMap.__init__(made, text=text, reduced=reduced)
     return made
 
 
@@ -312,24 +332,39 @@ def _found(matches: _core.Matches, values: Dict[int, Any]) -> Iterator[Found]:
 
 
 class _View(Generic[K, V]):
-    """What both views have in common: a mapping and a prefix, or None."""
+    """What the three have in common: a mapping and a prefix, or None."""
 
     __slots__ = ()
     _mapping: CedarMap[K, V]
     _prefix: Optional[K]
 
     def __init__(self, mapping: CedarMap[K, V], prefix: Optional[K]) -> None:
-        self._mapping = mapping  # type: ignore[misc]  # both have the slots
+        self._mapping = mapping  # type: ignore[misc]  # the three have the slots
         self._prefix = prefix  # type: ignore[misc]
+
+    def _ids(self) -> KeysView[K]:
+        return self._mapping._held[0].keys(self._prefix)
 
     def __iter__(self) -> Iterator[Any]:
         return self._mapping._pairs(self._prefix)
 
     def __len__(self) -> int:
-        return len(self._mapping.keys(self._prefix))
+        return len(self._ids())
 
     def __repr__(self) -> str:
         return f"{type(self).__name__}({list(self)})"
+
+
+class Keys(_View[K, Any], KeysView[K]):
+    """The keys."""
+
+    __slots__ = ("_prefix",)
+
+    def __iter__(self) -> Iterator[K]:
+        return iter(self._ids())
+
+    def __contains__(self, key: object) -> bool:
+        return key in self._ids()
 
 
 class Values(_View[K, V], ValuesView[V]):
@@ -350,7 +385,7 @@ class Items(_View[K, V], ItemsView[K, V]):
     __slots__ = ("_prefix",)
 
     def __contains__(self, item: object) -> bool:
-        if not (isinstance(item, tuple) and len(item) == 2 and item[0] in self._mapping.keys(self._prefix)):
+        if not (isinstance(item, tuple) and len(item) == 2 and item[0] in self._ids()):
             return False
         held = self._mapping.get(item[0], _ABSENT)
         return bool(held is item[1] or held == item[1])

@@ -2,10 +2,11 @@
 
 import os
 from contextlib import contextmanager
+from itertools import chain
 from typing import Any, Iterable, Iterator, Literal, Optional, Tuple, TypeVar, Union, overload
 
 from . import _core
-from .cedar import Cedar, Pairs, _copied, _pairs_of
+from .cedar import Cedar, Pairs, _copied, _name_item, _pairs_of, _store_each
 from .words import Words
 
 K = TypeVar("K", bytes, str)
@@ -53,6 +54,8 @@ class Store(Words[K]):
     """
 
     __slots__ = ("__weakref__", "_compaction_now", "_mode", "_sync_every_now", "path")
+    path: str
+    _mode: Mode
 
     @overload
     def __init__(
@@ -181,6 +184,12 @@ class Store(Words[K]):
         """How many bytes the file has, without changes that wait."""
         return self._file_figures()[0]
 
+    @property
+    def records(self) -> int:
+        """How many records the file has, without changes that wait. A change is one, and so are changes that went to the disk together, as
+        those of a block. compact() leaves one for each 4 MiB of entries. A change that has failed on the disk isn't counted."""
+        return self._file_figures()[2]
+
     def compacted_size(self) -> int:
         """Returns how many bytes the file would have behind a compaction. It takes the time of all entries."""
         return self._compacted_size()
@@ -201,10 +210,7 @@ class Store(Words[K]):
     def update(self, pairs: Pairs[K] = (), /, **keywords: int) -> None:  # type: ignore[override]
         """Stores the pairs of a mapping or of an iterable as a batch: the last value of a key counts. If one is refused, none is stored."""
         with self.batch():
-            for key, value in _pairs_of(pairs):
-                self[key] = value
-            for name, value in keywords.items():
-                self[name] = value  # type: ignore[index]  # of a store of bytes it is refused
+            _store_each(self, chain(_pairs_of(pairs), keywords.items()))
 
     def clear(self) -> None:
         """Removes all keys, as a batch."""
@@ -220,31 +226,42 @@ class Store(Words[K]):
     def popitem(self) -> Tuple[K, int]:
         """Removes some key and returns it with its value. An empty store raises KeyError."""
         if not self._is_in_block():
-            return super().popitem()
-        for key in self:
-            return key, self.pop(key)
-        raise KeyError("popitem(): dictionary is empty")
+            pair: Tuple[Any, int] = super().popitem()
+            return pair
+        first: Any = next(iter(self), None)
+        if first is None:
+            raise KeyError("popitem(): dictionary is empty")
+        return first, self.pop(first)
 
     def erase_all(self, keys: Iterable[K], /) -> int:
         """Removes the keys of an iterable, as a batch, and returns how many of them were held."""
-        listed = list(keys)
+        listed, erased = list(keys), 0
         with self.batch():
-            return sum(self.pop(key, None) is not None for key in listed)
+            for number, key in enumerate(listed):
+                try:
+                    erased += self.pop(key, None) is not None
+                except (TypeError, ValueError) as error:
+                    _name_item(error, f"key {number}")
+                    raise
+        return erased
 
     def copy(self) -> "Cedar[K]":
         """Returns an equal Cedar, without a file."""
-        return _copied(Cedar, self)
+        of_keys: Any = Cedar
+        made: Cedar[K] = _copied(of_keys, self)
+        return made
 
     def __repr__(self) -> str:
         return self._shown(repr(self.path), [("text", False), ("reduced", False)])
 
     def __or__(self, other: Any) -> "Cedar[K]":
-        return self.copy() | other
+        made: Cedar[K] = self.copy() | other
+        return made
 
     def __ror__(self, other: Any) -> "Cedar[K]":
         return Cedar(other, text=self.text, reduced=self.reduced) | self
 
-    def __ior__(self: Self, other: Pairs[Any]) -> Self:
+    def __ior__(self: Self, other: Pairs[Any]) -> Self:  # type: ignore[misc]  # the store itself, and no Cedar
         self.update(other)
         return self
 

@@ -53,16 +53,21 @@ int key_test(const Span *key) {
     return nul ? fail_at(CEDAR_NUL_BYTE, "byte", (size_t)(nul - key->at)) : 0;
 }
 
-/* Says in the text of a TypeError or a CedarError that is being raised which item of a list has the fault. */
+/* Says in the text of an error that is being raised, of a key's or a value's type or fault, which item of a list has it. */
 void name_item(const char *what, size_t position) {
     PyObject *type, *error, *trace;
-    if (!PyErr_ExceptionMatches(PyExc_TypeError) && !PyErr_ExceptionMatches(cedar_error)) return;
+    bool is_surrogate = PyErr_ExceptionMatches(PyExc_UnicodeEncodeError);
+    if (!is_surrogate && !PyErr_ExceptionMatches(PyExc_TypeError) && !PyErr_ExceptionMatches(cedar_error)) return;
     PyErr_Fetch(&type, &error, &trace);
     PyErr_NormalizeException(&type, &error, &trace);
-    PyObject *text = PyUnicode_FromFormat("%s %zu: %S", what, position, error), *all = text ? PyTuple_Pack(1, text) : NULL;
-    if (!all || PyObject_SetAttrString(error, "args", all) < 0) PyErr_Clear();
+    /* The text of a UnicodeEncodeError is made of its attributes. */
+    PyObject *told = is_surrogate ? PyUnicodeEncodeError_GetReason(error) : PyObject_Str(error);
+    PyObject *text = told ? PyUnicode_FromFormat("%s %zu: %U", what, position, told) : NULL;
+    PyObject *given = text && !is_surrogate ? PyTuple_Pack(1, text) : text;
+    if (!given || PyObject_SetAttrString(error, is_surrogate ? "reason" : "args", given) < 0) PyErr_Clear();
+    if (given != text) Py_XDECREF(given);
     Py_XDECREF(text);
-    Py_XDECREF(all);
+    Py_XDECREF(told);
     PyErr_Restore(type, error, trace);
 }
 

@@ -64,25 +64,31 @@ int block_erase(Core *core, const uint8_t *at, size_t length) {
     return note(core, at, length, Py_None);
 }
 
-/* Adds a layer to those of this thread. */
-static int add_layer(Core *core, PyObject *layer) {
+/* Adds a layer to those of this thread: `fresh`, an empty list, becomes these where it has none, and `blocks` those of all threads. */
+static int add_layer(Core *core, PyObject *layer, PyObject *fresh, PyObject *blocks) {
     PyObject *layers = layers_of(core);
     if (layers) return PyList_Append(layers, layer);
-    if (PyErr_Occurred() || (!core->blocks && !(core->blocks = PyDict_New()))) return -1;
-    PyObject *thread = PyLong_FromUnsignedLong(PyThread_get_thread_ident());
-    layers = PyList_New(0);
-    int done = thread && layers && PyList_Append(layers, layer) == 0 ? PyDict_SetItem(core->blocks, thread, layers) : -1;
-    Py_XDECREF(thread);
-    Py_XDECREF(layers);
+    PyObject *thread = PyErr_Occurred() ? NULL : PyLong_FromUnsignedLong(PyThread_get_thread_ident());
+    if (!thread) return -1;
+    if (!core->blocks) {
+        Py_INCREF(blocks);
+        core->blocks = blocks;
+    }
+    int done = PyList_Append(fresh, layer) == 0 ? PyDict_SetItem(core->blocks, thread, fresh) : -1;
+    Py_DECREF(thread);
     return done;
 }
 
-/* Begins a block of this thread, and returns its layer. */
+/* Begins a block of this thread, and returns its layer. What may begin a collection of garbage, whose finalizers may end a block, is made
+ * first. */
 PyObject *core_begin_block(Core *core, PyObject *nothing) {
     (void)nothing;
-    if (core_ready(core) < 0) return NULL;
-    PyObject *layer = PyDict_New();
-    if (layer && add_layer(core, layer) < 0) Py_CLEAR(layer);
+    PyObject *layer = PyDict_New(), *fresh = PyList_New(0), *blocks = PyDict_New();
+    int done = layer && fresh && blocks ? core_ready(core) : -1;
+    if (done == 0) done = add_layer(core, layer, fresh, blocks);
+    if (done < 0) Py_CLEAR(layer);
+    Py_XDECREF(fresh);
+    Py_XDECREF(blocks);
     return layer;
 }
 
@@ -163,10 +169,15 @@ PyObject *core_end_block(Core *core, PyObject *arguments) {
 
 /* All that this thread's blocks have changed, as one layer; NULL where it is in no block, or with an error. */
 static PyObject *merged_layers(Core *core) {
-    PyObject *layers = layers_of(core), *all = layers ? PyDict_New() : NULL;
+    PyObject *layers = layers_of(core);
+    if (!layers) return NULL;
+    /* A finalizer may end a block as the dict is made. */
+    Py_INCREF(layers);
+    PyObject *all = PyDict_New();
     for (Py_ssize_t i = 0; all && i < PyList_Size(layers); i++) {
         if (PyDict_Update(all, PyList_GetItem(layers, i)) < 0) Py_CLEAR(all);
     }
+    Py_DECREF(layers);
     return all;
 }
 

@@ -68,6 +68,7 @@ int turn_wait(Core *core, bool changes);
 int turn_alone(Core *core);
 int turn_begin(Core *core, bool changes, bool is_long, Turn *turn);
 void turn_yield(Turn *turn);
+void turn_resume(Turn *turn);
 int turn_step(Turn *turn);
 void turn_end(Turn *turn);
 void core_install(Core *core, cedar_store *fresh);
@@ -126,7 +127,7 @@ Py_ssize_t core_length(Core *core);
 PyObject *core_get(Core *core, PyObject *arguments);
 PyObject *core_pop(Core *core, PyObject *arguments);
 PyObject *core_setdefault(Core *core, PyObject *arguments);
-int key_erase(Core *core, const uint8_t *at, size_t length);
+PyObject *core_popitem(Core *core, PyObject *nothing);
 
 /* blocks.c: changes of a store that are made as one. What the first two answer is an error where it is below 0. */
 enum { BLOCK_SILENT = 2 };
@@ -194,7 +195,6 @@ PyObject *core_range(Core *core, PyObject *arguments);
 PyObject *core_count(Core *core, PyObject *prefix);
 PyObject *core_prefixes(Core *core, PyObject *text);
 PyObject *core_longest_prefix(Core *core, PyObject *text);
-PyObject *core_popitem(Core *core, PyObject *nothing);
 PyObject *core_erase_prefix(Core *core, PyObject *prefix);
 
 /* matches.c: what stands in a text. */

@@ -544,11 +544,13 @@ PyObject *core_compact_beyond(Core *core, PyObject *arguments) {
     return NULL;
 }
 
-/* How long the file is, and the status of the last compaction. */
+/* How long the file is, the status of the last compaction, and how many records the file has. */
 PyObject *core_file_figures(Core *core, PyObject *nothing) {
     (void)nothing;
     if (core_ready(core) < 0) return NULL;
-    return Py_BuildValue("nk", (Py_ssize_t)cedar_store_file_len(&core->store), (unsigned long)cedar_store_last_compaction(&core->store));
+    const cedar_store *store = &core->store;
+    return Py_BuildValue("nkn", (Py_ssize_t)cedar_store_file_len(store), (unsigned long)cedar_store_last_compaction(store),
+                         (Py_ssize_t)cedar_store_records(store));
 }
 
 PyObject *core_compacted_size(Core *core, PyObject *nothing) {

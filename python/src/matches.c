@@ -196,6 +196,7 @@ static void piece_end(Matches *matches, Piece *piece, size_t count) {
 enum {
     STEP_WORK = SIZED(1 << 19, 64),
     STEP_PARTS = SIZED(16, 1),
+    APART_WORK = SIZED(1 << 27, 500),
     STEP_APART = SIZED(1 << 18, 50),
     STEP_MATCHES = SIZED(1 << 14, 16)
 };
@@ -204,7 +205,8 @@ enum {
 enum { LONGEST_HELD = 512, HELD_TEXT = 1 << 14 };
 
 static size_t step_length(const Turn *turn, size_t longest) {
-    size_t least = STEP_PARTS * longest, length = turn->thread ? STEP_APART : STEP_WORK / (longest + 1);
+    size_t least = STEP_PARTS * longest, length = (turn->thread ? APART_WORK : STEP_WORK) / (longest + 1);
+    if (length > STEP_APART) length = STEP_APART;
     return length < least ? least : length;
 }
 
@@ -223,22 +225,25 @@ static size_t find_before(Finder finder, const cedar *dictionary, const Span *te
     return count;
 }
 
-/* How long the longest key is. Where nobody knows, a text that takes some ten milliseconds is worth looking at all keys. */
-enum { WORTH_LOOKING = 1 << 22 };
+/* How long the longest key is. Where nobody knows, as of a file that was loaded, all keys are looked at once there is a longer text: what is
+ * told of that couldn't be ended otherwise. */
+enum { WORTH_LOOKING = HELD_TEXT };
 
-static size_t longest_key(Core *core, const cedar *dictionary, const Span *text) {
-    size_t longest = core->longest, count;
+static size_t longest_key(Turn *turn, const Span *text) {
+    Core *core = turn->core;
+    if (core->longest < SIZE_MAX || text->length < WORTH_LOOKING) return core->longest;
+    turn_yield(turn);
     cedar_match unused;
-    if (longest < SIZE_MAX || text->length < WORTH_LOOKING) return longest;
-    count = cedar_predictions(dictionary, text->at, 0, &unused, 0);
+    size_t longest = 0, count = cedar_predictions(turn->dictionary, text->at, 0, &unused, 0);
     cedar_match *matches = malloc((count + 1) * sizeof *matches);
-    if (!matches) return longest;
-    cedar_predictions(dictionary, text->at, 0, matches, count);
-    longest = 0;
-    for (size_t i = 0; i < count; i++) {
+    if (matches) cedar_predictions(turn->dictionary, text->at, 0, matches, count);
+    else longest = SIZE_MAX;
+    for (size_t i = 0; matches && i < count; i++) {
         if (longest < matches[i].length) longest = matches[i].length;
     }
     free(matches);
+    turn_resume(turn);
+    core->longest = longest;
     return longest;
 }
 
@@ -262,7 +267,7 @@ static bool fill_piece(Finder finder, Turn *turn, const Span *text, size_t longe
 
 /* All that a finder tells of a text. Raises an error where memory is wanted or a signal has ended it. */
 static int find_all(Finder finder, Turn *turn, const Span *text, Matches *matches) {
-    size_t next = 0, least = LEAST_PLACES, longest = longest_key(turn->core, turn->dictionary, text);
+    size_t next = 0, least = LEAST_PLACES, longest = longest_key(turn, text);
     if (longest > LONGEST_HELD && text->length > HELD_TEXT) turn_yield(turn);
     while (next < text->length) {
         size_t left = text->length - next, places = left < MOST_PLACES ? left : MOST_PLACES, count = 0;
@@ -314,7 +319,7 @@ static size_t next_stop(const cedar *dictionary, const Span *text, size_t longes
 /* The tokens of a text that cost the least together: those of its parts. Raises an error where memory is wanted or a signal has ended it. */
 static int find_cheapest(uint32_t unknown, Turn *turn, const Span *text, Matches *matches) {
     bool by_characters = turn->core->is_text;
-    size_t longest = longest_key(turn->core, turn->dictionary, text);
+    size_t longest = longest_key(turn, text);
     if (text->length > HELD_TEXT) turn_yield(turn);
     for (size_t begin = 0, stop; begin < text->length; begin = stop) {
         size_t count = 0;

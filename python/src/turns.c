@@ -8,8 +8,10 @@
  * interpreter's lock; a long call is let in once those before it have gone on. So no thread that makes one long call after another keeps
  * the others out, and short calls don't hinder each other when the long one is over.
  *
- * A wait ends by a signal whose handler raises. A thread that holds a turn calls Python only to handle signals (`turn_step`): a handler
- * that then would have to wait for its own thread's call gets a RuntimeError. So no wait is in a circle. */
+ * A wait ends by a signal whose handler raises. Handlers may call dictionaries, and so may finalizers, since Python collects garbage where
+ * it handles signals. A thread that waits in line steps out of it meanwhile. A thread that has a turn calls Python only to handle signals
+ * (`turn_step`): a call within that one is refused where it would have to wait for its own thread, or where another thread waits within such
+ * a one already. So no wait is in a circle. */
 #define _DEFAULT_SOURCE /* clock_gettime */
 #include "core.h"
 
@@ -28,6 +30,9 @@ typedef struct Waiter {
     bool is_woken;
 } Waiter;
 
+/* Whether this thread handles signals within a call that has a turn. */
+static _Thread_local bool is_interrupted;
+
 static int64_t time_now(void) {
     struct timespec now = {0, 0};
     clock_gettime(CLOCK_MONOTONIC, &now);
@@ -39,14 +44,18 @@ static bool is_free(const Core *core, bool changes) {
     return changes ? !core->turns : !core->is_changing;
 }
 
-/* What a forked child has of the calls of threads that it hasn't. */
+/* A forked child has the calls of one thread alone, and nobody waits. */
 static void forget_parent(Core *core) {
-    if (core->process != (long)getpid()) {
-        core->turns = NULL;
-        core->line = NULL;
-        core->woken = 0;
+    long process = (long)getpid();
+    if (core->process == process) return;
+    unsigned long self = PyThread_get_thread_ident();
+    for (Turn **at = &core->turns; *at;) {
+        if ((*at)->owner == self) at = &(*at)->next;
+        else *at = (*at)->next;
     }
-    core->process = (long)getpid();
+    core->line = NULL;
+    core->woken = 0;
+    core->process = process;
 }
 
 static void enter(Core *core, Turn *turn) {
@@ -97,7 +106,7 @@ static int fail_within(const Core *core) {
     unsigned long self = PyThread_get_thread_ident();
     for (const Turn *turn = core->turns; turn; turn = turn->next) {
         if (turn->owner != self) continue;
-        PyErr_SetString(PyExc_RuntimeError, "a signal handler has called a dictionary within a call of its own thread");
+        PyErr_SetString(PyExc_RuntimeError, "a signal handler or a finalizer has called a dictionary within a call of its own thread");
         return -1;
     }
     return 0;
@@ -110,18 +119,24 @@ static void stand_in_line(Core *core, Waiter *waiter, bool is_first) {
     *at = waiter;
 }
 
-/* Takes away who won't go on, woken or not. */
-static void give_up(Core *core, const Waiter *waiter) {
+static void leave_line(Core *core, const Waiter *waiter) {
     Waiter **at = &core->line;
     while (*at && *at != waiter) at = &(*at)->next;
     if (*at) *at = waiter->next;
-    if (waiter->is_woken && waiter->turn) leave(core, waiter->turn);
-    if (waiter->is_woken && !waiter->turn) core->woken--;
     wake(core);
 }
 
+/* Handles signals. Who waits isn't in line meanwhile, since a handler's call may wait too. */
+static int handle_signals(Core *core, Waiter *waiter) {
+    leave_line(core, waiter);
+    if (PyErr_CheckSignals() < 0 || settle_child(core) < 0) return -1;
+    stand_in_line(core, waiter, true);
+    wake(core);
+    return 0;
+}
+
 /* Waits in line until it is woken, or until a signal's handler raises. */
-static int wait_in_line(Core *core, Waiter *waiter, bool is_first) {
+static int stay_in_line(Core *core, Waiter *waiter, bool is_first) {
     int done = 0;
     waiter->is_woken = false;
     waiter->lock = PyThread_allocate_lock();
@@ -135,11 +150,25 @@ static int wait_in_line(Core *core, Waiter *waiter, bool is_first) {
         Py_BEGIN_ALLOW_THREADS
         PyThread_acquire_lock_timed(waiter->lock, -1, 1);
         Py_END_ALLOW_THREADS
-        if (!waiter->is_woken) done = PyErr_CheckSignals();
+        if (!waiter->is_woken) done = handle_signals(core, waiter);
     }
-    if (done < 0) give_up(core, waiter);
+    /* A signal may have ended the last attempt to take it, and then it was given back. */
+    PyThread_acquire_lock(waiter->lock, NOWAIT_LOCK);
     PyThread_release_lock(waiter->lock);
     PyThread_free_lock(waiter->lock);
+    return done;
+}
+
+/* The same. Only one thread at a time does so within a call of its own. */
+static int wait_in_line(Core *core, Waiter *waiter, bool is_first) {
+    static bool one_waits;
+    if (is_interrupted && one_waits) {
+        PyErr_SetString(PyExc_RuntimeError, "two signal handlers or finalizers would wait within calls of their own threads");
+        return -1;
+    }
+    if (is_interrupted) one_waits = true;
+    int done = stay_in_line(core, waiter, is_first);
+    if (is_interrupted) one_waits = false;
     return done;
 }
 
@@ -193,25 +222,33 @@ void turn_yield(Turn *turn) {
     turn->since = time_now();
 }
 
-static void take_back(Turn *turn) {
+/* Takes the interpreter's lock back, if it was given up. */
+void turn_resume(Turn *turn) {
     if (turn->thread) PyEval_RestoreThread(turn->thread);
     turn->thread = NULL;
+}
+
+/* Takes the interpreter's lock back, and handles signals. */
+static int handle_within(Turn *turn) {
+    bool was_interrupted = is_interrupted;
+    turn_resume(turn);
+    is_interrupted = true;
+    int done = PyErr_CheckSignals();
+    is_interrupted = was_interrupted;
+    return done;
 }
 
 /* To be called between two pieces of a long call: it gives up the interpreter's lock once it is time to, and handles signals from then on.
  * Fails where a signal's handler raises. */
 int turn_step(Turn *turn) {
     if (!turn->is_long || time_now() - turn->since < (turn->thread ? DEAF_TIME : HOLD_TIME)) return 0;
-    if (turn->thread) {
-        take_back(turn);
-        if (PyErr_CheckSignals() < 0) return -1;
-    }
+    if (turn->thread && handle_within(turn) < 0) return -1;
     turn_yield(turn);
     return 0;
 }
 
 void turn_end(Turn *turn) {
-    take_back(turn);
+    turn_resume(turn);
     if (turn->is_listed) leave(turn->core, turn);
 }
 

@@ -16,6 +16,7 @@ typedef struct Walk {
     size_t next; /* which key of the page is given next */
     size_t keys_changed;
     size_t values_changed;
+    bool is_merged; /* with what its thread's blocks said when it began, which no value of the dictionary replaces */
     int kind;
 } Walk;
 
@@ -50,31 +51,53 @@ static int walk_test(const Walk *walk, const Core *core) {
 
 /* Takes note that what is at hand is what the dictionary has. */
 static void walk_note(Walk *walk, const Core *core) {
-    walk->next = 0;
     walk->keys_changed = core->keys_changed;
     walk->values_changed = core->values_changed;
+}
+
+static bool is_changed(const Walk *walk, const Core *core) {
+    if (walk->is_merged) return false;
+    return walk->values_changed != core->values_changed || walk->keys_changed != core->keys_changed;
+}
+
+/* Gives the key that is at hand at a place the value that the dictionary has, if that holds it. */
+static void take_value(Walk *walk, const Core *core, size_t at) {
+    cedar_found *found = &walk->pages.page.found[at];
+    cedar_get(&core->store.dictionary, walk->pages.page.bytes + found->place, found->length, &found->value);
+}
+
+/* Waits until the next key can be given with its value. For one that is at hand it waits only where values may have been changed, and then
+ * takes those of all that are at hand: a wait for each would take the time of as many changes, which a store puts on the disk. */
+static int walk_wait(Walk *walk, Core *core) {
+    const Gathered *page = &walk->pages.page;
+    if (core->is_open && walk_test(walk, core) < 0) return -1;
+    if (core->is_open && walk->next < page->count && !is_changed(walk, core)) return 0;
+    bool takes_all = core->is_changing && core->is_ordered && !walk->is_merged;
+    if (core_ready(core) < 0) return -1;
+    if (!walk->is_merged && walk->next < page->count) take_value(walk, core, walk->next);
+    for (size_t i = walk->next + 1; takes_all && i < page->count; i++) take_value(walk, core, i);
+    if (takes_all) walk_note(walk, core);
+    return 0;
 }
 
 /* Sees that there is a key at hand: 0 where none is left. */
 static int walk_ready(Walk *walk, Core *core) {
     if (walk->next < walk->pages.page.count) return 1;
     if (!pages_read(&core->store.dictionary, &walk->pages)) return fail_with(CEDAR_MEMORY);
+    walk->next = 0;
     walk_note(walk, core);
     return walk->pages.page.count > 0;
 }
 
 static PyObject *walk_give(Walk *walk, Core *core) {
     /* Another thread may have ended it meanwhile. */
-    if (core_ready(core) < 0 || !walk->core || walk_test(walk, core) < 0) return NULL;
+    if (walk_wait(walk, core) < 0 || !walk->core) return NULL;
     int ready = walk_ready(walk, core);
     if (ready == 0) walk_clear(walk);
     if (ready <= 0) return NULL;
     cedar_found found = walk->pages.page.found[walk->next++];
-    const uint8_t *key = walk->pages.page.bytes + found.place;
-    bool is_changed = walk->values_changed != core->values_changed || walk->keys_changed != core->keys_changed;
-    if (is_changed) cedar_get(&core->store.dictionary, key, found.length, &found.value);
     if (walk->kind == WALK_VALUES) return PyLong_FromLong(found.value);
-    PyObject *given = key_give(core, key, found.length);
+    PyObject *given = key_give(core, walk->pages.page.bytes + found.place, found.length);
     return walk->kind == WALK_KEYS ? given : pair_give(given, found.value);
 }
 
@@ -135,7 +158,8 @@ static int walk_gather(Walk *walk, const Bounds *bounds) {
     turn_end(&turn);
     if (!done) return fail_with(CEDAR_MEMORY);
     walk_note(walk, core);
-    return core->blocks ? block_merge(core, bounds, all) : 0;
+    walk->is_merged = core->blocks != NULL;
+    return walk->is_merged ? block_merge(core, bounds, all) : 0;
 }
 
 static int walk_begin(Walk *walk, const Bounds *bounds) {
@@ -188,24 +212,31 @@ PyObject *core_range(Core *core, PyObject *arguments) {
     return walk_make(core, Py_None, low, high, kind);
 }
 
-/* Counts the keys with a prefix: with the interpreter's lock, as long as there are few. */
-static int count_below(Core *core, const Span *prefix, size_t *count) {
+/* Counts the keys with a prefix: with the interpreter's lock, unless there are very many. */
+static int count_many(Core *core, const Span *prefix, size_t *count) {
     Turn turn;
     size_t next = 0;
     cedar_match *matches = malloc(LONG_WALK * sizeof *matches);
     if (!matches) return fail_with(CEDAR_MEMORY);
-    int begun = core_ready(core);
-    if (begun == 0) *count = cedar_predictions_from(&core->store.dictionary, prefix->at, prefix->length, &next, matches, LONG_WALK);
+    *count = cedar_predictions_from(&core->store.dictionary, prefix->at, prefix->length, &next, matches, LONG_WALK);
+    int begun = *count < LONG_WALK ? 0 : turn_begin(core, READS, true, &turn);
     if (begun == 0 && *count == LONG_WALK) {
-        begun = turn_begin(core, READS, true, &turn);
-        if (begun == 0) {
-            turn_yield(&turn);
-            *count = cedar_predictions(turn.dictionary, prefix->at, prefix->length, matches, 0);
-            turn_end(&turn);
-        }
+        turn_yield(&turn);
+        *count = cedar_predictions(turn.dictionary, prefix->at, prefix->length, matches, 0);
+        turn_end(&turn);
     }
     free(matches);
     return begun;
+}
+
+/* The same. */
+static int count_below(Core *core, const Span *prefix, size_t *count) {
+    enum { FEW = SIZED(64, 1) };
+    cedar_match few[FEW];
+    size_t next = 0;
+    if (core_ready(core) < 0) return -1;
+    *count = cedar_predictions_from(&core->store.dictionary, prefix->at, prefix->length, &next, few, FEW);
+    return *count < FEW ? 0 : count_many(core, prefix, count);
 }
 
 PyObject *core_count(Core *core, PyObject *given) {
@@ -265,25 +296,6 @@ PyObject *core_longest_prefix(Core *core, PyObject *given) {
         }
     }
     Py_DECREF(text.owner);
-    return pair;
-}
-
-PyObject *core_popitem(Core *core, PyObject *nothing) {
-    (void)nothing;
-    Gathered gathered = {0};
-    PyObject *pair = NULL;
-    int held = 0;
-    /* Where a store waits for the disk, another thread may remove the key first. */
-    while (held == 0) {
-        gathered_free(&gathered);
-        held = -1;
-        if (core_alone(core) < 0) break;
-        if (!gather_first(&core->store.dictionary, &gathered)) fail_with(CEDAR_MEMORY);
-        else if (gathered.count == 0) PyErr_SetString(PyExc_KeyError, "popitem(): dictionary is empty");
-        else held = key_erase(core, gathered.bytes, gathered.size);
-    }
-    if (held > 0) pair = pair_give(key_give(core, gathered.bytes, gathered.size), gathered.found[0].value);
-    gathered_free(&gathered);
     return pair;
 }
 

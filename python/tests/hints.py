@@ -46,7 +46,7 @@ def stores(path: str) -> None:
         store.compaction = None
         store.compact()
         beyond: Optional[Tuple[int, int]] = store.compaction
-        print(pair, beyond, store.file_size + store.compacted_size() + store.last_compaction, store.mode)
+        print(pair, beyond, store.file_size + store.compacted_size() + store.last_compaction + store.records, store.mode)
     reader: Store[bytes] = Store(path, mode="r")
     found: int = reader[b"net"]
     print(found)
@@ -57,7 +57,8 @@ def matches_are_tuples(d: Cedar[str]) -> None:
     place, length, value = match
     first: int = match[0]
     as_tuple: Tuple[int, int, Optional[int]] = match
-    held: bool = 7 in d or None in d.keys("n")
+    other: object = 7
+    held: bool = other in d or other in d.keys("n")
     print(place + length + first + match.place + match.n_fields, value, as_tuple, held)
 
 

@@ -3,6 +3,7 @@
 import copy
 import pickle
 import random
+import sys
 import threading
 import unittest
 from collections.abc import MutableMapping
@@ -89,6 +90,45 @@ class Maps(unittest.TestCase):
             other["b"] = 2
             self.assertEqual(len(d), 1)
         self.assertTrue(d.copy()["a"] is d["a"] and copy.deepcopy(d)["a"] is not d["a"])
+
+    def test_itself_as_a_value(self):
+        d = CedarMap({"a": 1}, text=True)
+        d["me"] = d
+        self.assertEqual(repr(d), "CedarMap({'a': 1, 'me': CedarMap(...)}, text=True)")
+        for other in (copy.deepcopy(d), pickle.loads(pickle.dumps(d))):
+            self.assertTrue(other is not d and other["me"] is other and other["a"] == 1 and len(other) == 2)
+
+    def test_faults_of_many(self):
+        """A call of many pairs says which one has the fault."""
+        for given, error, text in [
+            ([(b"a", 1), (b"", 2)], CedarError, "pair 1: cedar keys must not be empty"),
+            ([(b"a", 1), ("b", 2)], TypeError, "pair 1: a dictionary without text=True takes bytes, and not str"),
+            ([(b"a", 1), 5], TypeError, "pair 1 can't be converted to a sequence"),
+            ([(b"a", 1), (b"b",)], ValueError, "pair 1 has length 1; 2 is required"),
+        ]:
+            d = CedarMap()
+            for call in (CedarMap, d.update):
+                with self.assertRaises(error) as refused:
+                    call(given)
+                self.assertEqual(str(refused.exception), text)
+            self.assertEqual((dict(d), len(d._held[1])), ({b"a": 1}, 1))
+
+    def test_with_other_mappings(self):
+        d = CedarMap({"a": 1, "b": "two"}, text=True)
+        self.assertEqual({"a": 5, "c": None} | d if sys.version_info >= (3, 9) else d.__ror__({"a": 5, "c": None}), {"a": 1, "b": "two", "c": None})
+        self.assertEqual(Cedar({"a": 5}, text=True) | CedarMap({"c": 7}, text=True), {"a": 5, "c": 7})
+        for plain in (Cedar({b"a": 1, b"b": 2}), {b"a": 1, b"b": "two"}):
+            self.assertFalse(plain == d or d == plain)
+        self.assertTrue(Cedar({"a": 1}, text=True) == CedarMap({"a": 1}, text=True) and Cedar() == CedarMap(text=True) == {})
+
+    def test_keys_behind_new_numbers(self):
+        """A view of the keys is one of the mapping, also where all keys have got other numbers meanwhile."""
+        d = CedarMap({b"a": 1})
+        keys, below = d.keys(), d.keys(b"b")
+        d._next = MAX_VALUE + 1
+        d[b"b"] = 2
+        self.assertEqual((list(keys), list(below), len(keys), len(below)), ([b"a", b"b"], [b"b"], 2, 1))
+        self.assertTrue(b"b" in keys and b"a" not in below and 7 not in keys and keys & {b"b"} == {b"b"})
 
     def test_numbers_run_out(self):
         """Then all keys get other numbers, and walks that have begun go on over what there was."""

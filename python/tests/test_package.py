@@ -75,7 +75,7 @@ class Package(unittest.TestCase):
                 (package / path.name).write_bytes(path.read_bytes())
             run = subprocess.run([sys.executable, "-c", "import roskvidh"], cwd=folder, env={"PYTHONPATH": folder}, stderr=subprocess.PIPE, text=True)
         self.assertIn("ImportError: the compiled part of roskvidh is missing", run.stderr)
-        self.assertIn("run ./build-c, and then: pip install ./python", run.stderr)
+        self.assertIn("Install the package by pip, into an environment", run.stderr)
 
     def build(self, folder, **variables):
         """Compiles the extension into a folder, with these variables of the environment and none of the others that say where the library is."""

@@ -8,6 +8,7 @@ import subprocess
 import sys
 import tempfile
 import threading
+import time
 import unittest
 from pathlib import Path
 
@@ -338,6 +339,90 @@ class Stores(unittest.TestCase):
             s[b"c"] = 3
             self.assertEqual((s.waiting, b"b" in s, s[b"c"]), (0, False, 3))
 
+    def test_calls_of_one_moment(self):
+        """Beside another thread's changes, setdefault has one winner, and pop and popitem never take what is there no more."""
+        with Store(self.path) as s:
+            done = []
+
+            def change():
+                while not done:
+                    s[b"other"] = 1
+
+            changes = [threading.Thread(target=change) for _ in range(2)]
+            for thread in changes:
+                thread.start()
+            for _ in range(8):
+                got = self.at_once([lambda n=n: s.setdefault(b"k", n) for n in range(5)])
+                self.assertEqual((len(set(got)), s[b"k"]), (1, got[0]))
+                puts = [lambda n=n: s.__setitem__(b"k", n) for n in range(5, 7)]
+                taken = self.at_once([*puts, lambda: s.pop(b"k", None), lambda: s.popitem()[1]]) + [s.pop(b"k", None)]
+                taken = [value for value in taken if value not in (None, 1)]
+                self.assertEqual(len(taken), len(set(taken)))
+                s.setdefault(b"k", 0), s.pop(b"k")
+            done.append(True)
+            for thread in changes:
+                thread.join()
+
+    def at_once(self, calls):
+        """Makes each call in a thread of its own, and returns what they returned."""
+        start, answers = threading.Barrier(len(calls)), []
+
+        def run(call):
+            start.wait()
+            answers.append(call())
+
+        threads = [threading.Thread(target=run, args=(call,)) for call in calls]
+        for thread in threads:
+            thread.start()
+        for thread in threads:
+            thread.join()
+        return answers
+
+    def test_iterations_beside_changes(self):
+        """An iteration waits for some of another thread's changes, and not for one at each key; within a block it shows the block's own."""
+        with Store(self.path, text=True) as s:
+            s.update((f"k{i:04}", i) for i in range(1000))
+            done, count = [], [0]
+
+            def change():
+                while not done:
+                    count[0] += 1
+                    s["k0500"] = count[0]
+
+            other = threading.Thread(target=change)
+            other.start()
+            try:
+                before = count[0]
+                listed = dict(s.items())
+                self.assertEqual((len(listed), listed["k0999"]), (1000, 999))
+                self.assertGreaterEqual(listed["k0500"], before)
+                self.assertLess(count[0] - before, 300)
+                with s.batch():
+                    s["k0700"] = 7
+                    walk, before = iter(s.items()), count[0]
+                    while count[0] < before + 3:
+                        time.sleep(0.001)
+                    self.assertEqual((dict(walk)["k0700"], dict(s.items())["k0700"], s["k0700"]), (7, 7, 7))
+            finally:
+                done.append(True)
+                other.join()
+
+    def test_faults_of_many(self):
+        """A call of many pairs or keys says which one has the fault, and changes nothing."""
+        with Store(self.path) as s:
+            for call, given, error, text in [
+                (s.update, [(b"a", 1), (b"", 2)], CedarError, "pair 1: cedar keys must not be empty"),
+                (s.update, {b"a": 1, b"b": -1}, CedarError, "pair 1: cedar value is outside the supported range 0..=2147483645"),
+                (s.update, [(b"a", 1), ("b", 2)], TypeError, "pair 1: a dictionary without text=True takes bytes, and not str"),
+                (s.update, [(b"a", 1), 5], TypeError, "pair 1 can't be converted to a sequence"),
+                (s.update, [(b"a", 1, 2)], ValueError, "pair 0 has length 3; 2 is required"),
+                (s.erase_all, [b"x", 5], TypeError, "key 1: a dictionary takes bytes, and not int"),
+            ]:
+                s[b"x"] = 1
+                with self.assertRaises(error) as refused:
+                    call(given)
+                self.assertEqual((str(refused.exception), dict(s)), (text, {b"x": 1}))
+
     def test_a_block_without_room(self):
         run = subprocess.run([sys.executable, "-c", BLOCK_LACKS_ROOM, str(self.path)], stdout=subprocess.PIPE, text=True, check=True)
         self.assertEqual(run.stdout, "False 1\n")
@@ -347,21 +432,25 @@ class Stores(unittest.TestCase):
     def test_compacted(self):
         with Store(self.path, sync_every=50) as s:
             self.assertEqual((s.compaction, s.last_compaction, s.file_size), ((2, 65536), 0, self.path.stat().st_size))
+            self.assertEqual(s.records, 0)
             for number in range(8000):
                 s[b"counter"] = number
                 self.assertLess(s.file_size, 70000)
             self.assertEqual((dict(s), s.last_compaction), ({b"counter": 7999}, 0))
+            self.assertLess(s.records, 8000 // 50)
             s[b"net"] = 7
             shorter = s.compacted_size()
             with Store(self.path, mode="r") as reader:
                 s.compact()
-                self.assertEqual((s.waiting, s.file_size, self.path.stat().st_size), (0, shorter, shorter))
+                self.assertEqual((s.waiting, s.file_size, self.path.stat().st_size, s.records), (0, shorter, shorter, 1))
                 self.assertEqual(len(reader), 1)
+                self.assertGreater(reader.records, 1)
                 self.refused(48, reader.compact)
             s.compaction = None
             for number in range(8000):
                 s[b"counter"] = number
             self.assertGreater(self.path.stat().st_size, 8000 * 17)
+            self.assertEqual(s.records, 1 + 8000 // 50)
             beside = self.path.with_name(self.path.name + ".cedar-compaction")
             beside.mkdir()
             with self.assertRaises(FileExistsError):
@@ -375,9 +464,12 @@ class Stores(unittest.TestCase):
                 with self.assertRaises(ValueError):
                     s.compaction = wrong
         with Store(self.path) as s:
+            self.assertEqual(s.records, 2 + 8000 // 50)
             s.compact()
-            self.assertEqual(dict(s), {b"counter": 7999, b"net": 7, b"nets": 8})
-        for call in (s.compact, s.compacted_size, lambda: s.file_size):
+            self.assertEqual((dict(s), s.records), ({b"counter": 7999, b"net": 7, b"nets": 8}, 1))
+            s.update({b"a": 1, b"b": 2})
+            self.assertEqual(s.records, 2)
+        for call in (s.compact, s.compacted_size, lambda: s.file_size, lambda: s.records):
             with self.assertRaises(ValueError):
                 call()
 
@@ -436,19 +528,20 @@ class Stores(unittest.TestCase):
         data = bytearray(self.path.read_bytes())
         data[end] = 0
         names = [f"{os.path.realpath(self.path)}{middle}.cut" for middle in ["", *(f".{number}" for number in range(1, 100))]]
-        for text, name in zip([False, True], names):
+        # The same bytes are kept once.
+        for text in [False, True]:
             self.path.write_bytes(data)
             with Store(self.path, mode="r", text=text) as s:
-                self.assertEqual((len(s), s.kept, os.path.exists(name)), (1, None, False))
+                self.assertEqual((len(s), s.kept, os.path.exists(names[0])), (1, None, text))
             with Store(self.path, text=text) as s:
-                self.assertEqual((len(s), s.kept), (1, name))
-            self.assertEqual(Path(name).read_bytes(), data[:13] + data[end:])
+                self.assertEqual((len(s), s.kept, os.path.exists(names[1])), (1, names[0], False))
+            self.assertEqual(Path(names[0]).read_bytes(), data[:13] + data[end:])
             with Store(self.path) as s:
                 self.assertEqual((dict(s), s.kept), ({b"net": 7}, None))
         with self.assertRaises(ValueError):
             s.kept
-        for name in names[2:]:
-            Path(name).touch()
+        for name in names:
+            Path(name).write_bytes(b"")
         self.path.write_bytes(data)
         with self.assertRaises(FileExistsError):
             Store(self.path)

@@ -180,16 +180,21 @@ class Threads(unittest.TestCase):
 
     def test_a_short_call_beside_a_long_one_that_reads(self):
         """Look-ups, and scans of short texts and of long ones, end before a longer scan does; a change comes behind it."""
-        cedar, done = Cedar({b"ab": 1}), []
-        scan = threading.Thread(target=lambda: done.append(len(cedar.scan(b"ab" * 8_000_000))))
-        scan.start()
-        time.sleep(0.02)
-        self.assertEqual((cedar[b"ab"], list(cedar.items(b"a"))), (1, [(b"ab", 1)]))
-        self.assertEqual((len(cedar.scan(b"ab" * 10)), len(cedar.scan(b"ab" * 5000))), (10, 5000))
-        self.assertEqual(done, [])
-        cedar[b"b"] = 2
-        scan.join()
-        self.assertEqual((done, len(cedar)), ([8_000_000], 2))
+        text = b"ab" * 8_000_000
+        for _ in range(10):  # on a busy machine the scan may begin too late
+            cedar, done = Cedar({b"ab": 1}), []
+            scan = threading.Thread(target=lambda cedar=cedar, done=done: done.append(len(cedar.scan(text))))
+            scan.start()
+            time.sleep(0.02)
+            self.assertEqual((cedar[b"ab"], list(cedar.items(b"a"))), (1, [(b"ab", 1)]))
+            self.assertEqual((len(cedar.scan(b"ab" * 10)), len(cedar.scan(b"ab" * 5000))), (10, 5000))
+            before = list(done)
+            cedar[b"b"] = 2
+            scan.join()
+            self.assertEqual(len(cedar), 2)
+            if (before, done) == ([], [8_000_000]):
+                return
+        self.fail("no short call ended before the scan, or no change came behind it")
 
     def test_no_lock_step(self):
         """Threads of look-ups and of changes are as fast behind long calls as before them."""
@@ -235,21 +240,24 @@ class Threads(unittest.TestCase):
             while not done:
                 pass
 
+        def took():
+            start = time.monotonic()
+            for _ in range(4):
+                cedar.update(pairs)
+                cedar.erase_all([key for key, _ in pairs])
+                cedar.scan(text)
+                cedar.segment(text)
+                len(cedar.keys(b"1"))
+                list(cedar.items(b"1"))
+                cedar.copy()
+            return time.monotonic() - start
+
         worker = threading.Thread(target=work)
         worker.start()
-        start = time.monotonic()
-        for _ in range(4):
-            cedar.update(pairs)
-            cedar.erase_all([key for key, _ in pairs])
-            cedar.scan(text)
-            cedar.segment(text)
-            len(cedar.keys(b"1"))
-            list(cedar.items(b"1"))
-            cedar.copy()
-        took = time.monotonic() - start
+        least = min(took() for _ in range(5))  # a busy machine takes the processor away too
         done.append(True)
         worker.join()
-        self.assertLess(took, 1)
+        self.assertLess(least, 1)
 
     @unittest.skipUnless(hasattr(os, "fork"), "no fork")
     def test_a_forked_child_waits_for_nobody(self):
@@ -347,6 +355,9 @@ class Signals(unittest.TestCase):
             self.interrupts(lambda call=call: call(text))
         self.assertEqual((self.cedar[b"ab"], len(self.cedar.scan(b"abab"))), (1, 2))
         self.interrupts(lambda: Cedar.load(self.cedar.to_bytes()).scan(text))
+        # Of a file that was loaded nobody knows at first how long a key is that all places of a text may begin.
+        long = Cedar.load(Cedar({b"a" * 2000 + b"b": 1}).to_bytes())
+        self.assertLess(self.interrupts(lambda: [long.scan(b"a" * 2_000_000) for _ in range(100)]), 5)
 
     def test_lists(self):
         pairs = [(b"%d" % (i % 1000), i) for i in range(1000)] * 10_000
@@ -394,6 +405,52 @@ class Signals(unittest.TestCase):
         self.cedar[b"d"] = 1
         self.assertEqual(self.cedar[b"d"], 1)
 
+    def test_a_handler_beside_a_wait(self):
+        """Whatever it calls while its thread waits for another thread's scan, both end: the handler's call first."""
+        many, text = [(b"%d" % i, i) for i in range(300)], b"ab" * 3_000_000
+        calls = [
+            lambda d: d.__setitem__(b"c", 1),
+            lambda d: d.update(many),
+            lambda d: d.scan(b"ab" * 5000),
+            lambda d: d.get(b"ab"),
+        ]
+        for within in calls:
+            for outer in calls[:2]:
+                d, done = Cedar({b"ab": 1}), []
+                signal.signal(signal.SIGALRM, lambda *_, d=d, done=done, within=within: done.append(within(d)))
+                scan = threading.Thread(target=d.scan, args=(text,))
+                scan.start()
+                time.sleep(0.01)
+                signal.setitimer(signal.ITIMER_REAL, 0.01)
+                outer(d)
+                scan.join()
+                while not done:
+                    time.sleep(0.01)
+                self.assertEqual((len(done), d[b"ab"]), (1, 1))
+
+    @unittest.skipUnless(hasattr(os, "fork"), "no fork")
+    def test_a_handler_that_forks_beside_a_wait(self):
+        """The child has no other thread, and waits no more."""
+        d, children, waits, is_right = Cedar({b"ab": 1}), [], [True], False
+        with warnings.catch_warnings():
+            warnings.simplefilter("ignore")  # Python warns of forks beside threads
+            signal.signal(signal.SIGALRM, lambda *_: waits and children.append(os.fork()))
+            scan = threading.Thread(target=d.scan, args=(b"ab" * 10_000_000,))
+            scan.start()
+            time.sleep(0.02)
+            signal.setitimer(signal.ITIMER_REAL, 0.02)
+            try:
+                d[b"c"] = 1
+                is_right = len(d) == 2
+            finally:
+                waits.clear()
+                if children == [0]:
+                    os._exit(0 if is_right else 1)
+        scan.join()
+        for child in children:  # there is none if the scan ended before the signal
+            self.assertEqual(os.waitpid(child, 0)[1], 0)
+        self.assertTrue(is_right)
+
     def test_a_handler_that_calls_the_dictionary(self):
         """It reads within its own thread's call that reads. What would wait for that call is refused."""
         answers = []
@@ -406,7 +463,7 @@ class Signals(unittest.TestCase):
                     answers.append(str(error))
 
         d, text = self.cedar, b"ab c" * 40_000_000
-        refusal = "a signal handler has called a dictionary within a call of its own thread"
+        refusal = "a signal handler or a finalizer has called a dictionary within a call of its own thread"
         self.interrupts(lambda: d.scan(text), lambda: look(lambda: d[b"ab"], lambda: len(d.scan(b"ab" * 5000)), lambda: d.pop(b"ab")))
         self.assertEqual(answers, [1, 5000, refusal])
         d[b"c"] = 5

@@ -90,20 +90,21 @@ static void check_order(bool is_reduced) {
     open_new(&s, is_reduced);
     cedar_change first[] = {put("net", 7), put("ten", 1), put("nets", 8), put("ten", 2), erasure("nets"), erasure("nor"), put("a", 3)};
     begin(NONE, 0);
-    CHECK(cedar_store_apply(&s, first, 7, NULL, NULL) == CEDAR_OK && strcmp(calls, "wsws") == 0);
+    CHECK(cedar_store_apply(&s, first, 7, NULL, NULL) == CEDAR_OK && strcmp(calls, "wsws") == 0 && cedar_store_records(&s) == 1);
     CHECK(count(&s) == 3 && at(&s, "net") == 7 && at(&s, "ten") == 2 && at(&s, "a") == 3);
     cedar_change second[] = {erasure("net"), put("net", 9), put("b", 4), erasure("b"), erasure("a")};
     CHECK(cedar_store_sync_every(&s, 0) == CEDAR_OK && cedar_store_update(&s, bytes("w"), 1, 5, NULL) == CEDAR_OK);
     begin(NONE, 0);
     CHECK(cedar_store_apply(&s, second, 5, NULL, NULL) == CEDAR_OK && strcmp(calls, "wswswsws") == 0 && cedar_store_waiting(&s) == 0);
-    CHECK(count(&s) == 3 && at(&s, "net") == 9 && at(&s, "ten") == 2 && at(&s, "w") == 5);
+    CHECK(count(&s) == 3 && at(&s, "net") == 9 && at(&s, "ten") == 2 && at(&s, "w") == 5 && cedar_store_records(&s) == 3);
     begin(NONE, 0);
     cedar_change nothing[] = {erasure("b"), erasure(""), {bytes("n\0t"), 3, -1, true}};
     CHECK(cedar_store_apply(&s, nothing, 3, NULL, NULL) == CEDAR_OK && cedar_store_apply(&s, NULL, 0, NULL, NULL) == CEDAR_OK);
-    CHECK(strcmp(calls, "") == 0);
+    CHECK(strcmp(calls, "") == 0 && cedar_store_records(&s) == 3);
     CHECK(cedar_store_update(&s, bytes("v"), 1, 6, NULL) == CEDAR_OK && cedar_store_waiting(&s) == 1);
     cedar_store_close(&s);
     CHECK(cedar_store_open(&s, path) == CEDAR_OK && count(&s) == 4 && at(&s, "net") == 9 && at(&s, "w") == 5 && at(&s, "v") == 6);
+    CHECK(cedar_store_records(&s) == 4);
     cedar_store_close(&s);
 }
 
@@ -128,7 +129,7 @@ static void check_refused(void) {
         refused = position = 99;
         CHECK(cedar_store_apply(&s, changes, 4, &refused, &position) == faults[i].status && refused == 2 && position == faults[i].position);
         CHECK(cedar_store_apply(&s, changes, 4, NULL, NULL) == faults[i].status);
-        CHECK(count(&s) == 2 && at(&s, "net") == 7 && at(&s, "nets") == 8);
+        CHECK(count(&s) == 2 && at(&s, "net") == 7 && at(&s, "nets") == 8 && cedar_store_records(&s) == 2);
         CHECK(read_file(now) == length && memcmp(now, before, length) == 0);
     }
     CHECK(cedar_store_open_to_read(&s, path) == CEDAR_OK && cedar_store_apply(&s, changes, 1, NULL, NULL) == CEDAR_STORE_READ_ONLY);
@@ -192,6 +193,7 @@ static bool check_memory(long step) {
     bool came = end();
     CHECK(status == CEDAR_OK || (came && status == CEDAR_MEMORY));
     CHECK(status == CEDAR_OK ? has_all(&s) : has_none(&s, true));
+    CHECK(cedar_store_records(&s) == (status == CEDAR_OK ? 4 : 3));
     CHECK(!cedar_store_failed(&s) && apply_some(&s, NULL) == CEDAR_OK && has_all(&s));
     CHECK(cedar_store_open(&s, path) == CEDAR_OK && has_all(&s));
     cedar_store_close(&s);

@@ -12,7 +12,7 @@
 #include <sys/wait.h>
 #include <unistd.h>
 
-enum { LAST_STEP = 200, KEYS = 700, LONG_KEY = 1 << 20, COUNTS = 20000 };
+enum { LAST_STEP = 200, KEYS = 700, LONG_KEY = 1 << 20, COUNTS = 20000, SOME_RECORDS = 11 };
 
 enum fault { NONE, FAILS, ENDS_THE_PROCESS, LACKS_MEMORY };
 
@@ -114,7 +114,7 @@ static void open_new(cedar_store *s, bool is_reduced) {
     CHECK((is_reduced ? cedar_store_open_reduced : cedar_store_open)(s, path) == CEDAR_OK);
 }
 
-/* Two keys, one of which has had many values, and one that waits. */
+/* Two keys, one of which has had many values: SOME_RECORDS records. */
 static void open_some(cedar_store *s) {
     open_new(s, false);
     CHECK(update(s, "nets", 8) == CEDAR_OK && update(s, "x", 1) == CEDAR_OK && cedar_store_erase(s, bytes("x"), 1, NULL) == CEDAR_OK);
@@ -130,28 +130,32 @@ static void check_short(bool is_reduced) {
     size_t length = 0, before;
     CHECK(cedar_store_compact(&s) == CEDAR_IS_CLOSED && cedar_store_compacted_len(&s, &length) == CEDAR_IS_CLOSED && length == 0);
     CHECK(cedar_store_compact_beyond(&s, 2, 0) == CEDAR_IS_CLOSED && cedar_store_file_len(&s) == 0);
-    CHECK(cedar_store_last_compaction(&s) == CEDAR_OK);
+    CHECK(cedar_store_last_compaction(&s) == CEDAR_OK && cedar_store_records(&s) == 0);
     open_new(&s, is_reduced);
     CHECK(cedar_store_compact(&s) == CEDAR_OK && cedar_store_file_len(&s) == size_of(path) && count(&s) == 0);
+    CHECK(cedar_store_records(&s) == 0);
     CHECK(cedar_store_compacted_len(&s, &length) == CEDAR_OK && length == size_of(path));
     CHECK(cedar_store_sync_every(&s, 0) == CEDAR_OK);
     for (int32_t i = 0; i < 2 * KEYS; i++) {
         CHECK(snprintf(key, sizeof key, "k%d", i % KEYS) > 0 && update(&s, key, i) == CEDAR_OK);
     }
-    CHECK(cedar_store_sync(&s) == CEDAR_OK && update(&s, "waits", 5) == CEDAR_OK && cedar_store_waiting(&s) == 1);
+    CHECK(cedar_store_sync(&s) == CEDAR_OK && update(&s, "first", 4) == CEDAR_OK && cedar_store_sync(&s) == CEDAR_OK);
+    CHECK(update(&s, "waits", 5) == CEDAR_OK && cedar_store_waiting(&s) == 1 && cedar_store_records(&s) == 2);
     before = size_of(path);
     CHECK(cedar_store_compacted_len(&s, &length) == CEDAR_OK && cedar_store_file_len(&s) == before && length < before * 2 / 3);
-    CHECK(chmod(path, 0640) == 0 && cedar_store_open_to_read(&two, path) == CEDAR_OK && count(&two) == KEYS);
+    CHECK(chmod(path, 0640) == 0 && cedar_store_open_to_read(&two, path) == CEDAR_OK && count(&two) == KEYS + 1);
     begin(NONE, 0);
     CHECK(cedar_store_compact(&s) == CEDAR_OK && strcmp(calls, "olmcswswswswswsSrS") == 0 && cedar_store_waiting(&s) == 0);
     CHECK(size_of(path) == length && cedar_store_file_len(&s) == length && !is_there(beside));
+    CHECK(cedar_store_records(&s) == 1 && cedar_store_records(&two) == 2);
     struct stat found;
     CHECK(stat(path, &found) == 0 && (found.st_mode & 07777) == 0640);
-    CHECK(cedar_store_compact(&two) == CEDAR_STORE_READ_ONLY && count(&two) == KEYS && at(&two, "waits") == -1);
+    CHECK(cedar_store_compact(&two) == CEDAR_STORE_READ_ONLY && count(&two) == KEYS + 1 && at(&two, "waits") == -1);
     CHECK(cedar_store_open(&two, path) == CEDAR_STORE_LOCKED);
     CHECK(cedar_store_sync_every(&s, 1) == CEDAR_OK && update(&s, "later", 6) == CEDAR_OK && size_of(path) > length);
     cedar_store_close(&s);
-    CHECK(cedar_store_open(&s, path) == CEDAR_OK && count(&s) == KEYS + 2 && at(&s, "waits") == 5 && at(&s, "later") == 6);
+    CHECK(cedar_store_open(&s, path) == CEDAR_OK && count(&s) == KEYS + 3 && at(&s, "waits") == 5 && at(&s, "later") == 6);
+    CHECK(cedar_store_records(&s) == 2);
     for (int32_t i = 0; i < KEYS; i++) CHECK(snprintf(key, sizeof key, "k%d", i) > 0 && at(&s, key) == i + KEYS);
     cedar_store_close(&s);
 }
@@ -168,8 +172,11 @@ static void check_long(void) {
         key[LONG_KEY - 1] = (uint8_t)(1 + i);
         CHECK(cedar_store_update(&s, key, LONG_KEY - (size_t)(i == 3), i, NULL) == CEDAR_OK);
     }
+    CHECK(cedar_store_records(&s) == LONG_KEYS);
     CHECK(cedar_store_compacted_len(&s, &length) == CEDAR_OK && cedar_store_compact(&s) == CEDAR_OK && size_of(path) == length);
+    CHECK(cedar_store_records(&s) == 2);
     CHECK(cedar_store_open(&s, path) == CEDAR_OK && count(&s) == LONG_KEYS && cedar_store_file_len(&s) == length);
+    CHECK(cedar_store_records(&s) == 2);
     cedar_store_close(&s);
 }
 
@@ -180,10 +187,12 @@ static void check_by_itself(void) {
     CHECK(cedar_store_sync_every(&s, 100) == CEDAR_OK);
     for (int32_t i = 0; i < COUNTS; i++) CHECK(update(&s, "counter", i) == CEDAR_OK && cedar_store_file_len(&s) < (1 << 16) + 4096);
     CHECK(at(&s, "counter") == COUNTS - 1 && cedar_store_last_compaction(&s) == CEDAR_OK && size_of(path) == cedar_store_file_len(&s));
+    size_t records = cedar_store_records(&s);
     CHECK(cedar_store_open(&s, path) == CEDAR_OK && count(&s) == 1 && at(&s, "counter") == COUNTS - 1);
+    CHECK(cedar_store_records(&s) == records && records < COUNTS / 400);
     CHECK(cedar_store_compact_beyond(&s, 0, 0) == CEDAR_OK && cedar_store_sync_every(&s, 100) == CEDAR_OK);
     for (int32_t i = 0; i < COUNTS; i++) CHECK(update(&s, "counter", i) == CEDAR_OK);
-    CHECK(size_of(path) > COUNTS * 17);
+    CHECK(size_of(path) > COUNTS * 17 && cedar_store_records(&s) == records + COUNTS / 100);
     /* One that is kept is no error of the change, and is told. */
     CHECK(mkdir(beside, 0700) == 0 && cedar_store_compact_beyond(&s, 3, 0) == CEDAR_OK);
     CHECK(cedar_store_compact(&s) == CEDAR_STORE_KEPT && errno == EEXIST && cedar_store_last_compaction(&s) == CEDAR_STORE_KEPT);
@@ -202,8 +211,9 @@ static void check_failed(void) {
         begin(FAILS, step);
         CHECK(update(&s, "ten", 9) == CEDAR_STORE_DEVICE && errno == EIO && end() && cedar_store_failed(&s));
         CHECK(update(&s, "a", 1) == CEDAR_STORE_FAILED && cedar_store_sync(&s) == CEDAR_STORE_FAILED);
-        CHECK(cedar_store_compact(&s) == CEDAR_OK && !cedar_store_failed(&s) && at(&s, "ten") == 9);
-        CHECK(update(&s, "b", 2) == CEDAR_OK);
+        CHECK(cedar_store_records(&s) == SOME_RECORDS);
+        CHECK(cedar_store_compact(&s) == CEDAR_OK && !cedar_store_failed(&s) && at(&s, "ten") == 9 && cedar_store_records(&s) == 1);
+        CHECK(update(&s, "b", 2) == CEDAR_OK && cedar_store_records(&s) == 2);
         cedar_store_close(&s);
         CHECK(cedar_store_open(&s, path) == CEDAR_OK && count(&s) == 4 && at(&s, "ten") == 9 && at(&s, "b") == 2);
         cedar_store_close(&s);
@@ -229,9 +239,10 @@ static bool check_fault(long step, bool has_failed) {
         CHECK(update(&s, "a", 1) == CEDAR_STORE_FAILED && cedar_store_compact(&s) == CEDAR_STORE_FAILED && count(&s) == 2);
     } else if (status == CEDAR_STORE_KEPT) {
         CHECK(came && cause == EIO && !is_named && cedar_store_failed(&s) == has_failed && size_of(path) == length);
+        CHECK(cedar_store_records(&s) == SOME_RECORDS);
         CHECK(cedar_store_compact(&s) == CEDAR_OK && !cedar_store_failed(&s));
     } else {
-        CHECK(!came && status == CEDAR_OK && !cedar_store_failed(&s));
+        CHECK(!came && status == CEDAR_OK && !cedar_store_failed(&s) && cedar_store_records(&s) == 1);
     }
     if (status != CEDAR_STORE_DEVICE) CHECK(update(&s, "net", 7) == CEDAR_OK);
     CHECK(cedar_store_open(&s, path) == CEDAR_OK && has_some(&s));

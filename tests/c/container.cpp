@@ -38,11 +38,18 @@ bool is_out_of_range(const std::function<void()> &call) {
     return false;
 }
 
+using roskvidh::any_integer;
 enum Unscoped { seven = 7 };
+enum Narrow : unsigned char { most_narrow = 255 };
+enum Wide : std::uint64_t { too_wide = (std::uint64_t{1} << 32) + 1 };
+enum Signed { below_zero = -1 };
 enum class Scoped { seven = 7 };
-static_assert(std::is_convertible_v<Unscoped, roskvidh::any_integer> && !std::is_convertible_v<Scoped, roskvidh::any_integer>);
-static_assert(!std::is_convertible_v<double, roskvidh::any_integer> && !std::is_convertible_v<const char *, roskvidh::any_integer>);
-static_assert(roskvidh::any_integer(7u).get() == 7 && roskvidh::any_integer(std::uint64_t{1} << 32).get() < 0);
+static_assert(std::is_convertible_v<Unscoped, any_integer> && !std::is_convertible_v<Scoped, any_integer>);
+static_assert(!std::is_convertible_v<double, any_integer> && !std::is_convertible_v<float, any_integer>);
+static_assert(!std::is_convertible_v<const char *, any_integer> && !std::is_convertible_v<std::nullptr_t, any_integer>);
+static_assert(any_integer(7u).get() == 7 && any_integer(std::uint64_t{1} << 32).get() < 0 && any_integer(true).get() == 1);
+static_assert(any_integer(most_narrow).get() == 255 && any_integer(too_wide).get() < 0 && any_integer(below_zero).get() < 0);
+static_assert(any_integer(CEDAR_MAX_VALUE + 1u).get() < 0 && any_integer(-1LL).get() < 0 && any_integer(~std::uint64_t{0}).get() < 0);
 
 // A type of integers: its largest and smallest number, and those beside the ends of the range that it has.
 template <class Integer>
@@ -86,7 +93,24 @@ void each_integer() {
     integers<long long>();
     integers<unsigned long long>();
     integers<std::size_t>();
+    integers<bool>();
+    integers<wchar_t>();
+    integers<char16_t>();
+    integers<char32_t>();
+#if defined(__SIZEOF_INT128__) && !defined(__STRICT_ANSI__) // in strict C++ they are no integers, and aren't compiled
+    __extension__ using Widest = __int128;
+    __extension__ using WidestUnsigned = unsigned __int128;
+    integers<Widest>();
+    integers<WidestUnsigned>();
+#endif
+    struct Bits {
+        unsigned narrow : 3;
+        long long wide : 40;
+    };
+    const Bits bits = {5, 4294967297};
     dictionary d;
+    d.update("bits", bits.narrow);
+    CHECK(d.get("bits") == 5 && is_out_of_range([&] { d.update("bits", bits.wide); }));
     d.update("seven", seven);
     CHECK(d.get("seven") == 7 && is_out_of_range([&] { d.update("cut", 4294967297LL); }) && !d.contains("cut"));
 }

@@ -190,11 +190,13 @@ static void check_names(void) {
     CHECK(file != NULL && fclose(file) == 0 && symlink("nothing", name_of(1)) == 0 && mkdir(name_of(2), 0700) == 0);
     CHECK(cedar_store_open(&s, path) == CEDAR_OK && count(&s) == 1 && keeps(&s, name_of(3)));
     cedar_store_close(&s);
+    /* The same bytes are kept once. */
+    write_file(before, length);
+    CHECK(cedar_store_open(&s, path) == CEDAR_OK && count(&s) == 1 && keeps(&s, name_of(3)) && !is_there(name_of(4)));
+    cedar_store_close(&s);
     CHECK(stat(name_of(0), &about) == 0 && about.st_size == 0 && lstat(name_of(1), &about) == 0 && S_ISLNK(about.st_mode));
     CHECK(!is_there("nothing") && rmdir(name_of(2)) == 0);
-    for (int number = 2; number < NAMES; number++) {
-        if (number != 3) CHECK((file = fopen(name_of(number), "wb")) != NULL && fclose(file) == 0);
-    }
+    for (int number = 2; number < NAMES; number++) CHECK((file = fopen(name_of(number), "wb")) != NULL && fclose(file) == 0);
     write_file(before, length);
     CHECK(cedar_store_open(&s, path) == CEDAR_STORE_DEVICE && errno == EEXIST && s.file == NULL && is_as_before());
     CHECK(!is_there(name_of(NAMES)) && cedar_store_open_to_read(&s, path) == CEDAR_OK && count(&s) == 1);
@@ -253,6 +255,7 @@ static bool check_fault(enum fault which, long step, bool *was_left) {
     bool is_whole = is_as_before();
     CHECK(cedar_store_open(&s, path) == CEDAR_OK && count(&s) == 1);
     CHECK(!is_whole || keeps(&s, name_of(is_there(name_of(1)) ? 1 : 0)));
+    CHECK(!is_kept || !is_there(name_of(1)));
     cedar_store_close(&s);
     return came;
 }

@@ -171,7 +171,7 @@ static void check_at_rest(void) {
         CHECK(file != NULL && fwrite("rest", 1, rest, file) == rest && fclose(file) == 0);
         CHECK(utimensat(AT_FDCWD, path, long_ago, 0) == 0);
         changes = 0;
-        CHECK(cedar_store_open(&s, path) == CEDAR_OK && count(&s) == 1 && (changes != 0) == is_torn);
+        CHECK(cedar_store_open(&s, path) == CEDAR_OK && count(&s) == 1 && (changes != 0) == is_torn && cedar_store_records(&s) == 1);
         CHECK(stat(path, &found) == 0 && (found.st_mtime != 1000) == is_torn && is_as_before(path, before, length));
         CHECK(update(&s, "nets", 8) == CEDAR_OK);
         cedar_store_close(&s);
@@ -275,8 +275,9 @@ static void check_read(void) {
     CHECK(cedar_store_sync(&reader) == CEDAR_OK && cedar_store_waiting(&reader) == 0 && count(&reader) == 1);
     CHECK(writes == 0 && is_as_before(path, before, length));
     CHECK(cedar_store_sync(&writer) == CEDAR_OK && count(&reader) == 1);
+    CHECK(cedar_store_records(&reader) == 1 && cedar_store_records(&writer) == 2);
     CHECK(cedar_store_open_with(&reader, path, CEDAR_OPEN_TO_READ | CEDAR_OPEN_REDUCED) == CEDAR_OK && at(&reader, "nets") == 8);
-    CHECK(cedar_is_reduced(cedar_store_dictionary(&reader)));
+    CHECK(cedar_is_reduced(cedar_store_dictionary(&reader)) && cedar_store_records(&reader) == 2);
     cedar_store_close(&writer);
     /* A reader keeps nobody from writing. */
     CHECK(chmod(path, 0444) == 0 && cedar_store_open_to_read(&reader, path) == CEDAR_OK && chmod(path, 0644) == 0);
@@ -298,7 +299,7 @@ static void check_read_files(void) {
     for (size_t i = 0; i < sizeof files / sizeof *files; i++) {
         FILE *file = fopen(path, "wb");
         CHECK(file != NULL && fwrite(files[i].data, 1, files[i].length, file) == files[i].length && fclose(file) == 0);
-        CHECK(cedar_store_open_to_read(&s, path) == files[i].status && count(&s) == files[i].keys);
+        CHECK(cedar_store_open_to_read(&s, path) == files[i].status && count(&s) == files[i].keys && cedar_store_records(&s) == files[i].keys);
         CHECK(is_as_before(path, bytes(files[i].data), files[i].length));
     }
     cedar_store_close(&s);

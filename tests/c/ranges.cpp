@@ -60,6 +60,12 @@ using Iterator = roskvidh::entry_iterator;
 static_assert(std::is_nothrow_move_constructible_v<roskvidh::entries> && std::is_copy_constructible_v<roskvidh::entries>);
 static_assert(std::is_nothrow_move_constructible_v<Iterator> && std::is_nothrow_copy_constructible_v<Iterator>);
 static_assert(std::is_convertible_v<entry, std::pair<std::string, long>> && !std::is_convertible_v<entry, std::pair<std::string, short>>);
+// A range of a temporary dictionary would read it once it is gone: it isn't compiled.
+template <class Dictionary, class = void>
+constexpr bool has_entries = false;
+template <class Dictionary>
+constexpr bool has_entries<Dictionary, std::void_t<decltype(std::declval<Dictionary>().entries())>> = true;
+static_assert(has_entries<dictionary &> && has_entries<const dictionary &> && !has_entries<dictionary> && !has_entries<const dictionary>);
 #if __cplusplus >= 202002L && defined(__cpp_lib_ranges)
 static_assert(std::forward_iterator<Iterator> && std::ranges::forward_range<roskvidh::entries>);
 #endif
@@ -150,6 +156,68 @@ void changes_meanwhile(layout kind) {
     CHECK(d.size() == 1);
 }
 
+std::string short_key() {
+    std::string key(1 + next_random() % 3, 'a');
+    for (char &letter : key) letter = "abc\x01\x7f\x80\xff"[next_random() % 7];
+    return key + std::string(next_random() % 40 == 0 ? 300 : 0, '~');
+}
+
+// Changes at random between two steps: the keys that are shown ascend, each had its value, and one that stays all the while is shown.
+void changes_at_random(layout kind) {
+    for (int round = 0; round < 60; ++round) {
+        dictionary d(kind);
+        Plain plain;
+        std::map<std::string, std::set<std::int32_t>> values;
+        std::set<std::string> stays;
+        const auto change = [&](std::int32_t value) {
+            const std::string key = short_key();
+            if (next_random() % 3 == 0) {
+                CHECK(d.erase(key) == (plain.erase(key) == 1));
+                stays.erase(key);
+            } else {
+                d.update(key, value);
+                plain[key] = value;
+                values[key].insert(value);
+            }
+        };
+        for (int i = 0; i < 300; ++i) change(i);
+        const std::string from = round % 3 == 0 ? "" : short_key(), to = round % 3 == 2 ? short_key() : "\xff\xff\xff\xff";
+        for (auto at = plain.lower_bound(from); at != plain.end() && at->first < to; ++at) stays.insert(at->first);
+        const roskvidh::entries range = d.range(from, to);
+        Pairs shown;
+        for (const auto &[key, value] : range) {
+            CHECK(from <= key && key < to && (shown.empty() || shown.back().first < key));
+            CHECK(values.at(std::string(key)).count(value) == 1);
+            stays.erase(std::string(key));
+            shown.emplace_back(key, value);
+            for (int i = static_cast<int>(next_random() % 4); i > 0; --i) change(1000 + i);
+        }
+        CHECK(stays.empty() && listed(range) == shown && listed(d.entries()) == Pairs(plain.begin(), plain.end()));
+    }
+}
+
+// A dictionary that is assigned to or swapped: what was shown stays, and the next page is of what it holds then.
+void another_content(layout kind) {
+    const auto filled = [kind](bool ordered) {
+        dictionary d(kind, ordered);
+        d.update_all(numbered(1000));
+        return d;
+    };
+    dictionary d = filled(true), other(kind);
+    const roskvidh::entries range = d.entries();
+    auto at = range.begin();
+    other.update_all({{"1", 1}, {"9", 9}});
+    swap(d, other);
+    std::size_t of_the_first = 0;
+    for (; at->key != "9"; ++at) of_the_first++;
+    CHECK(of_the_first > 1 && of_the_first < 1000 && at->value == 9 && ++at == range.end() && listed(range).size() == of_the_first + 1);
+    d = filled(true);
+    auto last = d.begin();
+    d = filled(false);
+    refused(CEDAR_NOT_ASCENDING, [&] { for (;;) ++last; });
+    CHECK(last->key >= "1000");
+}
+
 // Copies of an iterator go on by themselves, and a range stays what it was when it is copied or moved.
 void copies() {
     dictionary d;
@@ -222,6 +290,21 @@ void many_pages() {
     CHECK(d.count_prefix("z") == 2 && listed(d.entries_with_prefix("z")) == Pairs({{long_key, 1}, {long_key + "z", 2}}));
 }
 
+// How many allocations of C++ a call needs: with fewer it throws, and leaves nothing behind.
+long needed(const std::function<void()> &call) {
+    for (long most = 0;; ++most) {
+        CHECK(most < 20);
+        left = most;
+        try {
+            call();
+            left = -1;
+            return most;
+        } catch (const std::bad_alloc &) {
+            left = -1;
+        }
+    }
+}
+
 // A page that can't be taken: the iterator stays where it was.
 void refusals() {
     dictionary d;
@@ -244,16 +327,20 @@ void refusals() {
         shown.emplace_back(key, 0);
     }
     CHECK(at == range.end());
-    for (long most = 0; most < 3; ++most) {
-        left = most;
-        try {
-            (void)d.entries();
-            CHECK(most > 1);
-        } catch (const std::bad_alloc &) {
-            CHECK(most < 3);
-        }
-        left = -1;
-    }
+    dictionary unordered(layout::standard, false);
+    unordered.update_all(numbered(100));
+    const std::string long_key(40, '1');
+    const std::function<void()> calls[] = {
+        [&] { (void)d.begin(); },
+        [&] { (void)d.entries_with_prefix(long_key); },
+        [&] { (void)d.entries_from("1010"); },
+        [&] { (void)d.range("1010", long_key); },
+        [&] { (void)d.find("1001"); },
+        [&] { (void)d.lower_bound(long_key); },
+        [&] { (void)d.upper_bound("1010"); },
+        [&] { CHECK(!unordered.entries().empty()); },
+    };
+    for (const auto &call : calls) CHECK(needed(call) > 0);
     // A dictionary that was moved away has no further page.
     const roskvidh::entries begun = d.entries();
     Iterator last = begun.begin();
@@ -270,6 +357,8 @@ int main() {
         same_entries(kind, false);
         first_few(kind);
         changes_meanwhile(kind);
+        changes_at_random(kind);
+        another_content(kind);
     }
     copies();
     lifetimes();

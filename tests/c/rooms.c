@@ -59,11 +59,12 @@ static void check_changes(size_t more) {
         CHECK(lacks_room(update(&s, "ten", 9)) && lacks_room(update(&s, "net", 6)) && lacks_room(erase(&s, "nets")));
         CHECK(erase(&s, "ten") == CEDAR_OK); /* it isn't held: nothing is written */
         CHECK(at(&s, "net") == 7 && at(&s, "nets") == 8 && at(&s, "ten") == -1);
-        CHECK(!cedar_store_failed(&s) && cedar_store_file_len(&s) == length && size_of(path) == length);
+        CHECK(!cedar_store_failed(&s) && cedar_store_file_len(&s) == length && size_of(path) == length && cedar_store_records(&s) == 2);
         expect(7, 8, -1);
     }
     limit(0);
     CHECK(update(&s, "ten", 9) == CEDAR_OK && update(&s, "net", 6) == CEDAR_OK && erase(&s, "nets") == CEDAR_OK);
+    CHECK(cedar_store_records(&s) == 5);
     cedar_store_close(&s);
     expect(6, -1, 9);
 }
@@ -77,10 +78,10 @@ static void check_batch(size_t more) {
     size_t length = cedar_store_file_len(&s);
     limit(length + more);
     CHECK(lacks_room(cedar_store_apply(&s, changes, 3, NULL, NULL)) && !cedar_store_failed(&s));
-    CHECK(at(&s, "net") == 7 && at(&s, "nets") == 8 && at(&s, "ten") == -1 && size_of(path) == length);
+    CHECK(at(&s, "net") == 7 && at(&s, "nets") == 8 && at(&s, "ten") == -1 && size_of(path) == length && cedar_store_records(&s) == 2);
     expect(7, 8, -1);
     limit(0);
-    CHECK(cedar_store_apply(&s, changes, 3, NULL, NULL) == CEDAR_OK);
+    CHECK(cedar_store_apply(&s, changes, 3, NULL, NULL) == CEDAR_OK && cedar_store_records(&s) == 3);
     cedar_store_close(&s);
     expect(6, -1, 9);
 }
@@ -96,10 +97,10 @@ static void check_waiting(size_t more) {
     CHECK(lacks_room(cedar_store_sync(&s)) && cedar_store_waiting(&s) == 2 && size_of(path) == length);
     CHECK(lacks_room(update(&s, "net", 6)) && cedar_store_waiting(&s) == 3);
     CHECK(lacks_room(cedar_store_sync_every(&s, 1)) && lacks_room(cedar_store_open(&s, path)) && cedar_store_waiting(&s) == 3);
-    CHECK(at(&s, "net") == 6 && at(&s, "nets") == -1 && at(&s, "ten") == 9 && !cedar_store_failed(&s));
+    CHECK(at(&s, "net") == 6 && at(&s, "nets") == -1 && at(&s, "ten") == 9 && !cedar_store_failed(&s) && cedar_store_records(&s) == 2);
     expect(7, 8, -1);
     limit(0);
-    CHECK(cedar_store_sync(&s) == CEDAR_OK && cedar_store_waiting(&s) == 0);
+    CHECK(cedar_store_sync(&s) == CEDAR_OK && cedar_store_waiting(&s) == 0 && cedar_store_records(&s) == 3);
     expect(6, -1, 9);
     cedar_store_close(&s);
     expect(6, -1, 9);

@@ -114,6 +114,13 @@ static int32_t at(const cedar_store *s, const char *key) {
 
 static size_t count(const cedar_store *s) { return cedar_len(cedar_store_dictionary(s)); }
 
+/* Opens it again: the file's records are as many as were told. */
+static void open_again(cedar_store *s, bool is_reduced) {
+    CHECK(cedar_store_sync(s) == CEDAR_OK);
+    size_t records = cedar_store_records(s);
+    CHECK((is_reduced ? cedar_store_open_reduced : cedar_store_open)(s, path) == CEDAR_OK && cedar_store_records(s) == records);
+}
+
 static void write_file(const void *data, size_t length) {
     FILE *file = fopen(path, "wb");
     CHECK(file != NULL && fwrite(data, 1, length, file) == length && fclose(file) == 0);
@@ -137,14 +144,14 @@ static void check_errors(void) {
     size_t position = 99;
     bool held = true;
     CHECK(update(&s, "net", 7) == CEDAR_IS_CLOSED && erase(&s, "net") == CEDAR_IS_CLOSED && !cedar_store_failed(&s));
-    CHECK(count(&s) == 0 && at(&s, "net") == -1);
+    CHECK(count(&s) == 0 && at(&s, "net") == -1 && cedar_store_records(&s) == 0);
     cedar_store_close(&s);
     open_new(&s, false);
     CHECK(update(&s, "", 7) == CEDAR_EMPTY_KEY && update(&s, "net", -1) == CEDAR_INVALID_VALUE);
     CHECK(cedar_store_update(&s, bytes("ne\0t"), 4, 7, &position) == CEDAR_NUL_BYTE && position == 2);
     CHECK(cedar_store_update(&s, bytes("ne\0t"), 4, -1, NULL) == CEDAR_NUL_BYTE);
     CHECK(cedar_store_erase(&s, bytes("ne\0t"), 4, &held) == CEDAR_OK && !held);
-    CHECK(cedar_store_erase(&s, bytes(""), 0, NULL) == CEDAR_OK && count(&s) == 0);
+    CHECK(cedar_store_erase(&s, bytes(""), 0, NULL) == CEDAR_OK && count(&s) == 0 && cedar_store_records(&s) == 0);
     cedar_store_close(&s);
     CHECK(update(&s, "net", 7) == CEDAR_IS_CLOSED);
     cedar_store_close(&s);
@@ -186,6 +193,8 @@ static void check_bytes(bool is_reduced, bool is_plain) {
     CHECK(at(&s, "net") == CEDAR_MAX_VALUE && count(&s) == 1);
     CHECK(erase(&s, "ne") == CEDAR_OK && cedar_store_erase(&s, bytes("net"), 3, &held) == CEDAR_OK && held && count(&s) == 0);
     check_found(is_plain ? plain : wanted, is_plain ? sizeof plain : sizeof wanted);
+    CHECK(cedar_store_records(&s) == 3);
+    open_again(&s, is_reduced);
     cedar_store_close(&s);
 }
 
@@ -257,8 +266,9 @@ static void check_files(const char *folder) {
     write_file("\0", 1);
     CHECK(cedar_store_open(&s, path) == CEDAR_OK && count(&s) == 0 && update(&s, "net", 7) == CEDAR_OK);
     write_file("\1\x08\0\0\0CEDARJ\0\0\1\x06\0\0\0\1\7\0\0\0.\1\x06\0\0", 28);
-    CHECK(cedar_store_open(&s, path) == CEDAR_OK && count(&s) == 1 && at(&s, ".") == 7 && update(&s, "net", 8) == CEDAR_OK);
-    CHECK(cedar_store_open(&s, path) == CEDAR_OK && count(&s) == 2 && at(&s, "net") == 8);
+    CHECK(cedar_store_open(&s, path) == CEDAR_OK && count(&s) == 1 && at(&s, ".") == 7 && cedar_store_records(&s) == 1);
+    CHECK(update(&s, "net", 8) == CEDAR_OK && cedar_store_records(&s) == 2);
+    CHECK(cedar_store_open(&s, path) == CEDAR_OK && count(&s) == 2 && at(&s, "net") == 8 && cedar_store_records(&s) == 2);
     cedar_store_close(&s);
     /* Paths. */
     errno = 0;
@@ -296,10 +306,9 @@ static void check_runs(bool is_reduced) {
         }
         if (next_random() % 20 == 0) CHECK(cedar_store_sync_every(&s, next_random() % 5) == CEDAR_OK && cedar_store_waiting(&s) == 0);
         if (next_random() % 40 != 0) continue;
-        CHECK(cedar_store_sync(&s) == CEDAR_OK);
-        CHECK((next_random() % 2 ? cedar_store_open : cedar_store_open_reduced)(&s, path) == CEDAR_OK);
+        open_again(&s, next_random() % 2 == 0);
     }
-    CHECK(cedar_store_sync(&s) == CEDAR_OK && cedar_store_open(&s, path) == CEDAR_OK);
+    open_again(&s, false);
     size_t keys = 0;
     for (int name = 0; name < NAMES; name++) {
         uint8_t key[2] = {(uint8_t)(1 + name % 7), (uint8_t)(200 + name / 7)};
@@ -354,17 +363,20 @@ static void check_group(bool is_reduced, bool is_plain) {
     check_found(is_plain ? plain : wanted, is_plain ? sizeof plain : sizeof wanted);
     begin(NONE, 0);
     CHECK(cedar_store_sync(&s) == CEDAR_OK && strcmp(calls, "") == 0);
-    CHECK(update(&s, "net", 8) == CEDAR_OK && cedar_store_sync(&s) == CEDAR_OK && strcmp(calls, "wsws") == 0);
+    CHECK(update(&s, "net", 8) == CEDAR_OK && cedar_store_records(&s) == 1);
+    CHECK(cedar_store_sync(&s) == CEDAR_OK && strcmp(calls, "wsws") == 0 && cedar_store_records(&s) == 2);
     /* Any number of them, until they are put on the disk: here by the one setting and the other, and by closing. */
     CHECK(cedar_store_sync_every(&s, 0) == CEDAR_OK);
     for (uint8_t i = 1; i < 200; i++) CHECK(cedar_store_update(&s, &i, 1, i, NULL) == CEDAR_OK);
-    CHECK(cedar_store_waiting(&s) == 199 && cedar_store_sync_every(&s, 0) == CEDAR_OK && cedar_store_waiting(&s) == 0);
+    CHECK(cedar_store_waiting(&s) == 199 && cedar_store_records(&s) == 2);
+    CHECK(cedar_store_sync_every(&s, 0) == CEDAR_OK && cedar_store_waiting(&s) == 0 && cedar_store_records(&s) == 3);
     CHECK(update(&s, "nets", 9) == CEDAR_OK && cedar_store_sync_every(&s, 1) == CEDAR_OK && cedar_store_waiting(&s) == 0);
     begin(NONE, 0);
     CHECK(update(&s, "nets", 10) == CEDAR_OK && strcmp(calls, "wsws") == 0);
     CHECK(cedar_store_sync_every(&s, 9) == CEDAR_OK && update(&s, "nets", 11) == CEDAR_OK && cedar_store_waiting(&s) == 1);
     cedar_store_close(&s);
     CHECK(cedar_store_open(&s, path) == CEDAR_OK && count(&s) == 201 && at(&s, "net") == 8 && at(&s, "nets") == 11 && at(&s, "\xc7") == 199);
+    CHECK(cedar_store_records(&s) == 6);
     cedar_store_close(&s);
 }
 
@@ -425,6 +437,7 @@ static bool check_change(enum fault which, long step, bool is_erasure) {
     begin(which, step);
     uint32_t status = is_erasure ? erase(&s, "nets") : update(&s, "nets", 9);
     bool came = end();
+    CHECK(cedar_store_records(&s) == (status == CEDAR_OK ? 3 : 2));
     if (status == CEDAR_STORE_DEVICE) {
         CHECK(came && errno == EIO && cedar_store_failed(&s));
         CHECK(at(&s, "nets") == (is_erasure ? -1 : 9)); /* the dictionary has the change */

@@ -500,16 +500,18 @@ void stores(layout kind, const std::string &folder) {
         lacks_memory([&] { s.apply({{"net", 1}, {"k2", std::nullopt}, {"nets", 2}}); });
         CHECK(!s.words().get("net") && s.words().get("k2") == 2 && s.words().get("nets") == 5 && s.words().size() == 1000);
         const std::size_t before = s.file_size(), shorter = s.compacted_size();
-        CHECK(shorter < before && s.last_compaction() == CEDAR_OK);
+        const std::size_t records = s.records();
+        CHECK(shorter < before && s.last_compaction() == CEDAR_OK && records > 2);
         lacks_memory([&] { s.compact(); });
-        CHECK(s.last_compaction() == CEDAR_MEMORY && s.file_size() == before && !s.failed());
+        CHECK(s.last_compaction() == CEDAR_MEMORY && s.file_size() == before && s.records() == records && !s.failed());
         s.compact();
-        CHECK(s.last_compaction() == CEDAR_OK && s.file_size() == shorter && s.words().size() == 1000);
+        CHECK(s.last_compaction() == CEDAR_OK && s.file_size() == shorter && s.records() == 1 && s.words().size() == 1000);
         s.compact_beyond(0, 0);
         s.sync_every(0);
         s.update("y", 1);
-        CHECK(s.erase("y") && s.waiting() == 2);
+        CHECK(s.erase("y") && s.waiting() == 2 && s.records() == 1);
     }
+    CHECK(roskvidh::store(path, kind, roskvidh::opening::to_read).records() == 2);
     CHECK(roskvidh::store(path, kind, roskvidh::opening::existing).words().size() == 1000);
     lacks_memory([&] { roskvidh::store(path, kind); });
     no_file(path + "/none", [&] { roskvidh::store(path + "/none", kind); });

@@ -15,6 +15,7 @@ use Rattle.cedar_plan.proofs.Appending.{append_is_safe}
 use Rattle.cedar_plan.proofs.Opening.{opening_is_safe}
 use Rattle.cedar_store.specs.Changes.{Change, after, all_changed, change_of, after_change, put_at, after_payloads}
 use Rattle.cedar_store.specs.Files.{IsEither, state_of}
+use Rattle.cedar_store.proofs.Counted.{counted_more}
 use Rattle.cedar_store.proofs.Payloads.{one_change}
 use Rattle.cedar_store.proofs.States.{either, state_added}
 use Rattle.cedarwood.specs.State.{State, new_state, after_put}
@@ -36,6 +37,8 @@ module _ (f : Format) (end : ℕ) (payload : List ℕ) (s t : State) (short : le
         kept = λ calls kept.
             let safe = append_is_safe calls f end payload kept.rest short room in
             record { rest = safe.rest; same = state_added (seen_after calls) _ payload s t kept.same told safe.more };
+        counted = λ calls n kept counted.
+            counted_more (seen_after calls) _ payload n (n + 1) counted (append_is_safe calls f end payload kept.rest short room).more refl;
         any_moment = λ calls later kept out.
             let safe = append_is_safe calls f end payload kept.rest short room in
             moments.weakens length LeftSince calls later (IsBeforeOrAfter (file_payloads (seen_after calls)) payload) (IsEither s t)
@@ -50,6 +53,7 @@ is_opening bytes extent works s has is stands =
     subst (λ (l : List Work). IsOpening bytes l (format_in extent) (end_of extent) s) (sym is)
     (record {
       kept = record { rest = safe.rest; same = same _ safe.same };
+      counted = ap (option_map length) safe.same;
       any_moment = λ later out.
           moments.weakens length LeftSince (open_call bytes ∷ []) later (λ c. file_payloads c ≡ file_payloads bytes) (λ c. state_of c ≡ Some s) same (safe.any_moment later out);
     })

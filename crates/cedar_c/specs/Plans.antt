@@ -10,7 +10,7 @@ use Rattle.cedar_plan.specs.Safety.{CrashLeaves, IsAtRest}
 use Rattle.cedar_plan.specs.Works.{AreCarriedOut, Work, all_done}
 use Rattle.cedar_salvage.specs.Whole.{cuts_records, TakesLong}
 use Rattle.cedar_store.specs.Causes.{LoadCause}
-use Rattle.cedar_store.specs.Files.{IsEither, state_of}
+use Rattle.cedar_store.specs.Files.{IsEither, record_count, state_of}
 use Rattle.cedar_store.specs.declared.error.DurableError.{DurableError}
 use Rattle.cedar_store.specs.declared.error.DurableError.TheVariants as error
 use Rattle.cedarwood.specs.State.{after_erase, after_put, State}
@@ -27,10 +27,12 @@ pub record IsKept (calls : List Call) (format : Format) (end : ℕ) (s : State) 
   pub rest : IsAtRest calls format end
   pub same : state_of (seen_after calls) ≡ Some s
 
--- Works that change the state which a file represents whose records are of this format, and where they end. A crash at any moment, also
--- where one of them fails, leaves a file that represents the one state or the other.
+-- Works that change the state which a file represents whose records are of this format, and where they end. The file has one record more
+-- then. A crash at any moment, also where one of them fails, leaves a file that represents the one state or the other.
 pub record IsChangePlan (works : List Work) (format : Format) (from to : ℕ) (before after : State) : Type 0 where
   pub kept : (calls : List Call) → IsKept calls format from before → IsKept (all_done works calls) format to after
+  pub counted : (calls : List Call) (n : ℕ) → IsKept calls format from before → record_count (seen_after calls) ≡ Some n
+      → record_count (seen_after (all_done works calls)) ≡ Some (n + 1)
   pub any_moment : (calls later : List Call) → IsKept calls format from before → AreCarriedOut works calls later → CrashLeaves calls later (IsEither before after)
 
 -- so those of a pair that is put, and of a key that is erased
@@ -40,10 +42,11 @@ IsPutPlan works format from to s key value = IsChangePlan works format from to s
 abbrev pub IsErasurePlan : List Work → Format → ℕ → ℕ → State → List ℕ → Type 0
 IsErasurePlan works format from to s key = IsChangePlan works format from to s (after_erase s key)
 
--- Works that make a file of these bytes ready for changes, which was synced and then read: its records are of this format then, and end
--- here. A crash at any moment, also where one of them fails, leaves a file that represents the same state.
+-- Works that make a file of these bytes ready for changes, which was synced and then read: its records are of this format then, end here,
+-- and are as many as before. A crash at any moment, also where one of them fails, leaves a file that represents the same state.
 pub record IsOpening (bytes : List ℕ) (works : List Work) (format : Format) (end : ℕ) (s : State) : Type 0 where
   pub kept : IsKept (all_done works (open_call bytes ∷ [])) format end s
+  pub counted : record_count (seen_after (all_done works (open_call bytes ∷ []))) ≡ record_count bytes
   pub any_moment : (later : List Call) → AreCarriedOut works (open_call bytes ∷ []) later → CrashLeaves (open_call bytes ∷ []) later (λ c. state_of c ≡ Some s)
 
 -- the number of why a file wasn't read as a dictionary

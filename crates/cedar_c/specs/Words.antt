@@ -36,7 +36,7 @@ pub use Rattle.cedar_plan.specs.Works.{append_works, end_of, format_in}
 pub use Rattle.cedar_salvage.specs.Whole.{CutsNone}
 pub use Rattle.cedar_store.specs.Causes.{LoadCause}
 pub use Rattle.cedar_store.specs.Changes.{erase_at, put_at}
-pub use Rattle.cedar_store.specs.Files.{state_of}
+pub use Rattle.cedar_store.specs.Files.{record_count, state_of}
 pub use Rattle.cedarwood.specs.Queries.{asc, prefixes, slots_of_tree, walk}
 pub use Rattle.cedarwood.specs.Tree.{Tree}
 pub use Rattle.cedar_walk.specs.Visits.{ComesToFirst, IsNumberedBelow}

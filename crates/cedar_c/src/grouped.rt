@@ -28,7 +28,8 @@ pub extern "C" fn cedar_plan_group(
     plan: &mut Plan,
 ) -> u32
     //= Once the plan of a group is carried out, a file that represented some dictionary represents the one with all changes of the group,
-    //  in their order, on the disk. A crash at any moment, even if a step fails, leaves the one or the other. [by IsGroup, IsChangePlan]
+    //  in their order, on the disk, and has one record more. A crash at any moment, even if a step fails, leaves the one or the other. [by
+    //  IsGroup, IsChangePlan]
     ensures planned { result ≡ OK → IsGroup (works_of buffer.new plan.new) (format_if is_summed) end.old end.new
         (take size (drop (group_head (format_if is_summed)) buffer.old)) }
 

@@ -2,7 +2,7 @@
 //! the change. These exports are the library's own, and no program sees them.
 
 ghost use Rattle.std.specs.Prelude.{◌≡◌, ◌≢◌, ◌⊎◌, ◌↔◌, ◌+◌, ◌<◌, ◌≤◌, ◌^◌, ◌++◌, ◌∷◌, ℕ, List, false, IfErr, IfOk, IfSome, IsFalse, IsSome, IsTrue, None, Some, length, option_map, take, true};
-ghost use Rattle.cedar_c.specs.Words.{AddsChange, after_erase, after_put, append_works, content, CutsNone, damage_of, dictionary_in, end_of, erase_at, fault, Format, format_if, format_in, frame_of, HasExtent, IsChangePlan, IsErasurePlan, IsOpening, IsPutPlan, LacksChange, LacksRecord, layout_if, layout_in, layout_of, LoadCause, MayCut, number_at, opening, overhead, Plain, position_of, put_at, state_in, state_of, status_of, store_status, TellsWhy, tree_in, works_of};
+ghost use Rattle.cedar_c.specs.Words.{AddsChange, after_erase, after_put, append_works, content, CutsNone, damage_of, dictionary_in, end_of, erase_at, fault, Format, format_if, format_in, frame_of, HasExtent, IsChangePlan, IsErasurePlan, IsOpening, IsPutPlan, LacksChange, LacksRecord, layout_if, layout_in, layout_of, LoadCause, MayCut, number_at, opening, overhead, Plain, position_of, put_at, record_count, state_in, state_of, status_of, store_status, TellsWhy, tree_in, works_of};
 
 use crate::any::AnyCedar;
 use crate::handle::Handle;
@@ -13,13 +13,13 @@ use crate::status::{
 use cedar_journal::{Extent, Format, HEADER_LEN, extent_of};
 use cedar_plan::{HEADER, Plan, plan_append, plan_opening};
 use cedar_salvage::may_cut_records;
-use cedar_store::{DurableError, words_of};
+use cedar_store::{DurableError, count_records, words_of};
 use cedarwood::CedarError;
 use std::alloc::Global;
 
 /// Opens a handle with the dictionary that a file's bytes represent. If the handle is open, the new one replaces the old one. The file was
 /// synced, and then read. It writes the plan by which the file is made ready, whose bytes it writes into the first elements of a buffer,
-/// where the records end then, and whether they have sums. The plan of a file that is at rest has no step.
+/// where the records end then, how many there are, and whether they have sums. The plan of a file that is at rest has no step.
 ///
 /// # Errors
 /// `NO_ROOM` if the buffer has fewer than 14 elements, `STORE_FOREIGN` if the file is of another kind, `STORE_CORRUPT` if one of its
@@ -33,6 +33,7 @@ pub extern "C" fn cedar_plan_open(
     bytes: &[u8],
     is_summed: &mut bool,
     end: &mut usize,
+    records: &mut usize,
     damaged_at: &mut usize,
     buffer: &mut [u8],
     plan: &mut Plan,
@@ -41,15 +42,19 @@ pub extern "C" fn cedar_plan_open(
     ensures stands { result ≡ OK → (state_of bytes.now ≡ state_in handle.new) × IsSome (content handle.new) }
     ensures layout { result ≡ OK → layout_in handle.new ≡ Some (layout_if is_reduced) }
 
-    //= Once the plan of an opening is carried out, the file is at rest, on the disk, and represents that dictionary. A crash at any moment,
-    //  even if a step fails, leaves a file that represents it. [by IsOpening]
+    //= Once the plan of an opening is carried out, the file is at rest, on the disk, represents that dictionary, and has as many records as
+    //  before. A crash at any moment, even if a step fails, leaves a file that represents it. [by IsOpening]
     ensures ready { result ≡ OK → IfSome (state_in handle.new) (IsOpening bytes.now (works_of buffer.new plan.new) (format_if is_summed.new) end.new) }
+
+    //= An opening writes how many records the file has.
+    ensures counted { result ≡ OK → record_count bytes.now ≡ Some records.new }
 
     //= A file is refused by its number as foreign, corrupt or damaged exactly as by a store, with the position of the damage, or for lack of
     //  memory or slots. Then the handle has what it had, and no plan is written. [with kept, told; by LoadCause]
     ensures refused { (result ≡ OK) ⊎ ((result ≡ NO_ROOM) × (length buffer.old < 14)) ⊎ TellsWhy bytes.now damaged_at.old damaged_at.new result }
     ensures kept { (result ≡ OK) ⊎ (content handle.new ≡ content handle.old) }
-    ensures told { (result ≡ OK) ⊎ ((is_summed.new ≡ is_summed.old) × (end.new ≡ end.old) × (plan.new ≡ plan.old)) }
+    ensures told { (result ≡ OK)
+        ⊎ ((is_summed.new ≡ is_summed.old) × (end.new ≡ end.old) × (records.new ≡ records.old) × (plan.new ≡ plan.old)) }
 {
     if let Err(status) = place(&HEADER, buffer) {
         return status;
@@ -60,6 +65,7 @@ pub extern "C" fn cedar_plan_open(
             *handle = Handle::of(cedar);
             *is_summed = has_sums(extent);
             *end = end_of(extent);
+            *records = count_records(bytes, extent);
             *plan = plan_opening(extent, bytes);
             OK
         }
@@ -117,7 +123,7 @@ pub extern "C" fn cedar_plan_put(
     ensures layout { layout_in handle.new ≡ layout_in handle.old }
 
     //= Once the plan of a put is carried out, a file that represented the dictionary from before it represents the one with it, on the
-    //  disk. A crash at any moment, even if a step fails, leaves the one or the other. [by IsChangePlan]
+    //  disk, and has one record more. A crash at any moment, even if a step fails, leaves the one or the other. [by IsChangePlan]
     ensures planned { result ≡ OK → IfSome (state_in handle.old) (λ s. IsChangePlan (works_of buffer.new plan.new) (format_if is_summed) end.old end.new s (after_put s key.now value)) }
 
     //= What a put without a sum that returns `OK` has written is the record of its change, which may follow those of a group without its
@@ -175,7 +181,8 @@ pub extern "C" fn cedar_plan_erase(
     ensures layout { layout_in handle.new ≡ layout_in handle.old }
 
     //= Once the plan of an erasure is carried out, a file that represented the dictionary from before it represents the one without the
-    //  key, on the disk. A crash at any moment, even if a step fails, leaves the one or the other. [by IsChangePlan]
+    //  key, on the disk, and has one record more. A crash at any moment, even if a step fails, leaves the one or the other. [by
+    //  IsChangePlan]
     ensures planned { result ≡ OK → IsTrue held.new
         → IfSome (state_in handle.old) (λ s. IsChangePlan (works_of buffer.new plan.new) (format_if is_summed) end.old end.new s (after_erase s key.now)) }
 

@@ -4,7 +4,7 @@
 //! No contract can say what the system does. So this is believed: that each function here makes the call that its clause notes. The fields
 //! are private, so that no other module notes a call, or takes one that failed for one that was made.
 
-ghost use Rattle.std.specs.Prelude.{◌≡◌, ◌≤◌, ◌<◌, ◌^◌, ◌∷◌, [], false, IfOk, is_ok, length, OnErr, OnOk, true};
+ghost use Rattle.std.specs.Prelude.{◌≡◌, ◌≤◌, ◌<◌, ◌^◌, ◌∷◌, [], false, IfOk, IfSome, is_ok, length, OnErr, OnOk, true};
 ghost use Rattle.cedar_disk.specs.NotedFiles.{is_beside, noted_calls};
 ghost use Rattle.cedar_disk.specs.Words.{call_with, compaction_path, folder_sync_call, is_locked_after, LiesBeside, lock_call, MayLeave, Only, open_call, refused_call, rename_call, seen_after, sync_call, took_name, TookSome, truncate_call, write_by_outcome};
 
@@ -128,6 +128,7 @@ impl<F: Files + Drop, A: Allocator + Copy> Place<F, A> {
         requires name { is_beside held ≡ false }
         ensures noted { IfOk result (λ read. noted_calls read.0 ≡ open_call read.1.items ∷ lock_call true ∷ []) }
         ensures name { IfOk result (λ read. is_beside read.0 ≡ false) }
+        ensures bytes { IfOk result (λ read. IfSome (F.File.remaining held.file) (λ left. read.1.items ≡ left)) }
     {
         let mut file = held;
         file.file.sync_all()?;

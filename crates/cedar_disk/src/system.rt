@@ -1,6 +1,6 @@
 //! How a file is found, opened and read.
 
-ghost use Rattle.std.specs.Prelude.{◌≡◌};
+ghost use Rattle.std.specs.Prelude.{◌≡◌, IfOk, IfSome};
 ghost use Rattle.cedar_disk.specs.Words.{Memory, TellsKind};
 
 use crate::LockFile;
@@ -125,15 +125,29 @@ pub fn read_file<F: Files, A: Allocator>(
     alloc: A,
     path: &str,
 ) -> Result<Vec<u8, A>, OpenError> {
-    let mut file = fs::open(files, path)?;
+    read_opened(fs::open(files, path)?, alloc)
+}
+
+// Reads all of what was opened, if it is a file.
+fn read_opened<T: Read + OpenFile + Drop, A: Allocator>(
+    opened: T,
+    alloc: A,
+) -> Result<Vec<u8, A>, OpenError>
+    ensures bytes { IfOk result (λ bytes. IfSome (T.remaining opened) (λ left. bytes.items ≡ left)) }
+{
+    let mut file = opened;
     if !file.metadata()?.is_file() {
         return Err(OpenError::Io(io::ErrorKind::Unsupported.into()));
     }
     Ok(read_all(&mut file, alloc)?)
 }
 
-/// Reads all of a file.
-pub(crate) fn read_all<R: Read, A: Allocator>(file: &mut R, alloc: A) -> io::Result<Vec<u8, A>> {
+/// Reads all of a file that is open.
+pub(crate) fn read_all<R: Read, A: Allocator>(file: &mut R, alloc: A) -> io::Result<Vec<u8, A>>
+    //= What is read of a file that is open is all that is left in it, where that is known: of a file that a device holds, and of one that is
+    //  only looked at. No contract of the system's files says which bytes these are. [also read_opened, Place::read]
+    ensures bytes { IfOk result (λ bytes. IfSome (R.remaining file.old) (λ left. bytes.items ≡ left)) }
+{
     let mut bytes = Vec::new(alloc);
     file.read_to_end(&mut bytes)?;
     Ok(bytes)

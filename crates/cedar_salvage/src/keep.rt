@@ -5,20 +5,22 @@ ghost use Rattle.cedar_salvage.specs.Words.{CutsNone, Elapses, IsCutOf, MayLeave
 ghost use Rattle.cedar_disk.specs.FileDevices.{device_calls};
 
 use crate::cut::may_cut_records;
+use crate::held::held_beside;
 use cedar_disk::{FileDevice, LockFile, OpenError};
 use cedar_journal::{Device, DeviceError, Extent, HEADER_LEN, extent_of};
 use std::alloc::{AllocError, Allocator};
 use std::fs;
 use std::io::{self, ErrorKind};
+use std::path::PathBuf;
 use std::rt::Files;
 
-/// How many files beside a store may keep what was cut off it.
-const MOST_KEPT: usize = 100;
+/// How many files beside a store's may keep what was cut off it.
+pub(crate) const MOST_KEPT: usize = 100;
 
-/// A new file beside a store's. It is on the disk, and locked until this is dropped.
+/// A file beside a store's. It is on the disk, and locked until this is dropped.
 #[derive(Drop)]
 pub struct Kept<F: Files + Drop, A: Allocator> {
-    /// The path at which it was made.
+    /// Its path.
     pub path: String<A>,
     /// The file.
     pub device: FileDevice<F, A>,
@@ -48,13 +50,15 @@ impl From<AllocError> for KeepError {
 
 /// Keeps what the opening of the store on a device would cut off its file, if whole records may be in it (`may_cut_records`). It is put
 /// behind the header into a new file at the path with `.cut` after it, or with `.1.cut` and so on to `.99.cut` where a name is taken. That
-/// is the file of a store, from which `salvage` takes the records. Call this before the store is opened. The store's file is only read.
+/// is the file of a store, from which `salvage` takes the records. Where a name is that of a file with the very same bytes, which an earlier
+/// call has kept, that one is returned, and none is made. If the path is a link, the file is beside what that leads to. Call this before the
+/// store is opened. The store's file is only read.
 ///
 /// Returns None if nothing has to be kept: the opening would cut off no whole record, or the file is of another kind or damaged.
 ///
 /// # Errors
-/// `Memory` if an allocation failed, `Unread` if the device couldn't be read, `Unmade` or `Unwritten` if the new file couldn't be made.
-/// Don't open the store then.
+/// `Memory` if an allocation failed, `Unread` if the device couldn't be read, `Unmade` or `Unwritten` if a new file couldn't be made. Don't
+/// open the store then.
 pub fn keep_cut<D: Device, F: Files + Copy + Drop, A: Allocator + Copy>(
     alloc: A,
     files: F,
@@ -63,8 +67,8 @@ pub fn keep_cut<D: Device, F: Files + Copy + Drop, A: Allocator + Copy>(
 ) -> Result<Option<Kept<F, A>>, KeepError>
 where
     F::File: LockFile,
-    //= If the opening of a store may cut off whole records, the header and all that it would cut off are in a new file, and on the disk.
-    //  [with durable]
+    //= If the opening of a store may cut off whole records, the header and all that it would cut off are in the file that is returned,
+    //  and on the disk. [with durable]
     ensures kept { IfOk result (λ kept. IfSome kept (λ k. IsCutOf (D.seen device.old) (seen_after (device_calls k.device)))) }
     ensures durable { IfOk result (λ kept. IfSome kept (λ k. Only (seen_after (device_calls k.device)) (MayLeave (device_calls k.device)))) }
     //= Nothing is kept only if the opening would cut off no whole record, or if the file represents no records.
@@ -81,6 +85,11 @@ where
     };
     let Some(end) = cut_at(&bytes) else {
         return Ok(None);
+    };
+    let real = behind_link(alloc, &files, path)?;
+    let path = match &real {
+        Some(real) => real.as_str(),
+        None => path,
     };
     let kept = keep(alloc, files, path, &bytes[..HEADER_LEN], &bytes[end..])?;
     Ok(Some(kept))
@@ -104,7 +113,24 @@ fn cut_at(bytes: &[u8]) -> Option<usize>
     }
 }
 
-/// Makes a new file of a header and some bytes beside one.
+/// Where a path leads to, if it is a link. A compaction replaces the file there, too.
+fn behind_link<F: Files, A: Allocator>(
+    alloc: A,
+    files: &F,
+    path: &str,
+) -> Result<Option<PathBuf<A>>, KeepError> {
+    match fs::symlink_metadata(files, path) {
+        Ok(found) if found.is_symlink() => {}
+        _ => return Ok(None),
+    }
+    match files.canonicalize(alloc, path) {
+        Ok(real) => Ok(Some(real)),
+        Err(error) if error.kind() == ErrorKind::OutOfMemory => Err(KeepError::Memory),
+        Err(error) => Err(KeepError::Unmade(error)),
+    }
+}
+
+/// Returns the file of a header and some bytes beside one, which is made if there is none.
 fn keep<F: Files + Copy + Drop, A: Allocator + Copy>(
     alloc: A,
     files: F,
@@ -117,6 +143,9 @@ where
     ensures filled { IfOk result (λ kept. seen_after (device_calls kept.device) ≡ header.now ++ bytes.now) }
     ensures durable { IfOk result (λ kept. Only (seen_after (device_calls kept.device)) (MayLeave (device_calls kept.device))) }
 {
+    if let Some(held) = held_beside(alloc, files, path, header, bytes)? {
+        return Ok(held);
+    }
     let mut kept = make_beside(alloc, files, path)?;
     // Before a byte is in it.
     look_like(&files, path, &kept.path);
@@ -161,7 +190,11 @@ where
 }
 
 /// The name of the file that is tried in this turn.
-fn name_beside<A: Allocator>(alloc: A, path: &str, number: usize) -> Result<String<A>, AllocError> {
+pub(crate) fn name_beside<A: Allocator>(
+    alloc: A,
+    path: &str,
+    number: usize,
+) -> Result<String<A>, AllocError> {
     if number == 0 {
         return format!(in alloc; "{path}.cut");
     }

@@ -4,6 +4,7 @@
 
 mod change;
 mod cut;
+mod held;
 mod keep;
 mod record;
 mod whole;

@@ -1,11 +1,12 @@
 //! The whole records of a file, as a new file.
 
 ghost use Rattle.std.specs.Prelude.{◌++◌, ◌∷◌, ◌≡◌, [], drop, IfOk, OnOk, Some};
-ghost use Rattle.cedar_salvage.specs.Words.{file_payloads, first_changes, found_in, found_of, IsSettled, Only, payloads_in, payloads_of, salvage_of};
+ghost use Rattle.cedar_salvage.specs.Words.{file_payloads, first_changes, found_in, found_of, HasExtent, IsSettled, Only, payloads_in, payloads_of, salvage_of};
 
 use crate::record::{format_of, next_whole, plain_change};
 use cedar_journal::{
-    DeviceError, Format, Frame, FrameError, HEADER_LEN, Image, Journal, ReplaceDevice, extent_of,
+    Device, DeviceError, Extent, Format, Frame, FrameError, HEADER_LEN, Image, Journal,
+    ReplaceDevice, extent_of,
 };
 use cedar_store::DurableError;
 use std::alloc::Allocator;
@@ -31,28 +32,45 @@ pub fn salvage<A: Allocator + Copy>(alloc: A, bytes: &[u8]) -> Result<Image<A>, 
 /// Makes the file on a device one that has exactly the records of an image, and returns its journal.
 ///
 /// # Errors
-/// `Refused` if an allocation failed, `Foreign` or `Damaged` if the device has something else than a journal, and `Device` if it failed.
+/// With the device: `Refused` if an allocation failed, `Foreign` or `Damaged` if it has something else than a journal, `Device` if it failed.
 pub fn store_with<D: ReplaceDevice + Drop, A: Allocator + Copy>(
     alloc: A,
     device: D,
     image: &Image<A>,
-) -> Result<Journal<D>, DurableError>
+) -> Result<Journal<D>, (DurableError, D)>
     requires restarted { Only (D.seen device) (D.may_leave device) }
     //= A store that is made of what was saved has exactly those records, and is on the disk. [with settled]
     ensures records { IfOk result (λ journal. file_payloads (D.seen journal.device) ≡ Some (payloads_of image.now)) }
     ensures settled { IfOk result (λ journal. IsSettled D.seen D.may_leave journal.device journal.format journal.end) }
 {
     let mut device = device;
-    let bytes = device.read(alloc)?;
-    let extent = extent_of(&bytes)?;
+    let (bytes, extent) = match read_extent(alloc, &mut device) {
+        Ok(read) => read,
+        Err(error) => return Err((error, device)),
+    };
     let mut journal = match Journal::open_read(device, extent, &bytes) {
         Ok(journal) => journal,
-        Err((error, _)) => return Err(DurableError::Device(error)),
+        Err((error, device)) => return Err((DurableError::Device(error), device)),
     };
     match journal.replace(image) {
         Ok(()) => Ok(journal),
-        Err(_) => Err(DurableError::Device(DeviceError::Failed)),
+        Err(_) => Err((DurableError::Device(DeviceError::Failed), journal.device)),
     }
+}
+
+/// Reads the file on a device, and how far it goes as a journal's.
+fn read_extent<D: Device, A: Allocator>(
+    alloc: A,
+    device: &mut D,
+) -> Result<(Vec<u8, A>, Extent), DurableError>
+    requires restarted { Only (D.seen device.old) (D.may_leave device.old) }
+    ensures bytes { IfOk result (λ read. read.0.items ≡ D.seen device.new) }
+    ensures extent { IfOk result (λ read. HasExtent (D.seen device.new) read.1) }
+    ensures restarted { Only (D.seen device.new) (D.may_leave device.new) }
+{
+    let bytes = device.read(alloc)?;
+    let extent = extent_of(&bytes)?;
+    Ok((bytes, extent))
 }
 
 /// Adds what is saved of a file to a new one.

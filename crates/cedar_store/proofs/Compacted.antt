@@ -1,5 +1,5 @@
 -- A file that has one record for each entry of a dictionary.
-use Rattle.std.specs.Prelude.{◌&&◌, ◌-◌, ◌*◌, fold, int_le, max, nat_lt, pos, Bool, false, IfErr, IsErrAnd, IsErrOf, OnOk, Result, Ok, Err, option_and_then, option_map, Option, Some, None, IfSome}
+use Rattle.std.specs.Prelude.{◌&&◌, ◌-◌, ◌*◌, fold, int_le, max, nat_lt, pos, Bool, false, IfErr, IsErrAnd, IsErrOf, OnErr, OnOk, Result, Ok, Err, option_and_then, option_map, Option, Some, None, IfSome}
 use Rattle.std.proofs.Common.{◌≡◌, ◌⊎◌, inl, inr, ⊎_elim, ◌<◌, ℕ, zero, suc, ◌+◌, ℤ, true, List, [], ◌∷◌, ◌++◌, drop, take, refl, sym, ◌∙◌, ap, subst, arith}
 use Rattle.std.proofs.lemmas.Bool.{false≢true}
 use Rattle.std.proofs.lemmas.Bool.Decides.{nat_tests}
@@ -193,6 +193,10 @@ module _ {D : Type 0} (seen : D → List ℕ) (may_leave : D → List ℕ → Ty
 pub on_err : {X E : Type 0} {P Q : E → Type 0} (r : Result X E) → ((e : E) → P e → Q e) → IfErr r P → IfErr r Q
 on_err (Ok x) so holds = tt
 on_err (Err e) so holds = so e holds
+
+pub on_err_told : {X E P Q : Type 0} (r : Result X E) → (P → Q) → OnErr r P → OnErr r Q
+on_err_told (Ok x) so holds = tt
+on_err_told (Err e) so holds = so holds
 
 -- a file that has one record more, and was looked at
 pub still_more : {S : Type 0} (before between after payload : List ℕ) → file_payloads between ≡ with_payload payload (file_payloads before) → (after ≡ between) ⊎ S

@@ -1,6 +1,7 @@
 pub mod Arranged
 pub mod Batched
 pub mod Compacted
+pub mod Counted
 pub mod FirstFaults
 pub mod Late
 pub mod Opened
@@ -9,6 +10,7 @@ pub mod Payloads
 pub mod Reading
 pub mod Recorded
 pub mod Refused
+pub mod Shortened
 pub mod States
 pub mod Undone
 pub mod Unwritten

@@ -29,7 +29,7 @@ pub load_cause : (bytes file : List ℕ) (before now : ℕ) (e : DurableError) �
 load_cause bytes file before now e same cause = open_cause file before now e (subst (λ f. LoadCause f e) same cause)
 
 pub read_cause : (file : List ℕ) (before now : ℕ) (e : DurableError) → ReadCause before now e → OpenCause file before now e
-read_cause file before now (error.Device e) cause = λ _. cause
+read_cause file before now (error.Device e) cause = λ _. cause.1
 read_cause file before now (error.Refused e) cause = inl cause
 read_cause file before now error.Foreign cause = absurd cause
 read_cause file before now (error.Damaged place) cause = absurd cause

@@ -39,7 +39,7 @@ module _ (bytes b p : List ℕ) (f : Format) (at n : ℕ) (here : b ≡ drop at 
   pub next_sound : AreUndamaged f (drop (at + n) bytes)
   next_sound = subst (AreUndamaged f) further sound_rest
 
-  payloads : payloads_read (records_read f (drop at bytes)) ≡ p ∷ payloads_read (records_read f (drop (at + n) bytes))
+  pub payloads : payloads_read (records_read f (drop at bytes)) ≡ p ∷ payloads_read (records_read f (drop (at + n) bytes))
   payloads = ap payloads_read first_read ∙ one_listed n p (records_read f (drop n b)) sound_rest ∙ ap (λ (l : List ℕ). p ∷ payloads_read (records_read f l)) further
 
   first : (s : State) → after_payloads s (payloads_read (records_read f (drop at bytes))) ≡ option_and_then (λ t. after_payloads t (payloads_read (records_read f (drop (at + n) bytes)))) (after s p)

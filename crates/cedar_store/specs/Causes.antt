@@ -35,9 +35,9 @@ OpenCause file before now (error.Device e) = e ≡ Failed → before < now
 OpenCause file before now (error.Refused e) = (e ≡ cedar.Memory) ⊎ (IsSome (file_payloads file) × IsShortage e)
 OpenCause file before now e = LoadCause file e
 
--- why it wasn't read: there was no memory for its bytes, or the disk failed
+-- why it wasn't read: there was no memory for its bytes, or the disk failed, which is reported as `Failed` whatever the device told
 abbrev pub ReadCause : ℕ → ℕ → DurableError → Type 0
-ReadCause before now (error.Device e) = before < now
+ReadCause before now (error.Device e) = (e ≡ Failed) × (before < now)
 ReadCause before now (error.Refused e) = e ≡ cedar.Memory
 ReadCause before now _ = ⊥
 

@@ -1,5 +1,5 @@
 -- The dictionary that a file represents.
-use Rattle.std.specs.Prelude.{◌≡◌, ◌⊎◌, ℕ, Bool, true, false, ◌||◌, not, is_some, List, [], ◌∷◌, Option, Some, option_and_then}
+use Rattle.std.specs.Prelude.{◌≡◌, ◌⊎◌, ℕ, Bool, true, false, ◌||◌, not, is_some, List, [], ◌∷◌, length, Option, Some, option_and_then, option_map}
 use Rattle.cedar_journal.specs.Files.{file_payloads, with_payload}
 use Rattle.cedarwood.specs.State.{State, new_state}
 use Rattle.cedar_store.specs.Changes.{after_payloads, Change, changes_of}
@@ -7,6 +7,10 @@ use Rattle.cedar_store.specs.Changes.{after_payloads, Change, changes_of}
 -- The state after the changes of all records that count. None: the file is of another kind, or one of its records is no change.
 abbrev pub state_of : List ℕ → Option State
 state_of file = option_and_then (after_payloads new_state) (file_payloads file)
+
+-- how many records a file has that count; None: it is of another kind
+abbrev pub record_count : List ℕ → Option ℕ
+record_count file = option_map length (file_payloads file)
 
 -- one of some payloads is no change
 abbrev pub has_no_change : List (List ℕ) → Bool

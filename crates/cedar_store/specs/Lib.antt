@@ -4,6 +4,7 @@ pub mod Causes
 pub mod Changes
 pub mod Compactions
 pub mod Files
+pub mod Shortening
 pub mod Shown
 pub mod Store
 pub mod Told

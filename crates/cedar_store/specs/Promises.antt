@@ -1,20 +1,28 @@
 -- What each change of a store promises: of the store before it and after it.
-use Rattle.std.specs.Prelude.{◌≡◌, ◌⊎◌, ℕ, true, false, List, Ok, Option, Some}
+use Rattle.std.specs.Prelude.{◌≡◌, ◌⊎◌, ℕ, true, false, List, Option, Some}
 use Rattle.cedar_journal.specs.Device.{LeavesOnly}
 use Rattle.cedar_journal.specs.Journal.{IsSettled}
 use Rattle.cedarwood.specs.State.{State}
 use Rattle.cedarwood.specs.declared.error.CedarError.{CedarError}
 use Rattle.cedar_store.specs.Causes.{BatchCause, ChangeCause, EraseCause, IsOfDevice, IsUnwritten, Leaves}
 use Rattle.cedar_store.specs.Changes.{Change}
-use Rattle.cedar_store.specs.Files.{AddsRecord, IsEither, StandsFor, state_of}
+use Rattle.cedar_store.specs.Files.{AddsRecord, IsEither, StandsFor, record_count, state_of}
+use Rattle.cedar_store.specs.Shortening.{IsShortened}
 use Rattle.cedar_store.specs.Store.{IsReady}
-use Rattle.cedar_store.specs.declared.compaction.Compaction.TheVariants.{Never}
 use Rattle.cedar_store.specs.declared.error.DurableError.{DurableError}
 use Rattle.cedar_store.specs.declared.store.Store.{Store}
 
 -- its labels ascend; and unless it has failed, its file represents its dictionary
 abbrev pub IsReadyStore : {T A D : Type 0} → (D → List ℕ) → (D → List ℕ → Type 0) → (T → State) → Store T A D → Type 0
 IsReadyStore seen may_leave state store = IsReady seen may_leave store.journal.device store.journal.format store.journal.end (state store.words) store.failed
+
+-- Its count is that of the records of its file, unless it has failed.
+abbrev pub IsCounted : {T A D : Type 0} → (D → List ℕ) → Store T A D → Type 0
+IsCounted seen store = store.failed ≡ false → record_count (seen store.journal.device) ≡ Some store.records
+
+-- if it was so before, it is so after
+abbrev pub KeepsCount : {T A D : Type 0} → (D → List ℕ) → Store T A D → Store T A D → Type 0
+KeepsCount seen old new = IsCounted seen old → IsCounted seen new
 
 -- it hasn't failed, and its dictionary has this state
 abbrev pub HasState : {T A D : Type 0} → (T → State) → Store T A D → State → Type 0
@@ -34,13 +42,9 @@ abbrev pub CrashLeavesStateOrOld : {T A D : Type 0} → (D → ℕ) → (D → �
 CrashLeavesStateOrOld moment left_since may_leave state old new =
     LeavesOnly moment left_since old.journal.device new.journal.device (λ c. may_leave old.journal.device c ⊎ StandsFor (state old.words) c)
 
--- the file has a record for each entry, which only a rule other than `Never` does, and `last_compaction` reports it
-abbrev pub IsShortened : {T A D : Type 0} → Store T A D → Store T A D → Type 0
-IsShortened old new = (old.compaction ≡ Never → ⊥) × (new.last_compaction ≡ Some (Ok tt))
-
 -- the file has one record more, of these changes, or it was made short
-abbrev pub IsRecordedIn : {T A D : Type 0} → (D → List ℕ) → Store T A D → Store T A D → List Change → Type 0
-IsRecordedIn seen old new changes = AddsRecord changes (seen old.journal.device) (seen new.journal.device) ⊎ IsShortened old new
+abbrev pub IsRecordedIn : {T A D : Type 0} → (D → List ℕ) → (T → State) → Store T A D → Store T A D → List Change → Type 0
+IsRecordedIn seen state old new changes = AddsRecord changes (seen old.journal.device) (seen new.journal.device) ⊎ IsShortened seen state old new
 
 -- what a compaction leaves where the device kept the file: bytes and store are as they were, and so is what a crash may leave
 abbrev pub KeepsFile : {T A D : Type 0} → (D → List ℕ) → (D → List ℕ → Type 0) → Store T A D → Store T A D → Type 0

@@ -11,9 +11,10 @@ pub use Rattle.cedar_store.specs.Batches.{AreHeld, HasKey, IsFaultless, IsHeld, 
 pub use Rattle.cedar_store.specs.Causes.{BatchCause, ChangeCause, EraseCause, FrameCause, IsBeforeWrites, IsOfDevice, IsRefusedAt, Leaves, LoadCause, OpenCause, PayloadCause, PrepareCause, ReadCause, ReplayCause}
 pub use Rattle.cedar_store.specs.Changes.{after, after_change, after_payloads, all_changed, batch_of, change_of, changes_of, erase_at, number_of_bytes, put_at, put_of}
 pub use Rattle.cedar_store.specs.Compactions.{compact_error, CompactCause, compacted_length, CompactMemory, default_rule, is_beyond, IsBeforeReplacing, IsPutBehind, LeavesFile, replace_error}
-pub use Rattle.cedar_store.specs.Files.{AddsRecord, IsCorrupt, IsEither, StandsFor, state_of}
-pub use Rattle.cedar_store.specs.Promises.{CrashLeavesEither, CrashLeavesState, CrashLeavesStateOrOld, FailsByDevice, HasState, IsBatchCause, IsChangeCause, IsEraseCause, IsReadyStore, IsRecordedIn, IsShortened, KeepsFile, LeavesUnwritten, LeavesStore, LostRoom}
+pub use Rattle.cedar_store.specs.Files.{AddsRecord, IsCorrupt, IsEither, record_count, StandsFor, state_of}
+pub use Rattle.cedar_store.specs.Promises.{CrashLeavesEither, CrashLeavesState, CrashLeavesStateOrOld, FailsByDevice, HasState, IsBatchCause, IsChangeCause, IsCounted, IsEraseCause, IsReadyStore, IsRecordedIn, KeepsCount, KeepsFile, LeavesUnwritten, LeavesStore, LostRoom}
 pub use Rattle.cedar_store.specs.Puts.{IsPut}
+pub use Rattle.cedar_store.specs.Shortening.{IsFailureTold, IsLookedAfter, IsLookedAfterError, IsLookedAt, IsShortened, IsUnlooked}
 pub use Rattle.cedar_store.specs.Shown.{compact_error_text, durable_error_text}
 pub use Rattle.cedar_store.specs.Store.{IsConsistent, IsReady}
 pub use Rattle.cedar_store.specs.Told.{change_told, changes_told, file_error, frame_error, journal_error}

@@ -1,7 +1,7 @@
 //! A store's file made short: one record for each entry.
 
-ghost use Rattle.std.specs.Prelude.{◌+◌, ◌-◌, ◌<◌, ◌^◌, ◌≡◌, ◌⊎◌, false, IfErr, IfOk, IsErrOf, length, None, OnOk, option_and_then, Some, true};
-ghost use Rattle.cedar_store.specs.Words.{with_payload, after, all_erased_late, all_stored, AllByRecursion, changes_told, CompactCause, compacted_length, CrashLeavesState, CrashLeavesStateOrOld, FailsByDevice, fault, IfKept, image_bytes, is_beyond, IsBeforeReplacing, IsConsistent, IsEither, IsPutBehind, IsReadyStore, IsSettled, IsShortened, KeepsFile, LeavesUnwritten, Leaves, LeavesFile, LeavesOnly, LostRoom, new_state, payload_of, payloads_of, file_payloads, after_payloads, State, state_of, walk};
+ghost use Rattle.std.specs.Prelude.{◌+◌, ◌-◌, ◌<◌, ◌^◌, ◌≡◌, ◌⊎◌, false, IfErr, IfOk, IsErrOf, length, None, OnErr, OnOk, option_and_then, Some, true};
+ghost use Rattle.cedar_store.specs.Words.{with_payload, after, all_erased_late, all_stored, AllByRecursion, changes_told, CompactCause, compacted_length, CrashLeavesState, CrashLeavesStateOrOld, FailsByDevice, fault, IfKept, image_bytes, is_beyond, IsBeforeReplacing, IsConsistent, IsEither, IsFailureTold, IsLookedAfter, IsLookedAfterError, IsLookedAt, IsPutBehind, IsReadyStore, IsSettled, IsShortened, KeepsCount, KeepsFile, LeavesUnwritten, Leaves, LeavesFile, LeavesOnly, LostRoom, new_state, payload_of, payloads_of, file_payloads, after_payloads, State, state_of, walk};
 
 use crate::batch::erase_rest;
 use crate::frames::put_payload;
@@ -30,10 +30,15 @@ impl<T: Words, A: Allocator + Copy, D: ReplaceDevice> Store<T, A, D> {
             × (length (D.seen self.new.journal.device) ≡ compacted_length (walk (T.state self.old.words).tree))) }
         ensures ready { IsReadyStore D.seen D.may_leave T.state self.new }
         ensures words { self.new.words ≡ self.old.words }
+        ensures counted { KeepsCount D.seen self.old self.new }
 
         //= A compaction leaves the rule as it was, and what came of it is reported from then on. [with told]
         ensures rule { self.new.compaction ≡ self.old.compaction }
         ensures told { self.new.last_compaction ≡ Some result }
+
+        //= A compaction counts as a look at the file's length. One that fails doesn't. [with unlooked]
+        ensures looked { OnOk result (self.new.base ≡ self.new.journal.end) }
+        ensures unlooked { OnErr result (self.new.base ≡ self.old.base) }
 
         //= A crash at any moment of a compaction leaves a file that represents the dictionary. If the store had failed before, it leaves
         //  such a file or what it might have left before. [with any_moment_failed]
@@ -80,6 +85,9 @@ impl<T: Words, A: Allocator + Copy, D: ReplaceDevice> Store<T, A, D> {
             × (length (D.seen self.new.journal.device) ≡ compacted_length (walk (T.state self.old.words).tree))) }
         ensures ready { IsReadyStore D.seen D.may_leave T.state self.new }
         ensures words { self.new.words ≡ self.old.words }
+        ensures counted { KeepsCount D.seen self.old self.new }
+        ensures looked { OnOk result (self.new.base ≡ self.new.journal.end) }
+        ensures unlooked { OnErr result (self.new.base ≡ self.old.base) }
         ensures rule { self.new.compaction ≡ self.old.compaction }
         ensures any_moment { self.old.failed ≡ false → CrashLeavesState D.moment D.left_since T.state self.old self.new }
         ensures any_moment_failed { CrashLeavesStateOrOld D.moment D.left_since D.may_leave T.state self.old self.new }
@@ -112,10 +120,13 @@ impl<T: Words, A: Allocator + Copy, D: ReplaceDevice> Store<T, A, D> {
         ensures made { OnOk result (T.state self.new.words ≡ all_erased_late (T.state self.old.words) (changes_told changes.now)) }
         ensures due { OnOk result (is_beyond self.new.compaction self.new.base self.new.journal.end ≡ false) }
         ensures recorded { OnOk result ((file_payloads (D.seen self.new.journal.device) ≡ with_payload (payload_of frame.now) (file_payloads (D.seen self.old.journal.device)))
-            ⊎ IsShortened self.old self.new) }
+            ⊎ IsShortened D.seen T.state self.old self.new) }
+        ensures looked_after { OnOk result (IsLookedAfter D.seen D.faults T.state self.old self.new) }
+        ensures told { OnErr result (IsLookedAfterError self.old self.new) }
         ensures err { IfErr result (LeavesUnwritten D.faults self.old self.new) }
         ensures left { IfErr result (λ e. Leaves e (T.state self.new.words ≡ all_erased_late (T.state self.old.words) (changes_told changes.now))
             (LostRoom D.seen D.may_leave self.old self.new) ⊥) }
+        ensures counted { KeepsCount D.seen self.old self.new }
         ensures rule { self.new.compaction ≡ self.old.compaction }
         ensures any_moment { (s : State) → state_of (D.seen self.old.journal.device) ≡ Some s
             → LeavesOnly D.moment D.left_since self.old.journal.device self.new.journal.device
@@ -145,9 +156,12 @@ impl<T: Words, A: Allocator + Copy, D: ReplaceDevice> Store<T, A, D> {
         ensures ready { IsReadyStore D.seen D.may_leave T.state self.new }
         ensures done { OnOk result (self.new.failed ≡ false) }
         ensures due { OnOk result (is_beyond self.new.compaction self.new.base self.new.journal.end ≡ false) }
-        ensures recorded { OnOk result ((D.seen self.new.journal.device ≡ D.seen self.old.journal.device) ⊎ IsShortened self.old self.new) }
+        ensures recorded { OnOk result ((D.seen self.new.journal.device ≡ D.seen self.old.journal.device) ⊎ IsShortened D.seen T.state self.old self.new) }
+        ensures looked_after { OnOk result (IsLookedAfter D.seen D.faults T.state self.old self.new) }
+        ensures told { OnErr result (IsFailureTold self.new) }
         ensures err { IfErr result (FailsByDevice D.faults self.old self.new) }
         ensures words { self.new.words ≡ self.old.words }
+        ensures counted { KeepsCount D.seen self.old self.new }
         ensures rule { self.new.compaction ≡ self.old.compaction }
         ensures any_moment { CrashLeavesState D.moment D.left_since T.state self.old self.new }
     {
@@ -172,12 +186,17 @@ impl<T: Words, A: Allocator + Copy, D: ReplaceDevice> Store<T, A, D> {
         requires usable { self.old.failed ≡ false }
         requires ordered { (T.state self.old.words).ordered ≡ true }
         requires made { after_payloads new_state (payloads_of image.now) ≡ Some (T.state self.old.words) }
+        requires count { length (payloads_of image.now) ≡ length (walk (T.state self.old.words).tree) }
+        requires length { length (image_bytes image.now) ≡ compacted_length (walk (T.state self.old.words).tree) }
         requires looked_at { self.old.base ≡ self.old.journal.end }
         ensures ready { IsReadyStore D.seen D.may_leave T.state self.new }
         ensures done { OnOk result ((self.new.failed ≡ false) × (self.new.base ≡ self.new.journal.end)) }
-        ensures recorded { OnOk result ((D.seen self.new.journal.device ≡ D.seen self.old.journal.device) ⊎ IsShortened self.old self.new) }
+        ensures recorded { OnOk result ((D.seen self.new.journal.device ≡ D.seen self.old.journal.device) ⊎ IsShortened D.seen T.state self.old self.new) }
+        ensures looked_at { OnOk result (IsLookedAt D.seen D.faults T.state self.old self.new) }
+        ensures told { OnErr result (IsFailureTold self.new) }
         ensures err { IfErr result (FailsByDevice D.faults self.old self.new) }
         ensures words { self.new.words ≡ self.old.words }
+        ensures counted { KeepsCount D.seen self.old self.new }
         ensures rule { self.new.compaction ≡ self.old.compaction }
         ensures any_moment { CrashLeavesState D.moment D.left_since T.state self.old self.new }
     {
@@ -206,23 +225,28 @@ impl<T: Words, A: Allocator + Copy, D: ReplaceDevice> Store<T, A, D> {
     /// Replaces the file by one that represents the dictionary, whatever the file has that is there.
     fn put_in_place(&mut self, image: &Image<A>) -> Result<(), ReplaceError>
         requires made { after_payloads new_state (payloads_of image.now) ≡ Some (T.state self.old.words) }
+        requires count { length (payloads_of image.now) ≡ length (walk (T.state self.old.words).tree) }
         ensures ready { IsReadyStore D.seen D.may_leave T.state self.old → IsReadyStore D.seen D.may_leave T.state self.new }
         ensures done { OnOk result ((self.new.failed ≡ false) × (self.new.base ≡ self.new.journal.end)) }
         ensures bytes { OnOk result (D.seen self.new.journal.device ≡ image_bytes image.now) }
         ensures kept { IfKept result (KeepsFile D.seen D.may_leave self.old self.new) }
-        ensures kept_end { IfKept result ((self.new.base ≡ self.old.base) × (self.new.journal.end ≡ self.old.journal.end)) }
+        ensures err_end { OnErr result ((self.new.base ≡ self.old.base) × (self.new.journal.end ≡ self.old.journal.end)) }
+        ensures untold { self.new.last_compaction ≡ self.old.last_compaction }
         ensures failed { IsErrOf result ReplaceError.Failed → (self.new.failed ≡ true) × (D.faults self.old.journal.device < D.faults self.new.journal.device) }
         ensures kept_failed { IsErrOf result (ReplaceError.Kept DeviceError.Failed) → D.faults self.old.journal.device < D.faults self.new.journal.device }
         ensures words { self.new.words ≡ self.old.words }
+        ensures counted { KeepsCount D.seen self.old self.new }
         ensures rule { self.new.compaction ≡ self.old.compaction }
         ensures any_moment { CrashLeavesStateOrOld D.moment D.left_since D.may_leave T.state self.old self.new }
     {
         match self.journal.device.replace(image.bytes()) {
             Ok(()) => {
                 let end = image.bytes().len().saturating_sub(1);
+                let records = self.words.count();
                 self.journal.format = Format::Summed;
                 self.journal.end = end;
                 self.base = end;
+                self.records = records;
                 self.failed = false;
                 Ok(())
             }
@@ -243,6 +267,7 @@ pub(crate) fn image_of<T: Walked, A: Allocator + Copy, B: Allocator + Copy>(
     requires { AllByRecursion (λ e. fault e.0 e.1 ≡ None) entries }
     ensures made { IfOk result (λ image. after_payloads new_state (payloads_of image) ≡ Some (all_stored new_state entries.entry)) }
     ensures length { IfOk result (λ image. length (image_bytes image) ≡ compacted_length entries.entry) }
+    ensures count { IfOk result (λ image. length (payloads_of image) ≡ length entries.entry) }
     ensures cause { IfErr result (λ error. IsBeforeReplacing error) }
 {
     let mut image = Image::new(alloc)?;

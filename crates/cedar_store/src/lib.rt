@@ -7,6 +7,7 @@ mod batch;
 mod change;
 mod compact;
 mod compaction;
+mod counts;
 mod error;
 mod faults;
 mod frames;
@@ -18,6 +19,7 @@ pub use change::Change;
 pub use compaction::{CompactError, Compaction};
 pub use error::DurableError;
 // For whoever keeps the file by other means than a device.
+pub use counts::count_records;
 pub use frames::{erase_payload, put_payload};
 pub use replay::{BATCH, read_store, words_of};
 pub use store::{CedarStore, ReducedStore, Store};

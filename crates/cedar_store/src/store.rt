@@ -1,9 +1,10 @@
 //! The store: a dictionary, and the journal of its changes.
 
 ghost use Rattle.std.specs.Prelude.{◌+◌, ◌<◌, ◌^◌, ◌≡◌, ◌≤◌, ◌∷◌, IfErr, IfOk, IfSome, IsErrOf, IsOk, OnErr, OnOk, Some, [], false, if◌then◌else◌, is_some, length, true};
-ghost use Rattle.cedar_store.specs.Words.{with_payload, all_changed, changes_told, erase_at, ends_closed, after_erase, fault, format_of, first_refused, number_at, payload_of, file_payloads, state_of, after_put, AllByRecursion, HasExtent, IsBeforeOrAfter, IsBeforeWrites, IsCorrupt, IsFaultless, IsRecordedIn, IsSettled, LeavesOnly, Only, OpenCause, put_at, ReadCause, CrashLeavesEither, HasState, IsBatchCause, IsChangeCause, IsEraseCause, IsReadyStore, LeavesUnwritten, LeavesStore};
+ghost use Rattle.cedar_store.specs.Words.{with_payload, all_changed, changes_told, erase_at, ends_closed, after_erase, fault, format_of, first_refused, number_at, payload_of, file_payloads, state_of, after_put, AllByRecursion, HasExtent, IsBeforeOrAfter, IsBeforeWrites, IsCorrupt, IsFaultless, IsRecordedIn, IsSettled, LeavesOnly, Only, OpenCause, put_at, ReadCause, CrashLeavesEither, HasState, IsBatchCause, IsChangeCause, IsCounted, IsEraseCause, IsLookedAfter, IsLookedAfterError, IsReadyStore, IsUnlooked, KeepsCount, LeavesUnwritten, LeavesStore};
 
 use crate::batch::{make, take_all_back};
+use crate::counts::count_records;
 use crate::frames::{erase_frame, put_frame};
 use crate::replay::words_of;
 use crate::words::{Made, Words, take_back};
@@ -23,8 +24,10 @@ pub struct Store<T: Words, A: Allocator, D: Device> {
     pub(crate) words: T,
     pub(crate) failed: bool,
     pub(crate) compaction: Compaction,
-    // Where the records ended at the last test of whether the file is too long: 0 before.
+    // Where the records ended at the last look at whether the file is too long: 0 before.
     pub(crate) base: usize,
+    // How many records the file has, unless the device has failed.
+    pub(crate) records: usize,
     // What came of the last compaction, if there was one.
     pub(crate) last_compaction: Option<Result<(), CompactError>>,
 }
@@ -69,7 +72,8 @@ fn read_file<A: Allocator, D: Device>(alloc: A, device: &mut D) -> Result<Vec<u8
     match device.read(alloc) {
         Ok(bytes) => Ok(bytes),
         Err(DeviceError::Memory) => Err(DurableError::Refused(CedarError::Memory)),
-        Err(DeviceError::NoRoom) => Err(DurableError::Device(DeviceError::NoRoom)),
+        // A read asks for no room.
+        Err(DeviceError::NoRoom) => Err(DurableError::Device(DeviceError::Failed)),
         Err(DeviceError::Failed) => Err(DurableError::Device(DeviceError::Failed)),
     }
 }
@@ -93,9 +97,13 @@ impl<T: Made<A>, A: Allocator + Copy, D: Device> Store<T, A, D> {
         ensures made { IfOk result (λ store. state_of (D.seen device) ≡ Some (T.state store.words)) }
         ensures sound { IfOk result (λ _. IsCorrupt (D.seen device) → ⊥) }
 
-        //= A store that was opened compacts its file by itself once it is longer than twice what its entries take, and 64 KiB. No
-        //  compaction is reported yet. [with told]
+        //= An opened store has counted the records of its file. [by IsCounted]
+        ensures counted { IfOk result (λ store. IsCounted D.seen store) }
+
+        //= The rule of a store that was opened is the default: its file may be twice as long as its entries take, and 64 KiB. Its length
+        //  hasn't been looked at, and no compaction is reported. [with unlooked, told]
         ensures rule { IfOk result (λ store. store.compaction ≡ Compaction.Beyond 2 65536) }
+        ensures unlooked { IfOk result (λ store. store.base ≡ 0) }
         ensures told { IfOk result (λ store. store.last_compaction ≡ None) }
 
         //= A crash at any moment while it is opened leaves a file that represents the same dictionary, even if it isn't opened. [with
@@ -121,18 +129,22 @@ impl<T: Made<A>, A: Allocator + Copy, D: Device> Store<T, A, D> {
     {
         let mut device = device;
         match read_words(alloc, &mut device) {
-            Ok((words, extent, bytes)) => match Journal::open_read(device, extent, &bytes) {
-                Ok(journal) => Ok(Store {
-                    alloc,
-                    journal,
-                    words,
-                    failed: false,
-                    compaction: Compaction::default(),
-                    base: 0,
-                    last_compaction: None,
-                }),
-                Err((error, device)) => Err((DurableError::Device(error), device)),
-            },
+            Ok((words, extent, bytes)) => {
+                let records = count_records(&bytes, extent);
+                match Journal::open_read(device, extent, &bytes) {
+                    Ok(journal) => Ok(Store {
+                        alloc,
+                        journal,
+                        words,
+                        failed: false,
+                        compaction: Compaction::default(),
+                        base: 0,
+                        records,
+                        last_compaction: None,
+                    }),
+                    Err((error, device)) => Err((DurableError::Device(error), device)),
+                }
+            }
             Err(error) => Err((error, device)),
         }
     }
@@ -171,6 +183,24 @@ impl<T: Words, A: Allocator + Copy, D: Device> Store<T, A, D> {
         ensures { result ≡ self.now.journal.end }
     {
         self.journal.end
+    }
+
+    /// Returns how many records the file has: one for each change and each batch that was acknowledged since it was new or was compacted, and
+    /// one for each entry that it had then. If the store has failed, the file may have another number of them.
+    pub fn records(&self) -> usize
+        //= A store says its count of records.
+        ensures { result ≡ self.now.records }
+    {
+        self.records
+    }
+
+    /// Returns where the records ended when the file's length was last looked at, in bytes: by a change that found it too long for what it had
+    /// at the look before, or by a compaction, which counts where they end then. 0 if it wasn't since the store was opened.
+    pub fn last_look(&self) -> usize
+        //= A store says where the records of its file ended at the last look at its length.
+        ensures { result ≡ self.now.base }
+    {
+        self.base
     }
 
     /// Returns what came of the last compaction since the store was opened, by a call or by the rule: None if there was none.
@@ -230,7 +260,21 @@ impl<T: Words, A: Allocator + Copy, D: ReplaceDevice> Store<T, A, D> {
         //  than `Never`: then the file may have been made short instead, which is reported. [with recorded; also insert, update_bytes,
         //  update]
         ensures rule { self.new.compaction ≡ self.old.compaction }
-        ensures recorded { OnOk result (IsRecordedIn D.seen self.old self.new (put_at key.now value ∷ [])) }
+        ensures recorded { OnOk result (IsRecordedIn D.seen T.state self.old self.new (put_at key.now value ∷ [])) }
+
+        //= An acknowledged change looks after the length of its file, by the rule. If the file isn't too long for what it had at the last
+        //  look, nothing is done. Otherwise it is looked at: it isn't too long for its entries, or it was made short, or it was kept as it
+        //  was, for lack of memory, for a record that would be too long, or by the device; then `last_compaction` tells why. [by
+        //  IsLookedAfter; also insert, update_bytes, update, erase_bytes, erase, apply_batch]
+        ensures looked_after { OnOk result (IsLookedAfter D.seen D.faults T.state self.old self.new) }
+
+        //= A change that fails has looked at nothing and told of no compaction, unless the device failed in one, which is reported. [by
+        //  IsLookedAfterError; also insert, update_bytes, update, erase_bytes, erase, apply_batch]
+        ensures told { OnErr result (IsLookedAfterError self.old self.new) }
+
+        //= The count of a store stays that of its file's records, in each change and each compaction, as long as the store hasn't failed.
+        //  [also insert, update_bytes, update, erase_bytes, erase, apply_batch, compact]
+        ensures counted { KeepsCount D.seen self.old self.new }
 
         //= A pair that has a fault is refused with its first one, if the store hasn't failed. [also insert, update_bytes, update]
         ensures faulty { self.old.failed ≡ false → IfSome (fault key.now value) (λ e. result ≡ Err (DurableError.Refused e)) }
@@ -280,7 +324,10 @@ impl<T: Words, A: Allocator + Copy, D: ReplaceDevice> Store<T, A, D> {
         ensures failed { self.old.failed ≡ true → result ≡ Err DurableError.Failed }
         ensures untouched { self.old.failed ≡ true → self.new ≡ self.old }
         ensures rule { self.new.compaction ≡ self.old.compaction }
-        ensures recorded { OnOk result (IsRecordedIn D.seen self.old self.new (put_at key.now value ∷ [])) }
+        ensures counted { KeepsCount D.seen self.old self.new }
+        ensures recorded { OnOk result (IsRecordedIn D.seen T.state self.old self.new (put_at key.now value ∷ [])) }
+        ensures looked_after { OnOk result (IsLookedAfter D.seen D.faults T.state self.old self.new) }
+        ensures told { OnErr result (IsLookedAfterError self.old self.new) }
         ensures faulty { self.old.failed ≡ false → IfSome (fault key.now value) (λ e. result ≡ Err (DurableError.Refused e)) }
         ensures cause { IfErr result (IsChangeCause D.faults self.old self.new (fault key.now value) (length key.now + 5)) }
         ensures err { IfErr result (LeavesStore T.state self.old self.new (after_put (T.state self.old.words) key.now value)) }
@@ -300,7 +347,10 @@ impl<T: Words, A: Allocator + Copy, D: ReplaceDevice> Store<T, A, D> {
         ensures failed { self.old.failed ≡ true → result ≡ Err DurableError.Failed }
         ensures untouched { self.old.failed ≡ true → self.new ≡ self.old }
         ensures rule { self.new.compaction ≡ self.old.compaction }
-        ensures recorded { OnOk result (IsRecordedIn D.seen self.old self.new (put_at key.now value ∷ [])) }
+        ensures counted { KeepsCount D.seen self.old self.new }
+        ensures recorded { OnOk result (IsRecordedIn D.seen T.state self.old self.new (put_at key.now value ∷ [])) }
+        ensures looked_after { OnOk result (IsLookedAfter D.seen D.faults T.state self.old self.new) }
+        ensures told { OnErr result (IsLookedAfterError self.old self.new) }
         ensures faulty { self.old.failed ≡ false → IfSome (fault key.now value) (λ e. result ≡ Err (DurableError.Refused e)) }
         ensures cause { IfErr result (IsChangeCause D.faults self.old self.new (fault key.now value) (length key.now + 5)) }
         ensures err { IfErr result (LeavesStore T.state self.old self.new (after_put (T.state self.old.words) key.now value)) }
@@ -323,7 +373,10 @@ impl<T: Words, A: Allocator + Copy, D: ReplaceDevice> Store<T, A, D> {
         ensures failed { self.old.failed ≡ true → result ≡ Err DurableError.Failed }
         ensures untouched { self.old.failed ≡ true → self.new ≡ self.old }
         ensures rule { self.new.compaction ≡ self.old.compaction }
-        ensures recorded { OnOk result (IsRecordedIn D.seen self.old self.new (put_at key.now value ∷ [])) }
+        ensures counted { KeepsCount D.seen self.old self.new }
+        ensures recorded { OnOk result (IsRecordedIn D.seen T.state self.old self.new (put_at key.now value ∷ [])) }
+        ensures looked_after { OnOk result (IsLookedAfter D.seen D.faults T.state self.old self.new) }
+        ensures told { OnErr result (IsLookedAfterError self.old self.new) }
         ensures faulty { self.old.failed ≡ false → IfSome (fault key.now value) (λ e. result ≡ Err (DurableError.Refused e)) }
         ensures cause { IfErr result (IsChangeCause D.faults self.old self.new (fault key.now value) (length key.now + 5)) }
         ensures err { IfErr result (LeavesStore T.state self.old self.new (after_put (T.state self.old.words) key.now value)) }
@@ -357,7 +410,10 @@ impl<T: Words, A: Allocator + Copy, D: ReplaceDevice> Store<T, A, D> {
 
         //= An erasure leaves the rule as it was, and the file as a change does. [with recorded; also erase]
         ensures rule { self.new.compaction ≡ self.old.compaction }
-        ensures recorded { IfOk result (λ held. held ≡ true → IsRecordedIn D.seen self.old self.new (erase_at key.now ∷ [])) }
+        ensures counted { KeepsCount D.seen self.old self.new }
+        ensures recorded { IfOk result (λ held. held ≡ true → IsRecordedIn D.seen T.state self.old self.new (erase_at key.now ∷ [])) }
+        ensures looked_after { IfOk result (λ held. held ≡ true → IsLookedAfter D.seen D.faults T.state self.old self.new) }
+        ensures told { OnErr result (IsLookedAfterError self.old self.new) }
 
         //= An erasure fails only if the store has failed before, for lack of memory, if the record is too long or the records end too far
         //  back, or if the device failed. [also erase]
@@ -392,7 +448,10 @@ impl<T: Words, A: Allocator + Copy, D: ReplaceDevice> Store<T, A, D> {
         ensures failed { self.old.failed ≡ true → result ≡ Err DurableError.Failed }
         ensures untouched { self.old.failed ≡ true → self.new ≡ self.old }
         ensures rule { self.new.compaction ≡ self.old.compaction }
-        ensures recorded { IfOk result (λ held. held ≡ true → IsRecordedIn D.seen self.old self.new (erase_at key.now ∷ [])) }
+        ensures counted { KeepsCount D.seen self.old self.new }
+        ensures recorded { IfOk result (λ held. held ≡ true → IsRecordedIn D.seen T.state self.old self.new (erase_at key.now ∷ [])) }
+        ensures looked_after { IfOk result (λ held. held ≡ true → IsLookedAfter D.seen D.faults T.state self.old self.new) }
+        ensures told { OnErr result (IsLookedAfterError self.old self.new) }
         ensures cause { IfErr result (IsEraseCause D.faults self.old self.new (length key.now + 1)) }
         ensures err { IfErr result (LeavesStore T.state self.old self.new (after_erase (T.state self.old.words) key.now)) }
     {
@@ -428,7 +487,10 @@ impl<T: Words, A: Allocator + Copy, D: ReplaceDevice> Store<T, A, D> {
 
         //= A batch leaves the rule as it was, and the file as a change does. [with recorded]
         ensures rule { self.new.compaction ≡ self.old.compaction }
-        ensures recorded { OnOk result ((changes.now ≡ [] → ⊥) → IsRecordedIn D.seen self.old self.new (changes_told changes.now)) }
+        ensures counted { KeepsCount D.seen self.old self.new }
+        ensures recorded { OnOk result ((changes.now ≡ [] → ⊥) → IsRecordedIn D.seen T.state self.old self.new (changes_told changes.now)) }
+        ensures looked_after { OnOk result ((changes.now ≡ [] → ⊥) → IsLookedAfter D.seen D.faults T.state self.old self.new) }
+        ensures told { OnErr result (IsLookedAfterError self.old self.new) }
 
         //= A batch in which a pair has a fault is refused with the first such pair's index and fault, whatever memory there is, if the
         //  store hasn't failed.
@@ -475,12 +537,18 @@ impl<T: Words, A: Allocator + Copy, D: ReplaceDevice> Store<T, A, D> {
         ensures end { OnErr result (self.new.journal.end ≡ self.old.journal.end) }
         ensures err { IfErr result (LeavesUnwritten D.faults self.old self.new) }
         ensures words { self.new.words ≡ self.old.words }
+        ensures unlooked { IsUnlooked self.old self.new }
         ensures rule { self.new.compaction ≡ self.old.compaction }
+        ensures counted { KeepsCount D.seen self.old self.new }
         ensures any_moment { LeavesOnly D.moment D.left_since self.old.journal.device self.new.journal.device
             (IsBeforeOrAfter (file_payloads (D.seen self.old.journal.device)) (payload_of frame.now)) }
     {
         match self.journal.append(frame) {
-            Ok(()) => Ok(()),
+            Ok(()) => {
+                let records = self.records.saturating_add(1);
+                self.records = records;
+                Ok(())
+            }
             Err(JournalError::Full) => Err(DurableError::Full),
             Err(JournalError::NoRoom) => Err(DurableError::NoRoom),
             Err(JournalError::Device(error)) => {

@@ -57,9 +57,10 @@ pub trait Words: Drop {
     /// `Memory` if an allocation was refused, `TooLong` if the record of an entry would be too long.
     fn image<B: Allocator + Copy>(&self, alloc: B) -> Result<Image<B>, CompactError>
         //= Such a dictionary can be written as a journal's file, of one record for each entry. If it is ordered, their changes make it
-        //  again. [with length, cause]
+        //  again. [with length, count, cause]
         ensures made { (state self.now).ordered ≡ true → IfOk result (λ image. after_payloads new_state (payloads_of image) ≡ Some (state self.now)) }
         ensures length { IfOk result (λ image. length (image_bytes image) ≡ compacted_length (walk (state self.now).tree)) }
+        ensures count { IfOk result (λ image. length (payloads_of image) ≡ length (walk (state self.now).tree)) }
         ensures cause { IfErr result (λ error. IsBeforeReplacing error) };
 }
 

@@ -1,15 +1,18 @@
 //! New stores, made of what is whole in the files of damaged ones.
 
+ghost use Rattle.roskvidh.specs.Words.{Only};
+
 use crate::fault::{Fault, tell_input};
 use crate::input::read_file;
 use crate::request::Recover;
 use cedar_disk::{FileDevice, LockFile, OpenError};
-use cedar_journal::{Format, HEADER_LEN, next_payload};
+use cedar_journal::{Device, Format, HEADER_LEN, Image, ReplaceDevice, next_payload};
 use cedar_salvage::{Kind, format_of, kind_of, salvage, store_with};
 use cedar_store::DurableError;
 use cedarwood::Watched;
 use std::alloc::Global;
-use std::io::Write;
+use std::fs::{self, File};
+use std::io::{ErrorKind, Write};
 use std::rt::Files;
 
 /// What is reported of a file whose records have no sums.
@@ -45,19 +48,85 @@ where
     if format.is_none() && taken.count() == 0 {
         return Err(Fault::Store(asked.old, DurableError::Foreign));
     }
-    let device = match FileDevice::create_new(*files, alloc, asked.new) {
-        Ok(device) => device,
-        Err(OpenError::Memory) => return Err(Fault::Memory),
-        Err(OpenError::Locked) => return Err(Fault::Locked(asked.new)),
-        Err(OpenError::Io(error)) => return Err(Fault::Read(Some(asked.new), error)),
-    };
-    if let Err(error) = store_with(alloc, device, &image) {
-        return Err(Fault::Store(asked.new, error));
-    }
+    make_store(alloc, files, asked.new, &image)?;
     if format == Some(Format::Plain) {
         tell_input(errors, asked.old, SUMLESS);
     }
     tell_taken(writer, taken, passed_by(&bytes, format, taken))
+}
+
+/// Makes a new store of these records at a path. If that fails, what was made there is removed.
+fn make_store<'m, F: Files + Copy + Drop>(
+    alloc: Global,
+    files: &F,
+    path: &'m str,
+    image: &Image<Global>,
+) -> Result<(), Fault<'m>>
+where
+    F::File: LockFile,
+{
+    // This fails if anything has the name. So what is there from now on is this call's own.
+    if let Err(error) = File::create_new(files, path) {
+        return Err(Fault::Read(Some(path), error));
+    }
+    let fault = match FileDevice::open_existing(*files, alloc, path) {
+        Ok(device) => return fill_store(alloc, files, device, path, image),
+        // Another process was faster to lock it: it is that one's now.
+        Err(OpenError::Locked) => return Err(Fault::Locked(path)),
+        Err(OpenError::Memory) => Fault::Memory,
+        Err(OpenError::Io(error)) => Fault::Read(Some(path), error),
+    };
+    remove_empty(files, path);
+    Err(fault)
+}
+
+/// Makes a new store of these records on a device of the file at a path. If that fails, the file is removed.
+fn fill_store<'m, D: ReplaceDevice + Drop, F: Files>(
+    alloc: Global,
+    files: &F,
+    device: D,
+    path: &'m str,
+    image: &Image<Global>,
+) -> Result<(), Fault<'m>>
+    requires restarted { Only (D.seen device) (D.may_leave device) }
+{
+    let mut device = device;
+    if !is_empty(alloc, &mut device) {
+        // Another process was faster to lock it, and has written it: it is that one's now. Or it can't be read.
+        drop(device);
+        remove_empty(files, path);
+        return Err(Fault::Read(Some(path), ErrorKind::AlreadyExists.into()));
+    }
+    match store_with(alloc, device, image) {
+        Ok(_) => Ok(()),
+        Err((error, device)) => {
+            // It is still locked.
+            let _ = fs::remove_file(files, path);
+            drop(device);
+            Err(Fault::Store(path, error))
+        }
+    }
+}
+
+/// Whether a device can be read and has no bytes.
+fn is_empty<D: Device>(alloc: Global, device: &mut D) -> bool
+    requires restarted { Only (D.seen device.old) (D.may_leave device.old) }
+    ensures restarted { Only (D.seen device.new) (D.may_leave device.new) }
+{
+    match device.read(alloc) {
+        Ok(bytes) => bytes.is_empty(),
+        Err(_) => false,
+    }
+}
+
+/// Removes the file at a path, if it has no bytes.
+fn remove_empty<F: Files>(files: &F, path: &str) {
+    match fs::symlink_metadata(files, path) {
+        Ok(found) if found.is_file() && found.len() == 0 => {
+            let _ = fs::remove_file(files, path);
+        }
+        _ => {}
+    }
 }
 
 /// What records a file of version 2 has.

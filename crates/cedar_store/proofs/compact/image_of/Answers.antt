@@ -1,6 +1,6 @@
 use Rattle.std.specs.Prelude.{FitsSigned, option_map, None, Some}
 use Rattle.std.specs.List.{AllByRecursion}
-use Rattle.std.proofs.Common.{◌≡◌, ◌∙◌, [], ◌∷◌, ap, arith, length, rules, subst, sym}
+use Rattle.std.proofs.Common.{◌≡◌, ◌∙◌, [], ◌∷◌, ap, arith, length, length-append, rules, subst, sym}
 use Rattle.std.proofs.lemmas.Int.{to_z-of_z}
 use mir.Syntax.{w32}
 use Rattle.cedar_journal.specs.Image.{payloads_of}
@@ -17,6 +17,7 @@ pub loop-entry-init : goal.loop-entry-init
 loop-entry-init g c = record {
   made = ap (λ ps. option_map (λ s. all_stored s c.args.entries) (after_payloads new_state ps)) c.in_ok-image.ensures.none;
   size = omega (arith, c.in_ok-image.ensures.length);
+  count = omega (arith, ap length c.in_ok-image.ensures.none);
   sound = c.requires;
 }
 
@@ -46,6 +47,7 @@ loop-entry-preserved g c =
           ∙ ap (λ l. option_map (λ s. all_stored s l) (after_payloads new_state before)) (sym step)
           ∙ i.made;
       size = omega (arith, i.size, c.in_ok-push_entry.ensures.longer, ap length same, ap compacted_length step);
+      count = omega (arith, i.count, ap length put.behind, length-append before (put.payload ∷ []), ap length step);
       sound = (subst (AllByRecursion (λ (x : Entry). fault x.0 x.1 ≡ None)) step i.sound).1;
     }
 
@@ -60,3 +62,8 @@ returns-clause-length g c =
     let ended : c.loop-entry.entries ≡ [] = search rules in
     let all = c.loop-entry.invariant.size in
     omega (arith, all, ap compacted_length ended)
+
+pub returns-clause-count : goal.returns-clause-count
+returns-clause-count g c =
+    let ended : c.loop-entry.entries ≡ [] = search rules in
+    omega (arith, c.loop-entry.invariant.count, ap length ended)

@@ -14,5 +14,6 @@ abbrev pub invariant-loop-entry : goal.invariant-loop-entry
 invariant-loop-entry g l = record {
   made : option_map (λ s. all_stored s l.entries) (after_payloads new_state (payloads_of l.image)) ≡ Some (all_stored new_state l.fn.entries);
   size : length (image_bytes l.image) + compacted_length l.entries ≡ 14 + compacted_length l.fn.entries;
+  count : length (payloads_of l.image) + length l.entries ≡ length l.fn.entries;
   sound : AllByRecursion (λ e. fault e.0 e.1 ≡ None) l.entries;
 }

@@ -9,7 +9,8 @@ use Rattle.cedar_store.specs.Changes.{after_payloads}
 use Rattle.cedar_store.specs.declared.error.DurableError.TheVariants as error
 use Rattle.cedar_store.specs.Files.{state_of, IsEither, StandsFor}
 use Rattle.cedar_store.specs.Told.{changes_told}
-use Rattle.cedar_store.proofs.Compacted.{change_of_one, on_err, state_more, still_more}
+use Rattle.cedar_store.proofs.Compacted.{change_of_one, on_err, on_err_told, state_more, still_more}
+use Rattle.cedar_store.proofs.Shortened.{looked_since}
 use Rattle.cedar_store.proofs.Unwritten.{leaves_unwritten, unwritten_by_device}
 use Rattle.cedar_store.proofs.States.{either}
 use Rattle.std.proofs.lemmas.Result.{on_ok_weaker}
@@ -87,7 +88,7 @@ returns-in-Ok-clause-recorded g c =
     let seen = g.D.Device.seen in
     let between = c.append.new.self in
     on_ok_weaker c.compact_if_due.result
-    (λ more. ⊎_elim (λ same. inl same) (λ short. inr (λ is. short.0 (c.append.ensures.rule ∙ is), short.1))
+    (λ more. ⊎_elim (λ same. inl same) (λ short. inr (λ is. short.0 (c.append.ensures.rule ∙ is), short.1, short.2))
     (still_more (seen c.args.self.now.journal.device) (seen between.journal.device) (seen c.compact_if_due.new.self.journal.device) (payload_of c.args.frame.now) c.in-Ok.ensures.acknowledged more))
     c.compact_if_due.ensures.recorded
 
@@ -129,3 +130,27 @@ returns-else-not-self-clause-any_moment g c = λ s is.
     let change = change_of_one (state_of file) s t (payload_of c.args.frame.now) c.requires.stands is in
     weakens g.D.Device.moment g.D.Device.left_since c.args.self.now.journal.device c.append.new.self.journal.device _ _
     (λ f. either file f (payload_of c.args.frame.now) s t is change) c.append.ensures.any_moment
+
+pub returns-in-Ok-clause-counted : goal.returns-in-Ok-clause-counted
+returns-in-Ok-clause-counted g c = λ was. c.compact_if_due.ensures.counted (c.append.ensures.counted was)
+
+pub returns-then-not-self-clause-counted : goal.returns-then-not-self-clause-counted
+returns-then-not-self-clause-counted g c = λ was. c.append.ensures.counted was
+
+pub returns-else-not-self-clause-counted : goal.returns-else-not-self-clause-counted
+returns-else-not-self-clause-counted g c = λ was. c.append.ensures.counted was
+
+pub returns-in-Ok-clause-looked_after : goal.returns-in-Ok-clause-looked_after
+returns-in-Ok-clause-looked_after g c =
+    let d = g.D.Device in
+    on_ok_weaker c.compact_if_due.result
+    (looked_since d.seen d.faults g.T.Words.state c.args.self.now c.append.new.self c.compact_if_due.new.self c.append.ensures.unlooked c.append.ensures.rule c.append.ensures.faults) c.compact_if_due.ensures.looked_after
+
+pub returns-in-Ok-clause-told : goal.returns-in-Ok-clause-told
+returns-in-Ok-clause-told g c = on_err_told c.compact_if_due.result (λ is. inr is) c.compact_if_due.ensures.told
+
+pub returns-then-not-self-clause-told : goal.returns-then-not-self-clause-told
+returns-then-not-self-clause-told g c = inl c.append.ensures.unlooked
+
+pub returns-else-not-self-clause-told : goal.returns-else-not-self-clause-told
+returns-else-not-self-clause-told g c = inl c.append.ensures.unlooked

@@ -230,3 +230,18 @@ returns-clause-err g c =
     let lent : c.deref.result.now ≡ c.in_ok-batch.held.items = search rules in
     let back : state c.take_all_back.new.words ≡ s = c.take_all_back.ensures s (subst (AreHeld s told) (sym lent) c.in_ok-batch.ensures.held) updated in
     leaves_unwritten before now old.failed new.failed e _ _ _ cause (λ broken. absurd (false≢true (sym well ∙ broken))) (λ _ _. (well, room.end, back))
+
+pub returns-in-Ok-clause-counted : goal.returns-in-Ok-clause-counted
+returns-in-Ok-clause-counted g c = λ was. c.acknowledge.ensures.counted was
+
+pub returns-then-self-2-clause-counted : goal.returns-then-self-2-clause-counted
+returns-then-self-2-clause-counted g c = λ was. c.acknowledge.ensures.counted was
+
+pub returns-clause-counted : goal.returns-clause-counted
+returns-clause-counted g c = λ was. c.acknowledge.ensures.counted was
+
+pub returns-in-Ok-clause-looked_after : goal.returns-in-Ok-clause-looked_after
+returns-in-Ok-clause-looked_after g c = λ _. c.in-Ok.ensures.looked_after
+
+pub returns-then-is_empty-clause-looked_after : goal.returns-then-is_empty-clause-looked_after
+returns-then-is_empty-clause-looked_after g c = λ some. absurd (some (no_changes c.args.changes.now (sym c.if-is_empty.ensures)))

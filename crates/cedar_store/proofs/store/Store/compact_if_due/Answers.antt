@@ -12,3 +12,6 @@ returns-in-Ok-clause-done g c = still_usable c.replace_if_shorter.result _ _ _ c
 
 pub returns-in-Err-clause-due : goal.returns-in-Err-clause-due
 returns-in-Err-clause-due g c = never_itself c.args.self.now.compaction c.args.self.now.journal.end
+
+pub returns-in-Ok-clause-counted : goal.returns-in-Ok-clause-counted
+returns-in-Ok-clause-counted g c = λ was. c.replace_if_shorter.ensures.counted was

@@ -59,3 +59,12 @@ pub returns-clause-recorded : goal.returns-clause-recorded
 returns-clause-recorded g c = λ _.
     let seen = g.D.Device.seen in
     recorded_in (seen c.args.self.now.journal.device) (seen c.acknowledge.new.self.journal.device) (payload_of c.in_ok-erasure.erasure) (erase_at c.args.key.now ∷ []) c.in_ok-erasure.ensures.change c.in_ok-acknowledge.ensures.recorded
+
+pub returns-in_err-acknowledge-clause-counted : goal.returns-in_err-acknowledge-clause-counted
+returns-in_err-acknowledge-clause-counted g c = λ was. c.acknowledge.ensures.counted was
+
+pub returns-clause-counted : goal.returns-clause-counted
+returns-clause-counted g c = λ was. c.acknowledge.ensures.counted was
+
+pub returns-clause-looked_after : goal.returns-clause-looked_after
+returns-clause-looked_after g c = λ _. c.in_ok-acknowledge.ensures.looked_after

@@ -177,3 +177,15 @@ returns-in-Ok-clause-err g c =
     let put : IsPutOf s key c.in_ok-held.held (state c.put.new.self) = search rules in
     let back : state c.take_back.new.words ≡ s = c.take_back.ensures s (subst (λ w. IsPutOf s key c.in_ok-held.held (state w)) (sym room.words) put) in
     leaves_unwritten before now old.failed new.failed e _ _ _ cause (λ broken. absurd (false≢true (sym well ∙ broken))) (λ _ _. (well, room.end, back))
+
+pub returns-in-Ok-acknowledge-clause-counted : goal.returns-in-Ok-acknowledge-clause-counted
+returns-in-Ok-acknowledge-clause-counted g c = λ was. c.acknowledge.ensures.counted was
+
+pub returns-then-self-2-clause-counted : goal.returns-then-self-2-clause-counted
+returns-then-self-2-clause-counted g c = λ was. c.acknowledge.ensures.counted was
+
+pub returns-in-Ok-clause-counted : goal.returns-in-Ok-clause-counted
+returns-in-Ok-clause-counted g c = λ was. c.acknowledge.ensures.counted was
+
+pub returns-in-Ok-acknowledge-clause-looked_after : goal.returns-in-Ok-acknowledge-clause-looked_after
+returns-in-Ok-acknowledge-clause-looked_after g c = c.in-Ok-acknowledge.ensures.looked_after

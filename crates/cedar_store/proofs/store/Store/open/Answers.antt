@@ -1,8 +1,9 @@
-use Rattle.std.specs.Prelude.{option_and_then}
-use Rattle.std.proofs.Common.{◌∙◌, ap, refl}
-use Rattle.cedar_journal.specs.Files.{file_payloads}
+use Rattle.std.specs.Prelude.{option_and_then, option_map}
+use Rattle.std.proofs.Common.{◌≡◌, ◌∙◌, ap, length, refl, rules, subst, sym}
+use Rattle.cedar_journal.specs.Files.{file_payloads, HasExtent}
 use Rattle.cedarwood.specs.State.{new_state}
 use Rattle.cedar_store.specs.Changes.{after_payloads}
+use Rattle.cedar_store.specs.Files.{record_count}
 use Rattle.cedar_store.proofs.Ordered.{is_ordered}
 use Rattle.cedar_store.proofs.States.{not_corrupt}
 use Rattle.cedar_store.proofs.store.Store.open.Goals as goal
@@ -22,3 +23,13 @@ returns-in-Ok-open_read-clause-ready g c =
         };
       },
     )
+
+pub count_records-records-requires : goal.count_records-records-requires
+count_records-records-requires g c =
+    let same : c.deref.result.now ≡ c.in-Ok.bytes.items = search rules in
+    record { extent = subst (λ f. HasExtent f c.in-Ok.extent) (sym (same ∙ c.in-Ok.ensures.bytes)) c.in-Ok.ensures.extent }
+
+pub returns-in-Ok-open_read-clause-counted : goal.returns-in-Ok-open_read-clause-counted
+returns-in-Ok-open_read-clause-counted g c = λ usable.
+    let same : c.deref.result.now ≡ c.in-Ok.bytes.items = search rules in
+    ap (option_map length) c.in-Ok-open_read.ensures.settled.1 ∙ ap record_count (sym (same ∙ c.in-Ok.ensures.bytes)) ∙ c.count_records-records.ensures

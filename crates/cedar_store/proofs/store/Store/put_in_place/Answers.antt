@@ -1,7 +1,10 @@
-use Rattle.std.proofs.Common.{◌∙◌, ap, arith, length, refl, subst}
+use Rattle.std.specs.Prelude.{option_map, Some}
+use Rattle.std.proofs.Common.{◌≡◌, ◌∙◌, ap, arith, length, refl, subst, sym}
+use Rattle.std.proofs.lemmas.Bool.{false≢true}
 use Rattle.cedar_journal.specs.Device.{Only}
-use Rattle.cedar_journal.proofs.Images.{replaced_settled, some_gate}
+use Rattle.cedar_journal.proofs.Images.{replaced_settled, replaced_stands, some_gate}
 use Rattle.cedar_journal.proofs.Moments.{weakens}
+use Rattle.cedar_store.specs.Files.{record_count}
 use Rattle.cedar_store.proofs.Compacted.{at_kept, failed_ready, image_or_before, kept_ready, stands_of_image}
 use Rattle.cedar_store.proofs.store.Store.put_in_place.Goals as goal
 
@@ -62,3 +65,21 @@ returns-in-Err-Failed-clause-any_moment g c =
     weakens d.moment d.left_since device c.replace.new.self _ _
     (image_or_before (d.may_leave device) image.bytes.items c.bytes.result.now (g.T.Words.state c.args.self.now.words) image.shape image.whole c.requires.made c.bytes.ensures)
     c.replace.ensures.any_moment
+
+pub returns-in-Ok-clause-counted : goal.returns-in-Ok-clause-counted
+returns-in-Ok-clause-counted g c = λ was usable.
+    let d = g.D.Device in
+    let image = c.args.image.now in
+    let is = c.in-Ok.ensures.replaced ∙ c.bytes.ensures in
+    ap (option_map length) (replaced_stands d.seen d.may_leave c.replace.new.self image.bytes.items image.shape image.whole is)
+    ∙ ap (λ n. Some n) (c.requires.count ∙ sym c.count-records.ensures.entries)
+
+pub returns-in-Err-Kept-clause-counted : goal.returns-in-Err-Kept-clause-counted
+returns-in-Err-Kept-clause-counted g c = λ was usable.
+    let seen = g.D.Device.seen in
+    let same : seen c.replace.new.self ≡ seen c.args.self.now.journal.device =
+    at_kept _ c.in-Err-Kept.field-0 c.in-Err-Kept.error c.in-Err-Kept.field-0-is c.in-Err-Kept.ensures.kept_seen in
+    ap record_count same ∙ was usable
+
+pub returns-in-Err-Failed-clause-counted : goal.returns-in-Err-Failed-clause-counted
+returns-in-Err-Failed-clause-counted g c = λ was usable. absurd (false≢true (sym usable))

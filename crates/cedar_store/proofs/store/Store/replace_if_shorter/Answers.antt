@@ -31,3 +31,12 @@ returns-in-Err-Failed-clause-any_moment g c =
     let old = c.args.self.now in
     weakens d.moment d.left_since old.journal.device c.put_in_place.new.self.journal.device _ _
     (only_state d.seen d.may_leave old.journal.device old.journal.format old.journal.end (g.T.Words.state old.words) c.requires.consistent) c.put_in_place.ensures.any_moment
+
+pub returns-in-Ok-clause-counted : goal.returns-in-Ok-clause-counted
+returns-in-Ok-clause-counted g c = λ was. c.put_in_place.ensures.counted was
+
+pub returns-in-Err-Kept-clause-counted : goal.returns-in-Err-Kept-clause-counted
+returns-in-Err-Kept-clause-counted g c = λ was. c.put_in_place.ensures.counted was
+
+pub returns-in-Err-Failed-clause-counted : goal.returns-in-Err-Failed-clause-counted
+returns-in-Err-Failed-clause-counted g c = λ was. c.put_in_place.ensures.counted was

@@ -6,7 +6,7 @@ use Rattle.cedar_store.proofs.Compacted.{before_cause, before_leaves, handed_ove
 use Rattle.cedar_store.proofs.store.Store.write_anew.Goals as goal
 
 pub put_in_place-requires : goal.put_in_place-requires
-put_in_place-requires g c = record { made = c.in_ok-image.ensures.made c.requires.ready.ordered }
+put_in_place-requires g c = record { made = c.in_ok-image.ensures.made c.requires.ready.ordered; count = c.in_ok-image.ensures.count }
 
 pub returns-in-Ok-clause-compacted : goal.returns-in-Ok-clause-compacted
 returns-in-Ok-clause-compacted g c = (c.in-Ok.ensures.done.0, ap length c.in-Ok.ensures.bytes ∙ c.in_ok-image.ensures.length)
@@ -60,3 +60,9 @@ pub returns-in_err-image-clause-err : goal.returns-in_err-image-clause-err
 returns-in_err-image-clause-err g c =
     handed_over c.from_residual.result c.in_err-image.field-0.0 _ c.from_residual.ensures.1
     (before_leaves c.in_err-image.field-0.0 _ _ _ c.in_err-image.ensures.cause (refl, refl))
+
+pub returns-in-Ok-clause-counted : goal.returns-in-Ok-clause-counted
+returns-in-Ok-clause-counted g c = λ was. c.put_in_place.ensures.counted was
+
+pub returns-clause-counted : goal.returns-clause-counted
+returns-clause-counted g c = λ was. c.put_in_place.ensures.counted was

@@ -27,3 +27,7 @@ returns-in-Ok-clause-made g c = λ ordered.
 pub returns-in-Ok-clause-length : goal.returns-in-Ok-clause-length
 returns-in-Ok-clause-length g c =
     subst (λ l. IfOk c.image_of.result (λ image. length (image_bytes image) ≡ compacted_length l)) c.in-Ok.ensures.entries c.image_of.ensures.length
+
+pub returns-in-Ok-clause-count : goal.returns-in-Ok-clause-count
+returns-in-Ok-clause-count g c =
+    subst (λ l. IfOk c.image_of.result (λ image. length (payloads_of image) ≡ length l)) c.in-Ok.ensures.entries c.image_of.ensures.count

@@ -1,0 +1,42 @@
+-- What a change has done about the length of its file.
+use Rattle.std.proofs.Common.{◌≡◌, ◌≤◌, ◌∙◌, inl, inr, ⊎_elim, ℕ, List, ap, sym, arith}
+use Rattle.cedarwood.specs.Queries.{walk}
+use Rattle.cedarwood.specs.State.{State}
+use Rattle.cedar_store.specs.declared.compaction.CompactError.{CompactError}
+use Rattle.cedar_store.specs.declared.compaction.CompactError.TheVariants as error
+use Rattle.cedar_store.specs.declared.store.Store.{Store}
+use Rattle.cedar_store.specs.Compactions.{compacted_length, is_beyond}
+use Rattle.cedar_store.specs.Shortening.{IsKeptLong, IsLookedAfter, IsLookedAt, IsNotDue, IsShortEnough, IsShortened, IsUnlooked, KeptCause}
+
+-- ---- why a file was kept as it was, from an earlier moment on
+
+kept_since : (before between now : ℕ) (e : CompactError) → before ≤ between → KeptCause between now e → KeptCause before now e
+kept_since before between now error.Memory later cause = cause
+kept_since before between now error.TooLong later cause = cause
+kept_since before between now (error.Kept d) later cause = λ same. let more = cause same in omega (arith, later, more)
+kept_since before between now error.Failed later cause = absurd cause
+
+-- ---- since before the record was written
+
+module _ {T A D : Type 0} (seen : D → List ℕ) (faults : D → ℕ) (state : T → State) (old between new : Store T A D) where
+  not_due_since : IsUnlooked old between → between.compaction ≡ old.compaction → IsNotDue between new → IsNotDue old new
+  not_due_since un rule is =
+      ((is.0.0 ∙ un.0, is.0.1 ∙ un.1), ap (λ r. is_beyond r old.base new.journal.end) (sym rule) ∙ ap (λ b. is_beyond between.compaction b new.journal.end) (sym un.0) ∙ is.1)
+
+  looked_at_since : IsUnlooked old between → between.compaction ≡ old.compaction → faults old.journal.device ≤ faults between.journal.device
+      → IsLookedAt seen faults state between new → IsLookedAt seen faults state old new
+  looked_at_since un rule later looked = (
+    looked.0,
+    ⊎_elim
+        (λ (enough : IsShortEnough state between new). inl (enough.0 ∙ un.1, ap (λ r. is_beyond r (compacted_length (walk (state new.words).tree)) new.journal.end) (sym rule) ∙ enough.1))
+        (⊎_elim
+        (λ (short : IsShortened seen state between new). inr (inl (λ never. short.0 (rule ∙ never), short.1, short.2)))
+        (λ (kept : IsKeptLong faults between new).
+        inr (inr (kept.0, kept.1, kept_since (faults old.journal.device) (faults between.journal.device) (faults new.journal.device) kept.0 later kept.2))))
+        looked.1,
+  )
+
+  pub looked_since : IsUnlooked old between → between.compaction ≡ old.compaction → faults old.journal.device ≤ faults between.journal.device
+      → IsLookedAfter seen faults state between new → IsLookedAfter seen faults state old new
+  looked_since un rule later looked =
+      ⊎_elim (λ (is : IsNotDue between new). inl (not_due_since un rule is)) (λ (is : IsLookedAt seen faults state between new). inr (looked_at_since un rule later is)) looked
