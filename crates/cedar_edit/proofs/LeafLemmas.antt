@@ -1,12 +1,12 @@
 -- A leaf that owns no slot: its first base, and its first label.
-use Rattle.std.proofs.Common.{◌≡◌, ◌∙◌, ℕ, List, [], ◌∷◌, ap, inl, inr, refl, subst, sym}
+use Rattle.std.proofs.Common.{◌≡◌, ◌∙◌, ℕ, [], ap, inl, inr, refl, subst, sym}
 use Rattle.std.specs.Prelude.{◌%◌, ◌≤◌, ◌<◌, ◌⊎◌, Bool, bit_xor, pos}
 use Rattle.std.specs.Int.Bits.{xor_self}
 use lib.Bits.{xor_assoc, xor_zero_r}
 use Rattle.cedar_model.specs.Tree.{Forest}
 use Rattle.cedar_model.specs.declared.layout.Stored.TheVariants.{AtBase}
 use Rattle.cedar_model.specs.Table.Cells.{Cells, Held, SameHeld, Takes}
-use Rattle.cedar_model.specs.Meaning.Family.{base_in, base_of, below, Family, Head, own, plain, top, valued}
+use Rattle.cedar_model.specs.Meaning.Family.{base_in, base_of, below}
 use Rattle.cedar_model.specs.Relocation.Renaming.{OwnsNothing, Rebased}
 use Rattle.cedar_model.specs.Edit.NodeEdits.{follow_on, GoesFirst, IsNodeOf, LinkedChild, SetsChild, SetsSibling}
 use Rattle.cedar_model.specs.Edit.Steps.{Placed}

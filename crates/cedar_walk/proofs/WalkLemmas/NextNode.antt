@@ -19,7 +19,6 @@ use Rattle.cedar_model.specs.Meaning.WellFormed.{cells_in, IsWellFormed, tree_of
 use Rattle.cedar_model.proofs.MeaningLemmas.NodeAtPath.{among_has, at_child, at_node, follow_last}
 use Rattle.cedar_model.proofs.MeaningLemmas.KeyPath.{tree_root}
 use Rattle.cedar_model.proofs.MeaningLemmas.OneNode.{labels_own, owned_label}
-use Rattle.cedar_model.proofs.EditLemmas.LeafAtPlace.{below_root, ends}
 use Rattle.cedar_model.proofs.MeaningLemmas.ReadBack.{path_short}
 use Rattle.cedar_model.proofs.MeaningLemmas.ExclusiveOr.{pos_injective, xor_back}
 use Rattle.cedar_model.proofs.MeaningLemmas.TreeOf.{in_use}
