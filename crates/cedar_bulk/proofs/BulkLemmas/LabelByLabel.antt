@@ -25,11 +25,6 @@ use Rattle.cedar_model.proofs.MeaningLemmas.AmongLabels.{above_less, among_front
 
 -- ---- ascending labels
 
-pub above_all : (b : ℕ) (ls : List ℕ) → Above b ls → (l : ℕ) → Among ls l → b < l
-above_all b [] a l h = absurd h
-above_all b (m ∷ ms) a l (inl e) = subst (λ x. b < x) e a.0
-above_all b (m ∷ ms) a l (inr h) = above_all b ms (above_less b m ms a.0 a.1) l h
-
 pub above_take : (i b : ℕ) (ls : List ℕ) → Above b ls → Above b (take i ls)
 above_take zero b ls a = tt
 above_take (suc i) b [] a = tt

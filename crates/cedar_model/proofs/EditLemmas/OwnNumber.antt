@@ -95,7 +95,7 @@ alone_leaf : (size : ℕ) (T : Cells) (a : ℕ) (h : Head) (ls : List ℕ) → O
 alone_leaf size T a h [] n f = refl
 alone_leaf size T a h (l ∷ ls) n f = absurd (n _ (labels_own T a h (l ∷ ls) f.begins l (inl refl)))
 
-alone_child : (size : ℕ) (T : Cells) (a : ℕ) (h : Head) (ls : List ℕ) → (a ≡ 0 → ⊥) → OwnsNothing T a → Family size T a h ls → T.child a ≡ 0
+pub alone_child : (size : ℕ) (T : Cells) (a : ℕ) (h : Head) (ls : List ℕ) → (a ≡ 0 → ⊥) → OwnsNothing T a → Family size T a h ls → T.child a ≡ 0
 alone_child size T a plain [] z n f = f.begins
 alone_child size T a plain (l ∷ ls) z n f = absurd (n _ (labels_own T a plain (l ∷ ls) f.begins l (inl refl)))
 alone_child size T a (valued v) ls z n f = f.begins.0

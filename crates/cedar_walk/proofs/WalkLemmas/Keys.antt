@@ -1,5 +1,5 @@
 -- A key that a walk keeps in step with its node, and the room that it needs.
-use Rattle.std.proofs.Common.{◌≡◌, ℕ, zero, suc, ◌+◌, ◌-◌, ◌<◌, ◌≤◌, ℤ, List, [], ◌∷◌, ◌++◌, length, map, take, drop, None, Option, Some, Err, Ok, OnErr, Result, append_assoc, sym, ◌∙◌, ap, arith, refl, subst}
+use Rattle.std.proofs.Common.{◌≡◌, ℕ, zero, suc, ◌+◌, ◌-◌, ◌<◌, ◌≤◌, ℤ, List, [], ◌∷◌, ◌++◌, length, map, take, drop, None, Option, Some, append_assoc, sym, ◌∙◌, ap, arith, refl, subst}
 use Rattle.std.proofs.lemmas.List.{length-append, length-take-le, take-append-drop, take_at}
 use Rattle.cedar_model.specs.Queries.{Entry, node_at}
 use Rattle.cedar_model.specs.Walks.{forwards, Visit, visited_entries}
@@ -13,7 +13,6 @@ use Rattle.cedar_walk.specs.Ranges.{behind_path}
 use Rattle.cedar_walk.specs.Visits.{ComesTo, entries_at, first_sibling_label, IsBelow, left_at, number_below, path_to, visited_at}
 use Rattle.cedar_walk.proofs.WalkLemmas.NextNode.{child_owned, first_there, named_first, path_length, short_way, way_one_more}
 use Rattle.cedar_walk.proofs.WalkLemmas.NextNumber.{Descended, descended_on, leaf_number}
-use Rattle.cedar_model.proofs.GeneralLemmas.{on_err}
 
 -- the front of a key, and some labels more
 pub front_and_more : (front path : List ℕ) (f m : ℕ) → length front ≡ f → m ≤ length path → take (f + m) (front ++ path) ≡ front ++ take m path

@@ -1,11 +1,11 @@
 -- A walk over a range of keys in a table: where it begins, and the path of a node.
-use Rattle.std.proofs.Common.{◌≡◌, ◌⊎◌, inl, inr, ℕ, zero, suc, ◌+◌, ◌-◌, ◌<◌, ◌≤◌, ◌==◌, true, false, cond, ◌||◌, ℤ, List, [], ◌∷◌, ◌++◌, length, take, drop, set, get_or, Option, Some, None, MatchOption, append_assoc, sym, ◌∙◌, ap, refl, subst, arith}
+use Rattle.std.proofs.Common.{◌≡◌, ◌⊎◌, inl, inr, ℕ, zero, suc, ◌+◌, ◌-◌, ◌<◌, ◌≤◌, ◌==◌, true, false, cond, ℤ, List, [], ◌∷◌, ◌++◌, length, take, drop, set, get_or, Option, Some, None, MatchOption, append_assoc, sym, ◌∙◌, ap, refl, subst, arith}
 use Rattle.std.specs.Prelude.{pos, unsigned_abs}
-use Rattle.std.proofs.lemmas.Bool.{eqb-false, eqb-true, true≢false}
+use Rattle.std.proofs.lemmas.Bool.{eqb-false, eqb-true}
 use Rattle.std.proofs.lemmas.Bool.Decides.{eqb_tells}
 use Rattle.std.proofs.lemmas.List.{drop_more, drop-set, length-append, length-set, length-take-le, take_all, take-append-drop, take-set, take-take}
 use Rattle.cedar_model.specs.Edits.{HasPath}
-use Rattle.cedar_model.specs.Tree.{Forest, none, child, Tree, has_label, IsSoundBelow, subtree}
+use Rattle.cedar_model.specs.Tree.{Forest, none, Tree, has_label, IsSoundBelow, subtree}
 use Rattle.cedar_model.specs.Queries.{node_at, walk}
 use Rattle.cedar_model.specs.Walks.{behind, visited_entries, forwards, node_up, visits_left}
 use Rattle.cedar_model.proofs.OrderLemmas.{sound_node_at}

@@ -13,7 +13,7 @@ use Rattle.cedar_model.specs.Queries.{Entry, own_entry, under, walk_forest, walk
 use Rattle.cedar_model.specs.Walks.{Visit, behind, visited_entries, forwards, node_up, visit_from, visits_after, visits_below, visits_left}
 use Rattle.cedar_model.proofs.OrderLemmas.{ascending_subtree, all_above_more}
 use Rattle.cedar_model.proofs.PredictLemmas.{map-after}
-use Rattle.cedar_model.proofs.VisitLemmas.{goes_down, goes_right, has_behind, has_here, next_behind, node_up_is, subtree_here, walk_visits, behind_here, entries_below, visits_from_none}
+use Rattle.cedar_model.proofs.VisitLemmas.{goes_down, goes_right, has_behind, has_here, next_behind, node_up_is, subtree_here, behind_here, entries_below}
 use Rattle.cedar_model.proofs.WalkLemmas.{filter-map, filter-none, ltb-from_lt, nat_lt_itself}
 use Rattle.cedar_walk.specs.Visits.{first_sibling_label}
 use Rattle.cedar_walk.specs.RangePlaces.{AboveFrom, AreLast}
