@@ -2,7 +2,7 @@
 use Rattle.std.proofs.Common.{◌≡◌, ◌<◌, ℕ, suc, List, [], ◌∷◌, ◌++◌, drop, length, map, take, Err, ap, sym, refl, ◌∙◌, append-nil, arith}
 use Rattle.std.proofs.lemmas.List.{drop_all, length-map}
 use Rattle.std.proofs.Math.Seq.{take-length}
-use Rattle.cedarwood.specs.State.{State, after_erase}
+use Rattle.cedarwood.specs.State.{State}
 use Rattle.cedarwood.specs.Batches.{held_in_turn}
 use Rattle.cedarwood.specs.Dictionary.{Dictionary}
 use Rattle.cedarwood.specs.declared.error.CedarError.TheVariants.{Memory}
