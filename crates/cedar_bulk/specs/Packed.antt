@@ -1,6 +1,7 @@
 -- How full the blocks of a table made of sorted pairs are: one slot alone goes wherever a slot is free, so that blocks are made for nodes
 -- that take several slots at once, or else where all blocks but the first are full.
-use Rattle.std.specs.Prelude.{◌≡◌, ◌⊎◌, ℕ, ◌+◌, ◌*◌, ◌≤◌, nat_lt, cond, ℤ, List, [], ◌∷◌, ◌++◌, length, Option}
+use Rattle.std.specs.Prelude.{◌≡◌, ◌⊎◌, ℕ, ◌+◌, ◌*◌, ◌≤◌, nat_lt, cond, ℤ, List, []}
+use Rattle.std.specs.Prelude.{◌∷◌, ◌++◌, length, Option}
 use Rattle.cedar_model.specs.Tree.{Forest, none, child, Tree}
 use Rattle.cedar_bulk.specs.declared.spans.Span.{Span}
 use Rattle.cedar_model.specs.Edit.Packing.{Packs, TakesOne}

@@ -1,5 +1,6 @@
 -- Sorted pairs, of which a table is made at once: a node with all of its labels after the other.
-use Rattle.std.specs.Prelude.{◌≡◌, ℕ, ◌+◌, ◌==◌, cond, ℤ, true, List, [], ◌∷◌, ◌++◌, map, get_or, Option, Some, None, MatchOption, ◌⊎◌}
+use Rattle.std.specs.Prelude.{◌≡◌, ℕ, ◌+◌, ◌==◌, cond, ℤ, true, List, [], ◌∷◌, ◌++◌, map}
+use Rattle.std.specs.Prelude.{get_or, Option, Some, None, MatchOption, ◌⊎◌}
 use Rattle.std.specs.Borrow.{Bor}
 use Rattle.cedar_model.specs.Tree.{Forest, none, child, empty_tree, IsAscending}
 use Rattle.cedar_model.specs.Queries.{Entry, node_at}

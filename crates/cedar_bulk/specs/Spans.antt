@@ -1,6 +1,8 @@
 -- Sorted entries that go on below one node, and the nodes that wait for theirs.
-use Rattle.std.specs.Prelude.{◌≡◌, ◌⊎◌, ℕ, ◌+◌, ◌≤◌, ◌<◌, nat_lt, bit_xor, cond, ℤ, false, List, [], ◌∷◌, length, map, drop, Option, Some, None, IfSome, true}
-use Rattle.cedar_model.specs.Tree.{AllNumbers, Forest, none, child, Tree, is_bare, IsAscending, IsSoundBelow}
+use Rattle.std.specs.Prelude.{◌≡◌, ◌⊎◌, ℕ, ◌+◌, ◌≤◌, ◌<◌, nat_lt, bit_xor, cond, ℤ, false, List, []}
+use Rattle.std.specs.Prelude.{◌∷◌, length, map, drop, Option, Some, None, IfSome, true}
+use Rattle.cedar_model.specs.Tree.{AllNumbers, Forest, none, child, Tree, is_bare}
+use Rattle.cedar_model.specs.Tree.{IsAscending, IsSoundBelow}
 use Rattle.cedar_model.specs.Queries.{Entry, prefixes_forest, walk, walk_forest}
 use Rattle.cedar_model.specs.Edits.{edit_at}
 use Rattle.cedar_model.specs.declared.layout.Stored.TheVariants.{AtBase}

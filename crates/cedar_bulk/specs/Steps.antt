@@ -1,5 +1,6 @@
 -- What the steps of a build do, each as one word.
-use Rattle.std.specs.Prelude.{◌≡◌, ◌⊎◌, ◌+◌, ◌*◌, ◌<◌, ◌≤◌, ℕ, ℤ, drop, length, List, [], ◌∷◌, ◌++◌, map, None, Option, Some, take, true}
+use Rattle.std.specs.Prelude.{◌≡◌, ◌⊎◌, ◌+◌, ◌*◌, ◌<◌, ◌≤◌, ℕ, ℤ, drop, length, List, [], ◌∷◌}
+use Rattle.std.specs.Prelude.{◌++◌, map, None, Option, Some, take, true}
 use Rattle.cedar_model.specs.Tree.{Forest, IsAscending, none, Tree}
 use Rattle.cedar_model.specs.Queries.{Entry, prefixes}
 use Rattle.cedar_model.specs.Edits.{add_leaf, edit_at}

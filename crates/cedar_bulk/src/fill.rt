@@ -1,7 +1,12 @@
 //! A node with all of its slots at once: its number's and its labels'.
 
-ghost use Rattle.std.specs.Prelude.{◌<◌, ◌∷◌, ◌≡◌, ◌≢◌, ◌≤◌, [], IfErr, IfOk, IfSome, length, MatchOption, None, OnErr, OnOk, Some, true, ℕ};
-ghost use Rattle.cedar_bulk.specs.Words.{base_of, below, cells, fields, Fills, GetsBase, GetsNumber, GoesLast, Held, is_value, IsTable, IsUnfilled, KeepsOwn, MakesBlocks, MakesIfFull, MayRefuse, SameFrame, SameSettings, size_of, StaysBare, StaysOwn, TakesOne, WantsBase, WantsChain, WantsNumber, WantsSlots};
+ghost use Rattle.std.specs.Prelude.{◌<◌, ◌∷◌, ◌≡◌, ◌≢◌, ◌≤◌, [], IfErr, IfOk, IfSome, length};
+ghost use Rattle.std.specs.Prelude.{MatchOption, None, OnErr, OnOk, Some, true, ℕ};
+ghost use Rattle.cedar_bulk.specs.Words.{base_of, below, cells, fields, Fills, GetsBase};
+ghost use Rattle.cedar_bulk.specs.Words.{GetsNumber, GoesLast, Held, is_value, IsTable, IsUnfilled};
+ghost use Rattle.cedar_bulk.specs.Words.{KeepsOwn, MakesBlocks, MakesIfFull, MayRefuse, SameFrame};
+ghost use Rattle.cedar_bulk.specs.Words.{SameSettings, size_of, StaysBare, StaysOwn, TakesOne};
+ghost use Rattle.cedar_bulk.specs.Words.{WantsBase, WantsChain, WantsNumber, WantsSlots};
 
 use crate::append::{append_labels, slot_at};
 use cedar_slots::Shortage;

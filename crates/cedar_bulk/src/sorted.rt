@@ -1,7 +1,20 @@
 //! A table made from sorted pairs: each node gets all of its slots at once, the last child's subtree first.
 
-ghost use Rattle.std.specs.Prelude.{◌*◌, ◌++◌, ◌+◌, ◌<◌, ◌∷◌, ◌≡◌, ◌≢◌, ◌≤ℤ◌, ◌≤◌, [], IfErr, IfOk, length, List, None, OnErr, OnOk, option_to_list, pos, true, ℕ};
-ghost use Rattle.cedar_bulk.specs.Words.{AddsChildren, AllByRecursion, ArePathsAscending, ArePathsKeys, asc, AtBase, cells, count_crowded_forest, CoversChildren, empty_tree, EndsFilling, entries_by, fields, Filling, FillsSpan, FillsTail, Forest, GoesOnAlike, HasBlocksFor, HoldsTree, is_value, IsPacked, IsSlotLimit, IsTable, IsTreeOfSpan, IsUnfilled, IsWellFormed, KeepsOwnOf, labels, LacksMemoryOr, MakesBlocks, marks, MayRefuse, none, OfTree, Packs, PacksSpan, PacksTail, PacksTurn, Part, part_of, parts_of, prefixes, prefixes_forest, SameModes, SameSettings, size_of, SlotLimit, SortedMarks, TakesOne, TakesTurn, Tree, tree_of, WantsMore, WantsMoreThan};
+ghost use Rattle.std.specs.Prelude.{◌*◌, ◌++◌, ◌+◌, ◌<◌, ◌∷◌, ◌≡◌, ◌≢◌, ◌≤ℤ◌, ◌≤◌, []};
+ghost use Rattle.std.specs.Prelude.{IfErr, IfOk, length, List, None, OnErr, OnOk};
+ghost use Rattle.std.specs.Prelude.{option_to_list, pos, true, ℕ};
+ghost use Rattle.cedar_bulk.specs.Words.{AddsChildren, AllByRecursion, ArePathsAscending};
+ghost use Rattle.cedar_bulk.specs.Words.{ArePathsKeys, asc, AtBase, cells, count_crowded_forest};
+ghost use Rattle.cedar_bulk.specs.Words.{CoversChildren, empty_tree, EndsFilling, entries_by};
+ghost use Rattle.cedar_bulk.specs.Words.{fields, Filling, FillsSpan, FillsTail, Forest};
+ghost use Rattle.cedar_bulk.specs.Words.{GoesOnAlike, HasBlocksFor, HoldsTree, is_value, IsPacked};
+ghost use Rattle.cedar_bulk.specs.Words.{IsSlotLimit, IsTable, IsTreeOfSpan, IsUnfilled};
+ghost use Rattle.cedar_bulk.specs.Words.{IsWellFormed, KeepsOwnOf, labels, LacksMemoryOr};
+ghost use Rattle.cedar_bulk.specs.Words.{MakesBlocks, marks, MayRefuse, none, OfTree, Packs};
+ghost use Rattle.cedar_bulk.specs.Words.{PacksSpan, PacksTail, PacksTurn, Part, part_of, parts_of};
+ghost use Rattle.cedar_bulk.specs.Words.{prefixes, prefixes_forest, SameModes, SameSettings};
+ghost use Rattle.cedar_bulk.specs.Words.{size_of, SlotLimit, SortedMarks, TakesOne, TakesTurn};
+ghost use Rattle.cedar_bulk.specs.Words.{Tree, tree_of, WantsMore, WantsMoreThan};
 
 use crate::fill::{fill_node, name_alone};
 use crate::spans::{

@@ -1,7 +1,9 @@
 -- What a cut of least cost writes into a buffer.
-use Rattle.std.specs.Prelude.{◌≡◌, ℕ, ◌<◌, ◌≤◌, ◌^◌, Bool, true, false, List, ◌++◌, length, map, drop}
+use Rattle.std.specs.Prelude.{◌≡◌, ℕ, ◌<◌, ◌≤◌, ◌^◌, Bool, true, false, List}
+use Rattle.std.specs.Prelude.{◌++◌, length, map, drop}
 use Rattle.cedarwood.specs.Tree.{Tree}
-use Rattle.cedar_words.specs.Words.{character_price, IsAheadCapped, IsCheapestBy, IsCut, IsLeastCapped, Token}
+use Rattle.cedar_words.specs.Words.{character_price, IsAheadCapped, IsCheapestBy}
+use Rattle.cedar_words.specs.Words.{IsCut, IsLeastCapped, Token}
 use Rattle.cedar_c.specs.Scans.{found_token}
 use Rattle.cedar_c.specs.declared.scans.Found.{Found}
 

@@ -1,5 +1,7 @@
 -- A page of entries with their keys, written into two buffers: elements, and the bytes of the keys.
-use Rattle.std.specs.Prelude.{◌≡◌, ◌⊎◌, ◌+◌, ◌-◌, ◌<◌, ◌++◌, ℕ, suc, zero, false, true, List, [], ◌∷◌, drop, if◌then◌else◌, length, nat_eq, nat_lt, None, Option, Some, IfSome}
+use Rattle.std.specs.Prelude.{◌≡◌, ◌⊎◌, ◌+◌, ◌-◌, ◌<◌, ◌++◌, ℕ, suc, zero, false, true}
+use Rattle.std.specs.Prelude.{List, [], ◌∷◌, drop, if◌then◌else◌, length, nat_eq, nat_lt}
+use Rattle.std.specs.Prelude.{None, Option, Some, IfSome}
 use Rattle.std.specs.List.{filter, starts_with}
 use Rattle.std.specs.Cmp.Lexicographic.{slice_cmp}
 use Rattle.std.specs.Ordering.{is_gt, nat_cmp}

@@ -1,5 +1,6 @@
 -- What a file's bytes are of, and the numbers that are returned for a refused one.
-use Rattle.std.specs.Prelude.{◌≡◌, ◌⊎◌, ℕ, Bool, true, false, ◌==◌, List, [], ◌∷◌, slice_get, take, None, Option, Some}
+use Rattle.std.specs.Prelude.{◌≡◌, ◌⊎◌, ℕ, Bool, true, false, ◌==◌, List, [], ◌∷◌}
+use Rattle.std.specs.Prelude.{slice_get, take, None, Option, Some}
 use Rattle.cedarwood.specs.Layouts.{LayoutKind}
 use Rattle.cedarwood.specs.TableFields.{Fields}
 use Rattle.cedarwood.specs.Format.{header_at, header_refusal, size_refusal}
@@ -7,8 +8,14 @@ use Rattle.cedarwood.specs.Tables.{IsTableFile, table_bytes}
 use Rattle.cedarwood.specs.Limits.{most_slots}
 use Rattle.cedar_c.specs.Layouts.{dictionary_in, layout_if}
 use Rattle.cedar_c.specs.declared.any.AnyCedar.{AnyCedar}
-use Rattle.cedar_c.specs.declared.status.TheConstants.{MEMORY, FILE_TRUNCATED, FILE_MAGIC, FILE_VERSION, FILE_BYTE_ORDER, FILE_LAYOUT, FILE_HEADER, FILE_MEMORY_LIMIT, FILE_CORRUPT, FILE_TRAILING, FILE_UNREAD}
-use Rattle.cedarwood.specs.Refusal.{Refusal, first_refusal, Truncated, InvalidMagic, UnsupportedVersion, UnsupportedByteOrder, LayoutMismatch, InvalidHeader, AllocationLimitExceeded, AllocationFailed, CorruptData, TrailingData, Failed}
+use Rattle.cedar_c.specs.declared.status.TheConstants.{MEMORY, FILE_TRUNCATED, FILE_MAGIC}
+use Rattle.cedar_c.specs.declared.status.TheConstants.{FILE_VERSION, FILE_BYTE_ORDER, FILE_LAYOUT}
+use Rattle.cedar_c.specs.declared.status.TheConstants.{FILE_HEADER, FILE_MEMORY_LIMIT, FILE_CORRUPT}
+use Rattle.cedar_c.specs.declared.status.TheConstants.{FILE_TRAILING, FILE_UNREAD}
+use Rattle.cedarwood.specs.Refusal.{Refusal, first_refusal, Truncated, InvalidMagic}
+use Rattle.cedarwood.specs.Refusal.{UnsupportedVersion, UnsupportedByteOrder, LayoutMismatch}
+use Rattle.cedarwood.specs.Refusal.{InvalidHeader, AllocationLimitExceeded, AllocationFailed}
+use Rattle.cedarwood.specs.Refusal.{CorruptData, TrailingData, Failed}
 
 -- whether a file's byte of its layout is there, and names the reduced one
 abbrev pub is_reduced_byte : Option ℕ → Bool

@@ -1,5 +1,6 @@
 -- What calls that open a handle say.
-use Rattle.std.specs.Prelude.{◌≡◌, ◌≢◌, ◌⊎◌, ◌↔◌, ◌≤ℤ◌, ◌<ℤ◌, ℕ, ℤ, pos, Bool, List, None, Some, IfSome}
+use Rattle.std.specs.Prelude.{◌≡◌, ◌≢◌, ◌⊎◌, ◌↔◌, ◌≤ℤ◌, ◌<ℤ◌, ℕ, ℤ, pos, Bool}
+use Rattle.std.specs.Prelude.{List, None, Some, IfSome}
 use Rattle.cedarwood.specs.Format.{header_answer}
 use Rattle.cedarwood.specs.Layouts.{LayoutKind, layout_byte}
 use Rattle.cedarwood.specs.Words.{IsEmpty, IsOnTable, IsSorted}
@@ -13,7 +14,8 @@ use Rattle.cedar_c.specs.Status.{TellsFault, TellsPosition}
 use Rattle.cedar_c.specs.declared.any.AnyCedar.{AnyCedar}
 use Rattle.cedar_c.specs.declared.handle.Handle.{Handle}
 use Rattle.cedar_c.specs.declared.pairs.Pair.{Pair}
-use Rattle.cedar_c.specs.declared.status.TheConstants.{OK, MEMORY, SLOT_LIMIT, INVALID_MAX_TRIAL, FILE_CORRUPT, FILE_UNREAD}
+use Rattle.cedar_c.specs.declared.status.TheConstants.{OK, MEMORY, SLOT_LIMIT, INVALID_MAX_TRIAL}
+use Rattle.cedar_c.specs.declared.status.TheConstants.{FILE_CORRUPT, FILE_UNREAD}
 
 -- if OK is returned, the handle is opened with an empty dictionary of a layout and settings, in place of what it had; else it is as it was
 pub record OpensNew (kind : LayoutKind) (ordered : Bool) (trials : ℤ) (before after : Handle) (status : ℕ) : Type 0 where

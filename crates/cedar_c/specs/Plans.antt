@@ -1,5 +1,6 @@
 -- The dictionary of a store whose file somebody else keeps: what the plans say that its calls write down.
-use Rattle.std.specs.Prelude.{◌≡◌, ◌⊎◌, ℕ, ℤ, ◌+◌, ◌<◌, ◌≤◌, ◌^◌, Bool, true, false, List, [], ◌∷◌, Some}
+use Rattle.std.specs.Prelude.{◌≡◌, ◌⊎◌, ℕ, ℤ, ◌+◌, ◌<◌, ◌≤◌, ◌^◌, Bool, true}
+use Rattle.std.specs.Prelude.{false, List, [], ◌∷◌, Some}
 use Rattle.cedar_journal.specs.declared.format.Format.{Format}
 use Rattle.cedar_journal.specs.declared.format.Format.TheVariants.{Plain, Summed}
 use Rattle.cedar_journal.specs.declared.records.Extent.{Extent}
@@ -15,7 +16,9 @@ use Rattle.cedar_store.specs.declared.error.DurableError.{DurableError}
 use Rattle.cedar_store.specs.declared.error.DurableError.TheVariants as error
 use Rattle.cedarwood.specs.State.{after_erase, after_put, State}
 use Rattle.cedar_c.specs.Status.{status_of}
-use Rattle.cedar_c.specs.declared.status.TheConstants.{OK, MEMORY, SLOT_LIMIT, NO_ROOM, OTHER, STORE_CORRUPT, STORE_DAMAGED, STORE_FOREIGN, STORE_FULL, STORE_TOO_LONG}
+use Rattle.cedar_c.specs.declared.status.TheConstants.{OK, MEMORY, SLOT_LIMIT, NO_ROOM, OTHER}
+use Rattle.cedar_c.specs.declared.status.TheConstants.{STORE_CORRUPT, STORE_DAMAGED, STORE_FOREIGN}
+use Rattle.cedar_c.specs.declared.status.TheConstants.{STORE_FULL, STORE_TOO_LONG}
 
 -- the format of records that have a sum or not
 abbrev pub format_if : Bool → Format

@@ -1,9 +1,21 @@
 -- The numbers that calls from C return.
 use Rattle.std.specs.Prelude.{◌≡◌, ◌⊎◌, ℕ, List, [], ◌∷◌, ◌==◌, codes, if◌then◌else◌, None}
-use Rattle.cedar_c.specs.declared.status.TheConstants.{OK, CLOSED, MEMORY, SLOT_LIMIT, EMPTY_KEY, NUL_BYTE, INVALID_VALUE, INVALID_MAX_TRIAL, DUPLICATE_KEY, KEYS_NOT_SORTED, NO_ROOM, NOT_ASCENDING, FILE_TRUNCATED, FILE_MAGIC, FILE_VERSION, FILE_BYTE_ORDER, FILE_LAYOUT, FILE_HEADER, FILE_MEMORY_LIMIT, FILE_CORRUPT, FILE_TRAILING, FILE_UNREAD, STORE_CORRUPT, STORE_DAMAGED, STORE_DEVICE, STORE_FAILED, STORE_FOREIGN, STORE_FULL, STORE_KEPT, STORE_LOCKED, STORE_NO_ROOM, STORE_READ_ONLY, STORE_TOO_LONG}
+use Rattle.cedar_c.specs.declared.status.TheConstants.{OK, CLOSED, MEMORY, SLOT_LIMIT, EMPTY_KEY}
+use Rattle.cedar_c.specs.declared.status.TheConstants.{NUL_BYTE, INVALID_VALUE, INVALID_MAX_TRIAL}
+use Rattle.cedar_c.specs.declared.status.TheConstants.{DUPLICATE_KEY, KEYS_NOT_SORTED, NO_ROOM}
+use Rattle.cedar_c.specs.declared.status.TheConstants.{NOT_ASCENDING, FILE_TRUNCATED, FILE_MAGIC}
+use Rattle.cedar_c.specs.declared.status.TheConstants.{FILE_VERSION, FILE_BYTE_ORDER, FILE_LAYOUT}
+use Rattle.cedar_c.specs.declared.status.TheConstants.{FILE_HEADER, FILE_MEMORY_LIMIT, FILE_CORRUPT}
+use Rattle.cedar_c.specs.declared.status.TheConstants.{FILE_TRAILING, FILE_UNREAD, STORE_CORRUPT}
+use Rattle.cedar_c.specs.declared.status.TheConstants.{STORE_DAMAGED, STORE_DEVICE, STORE_FAILED}
+use Rattle.cedar_c.specs.declared.status.TheConstants.{STORE_FOREIGN, STORE_FULL, STORE_KEPT}
+use Rattle.cedar_c.specs.declared.status.TheConstants.{STORE_LOCKED, STORE_NO_ROOM, STORE_READ_ONLY}
+use Rattle.cedar_c.specs.declared.status.TheConstants.{STORE_TOO_LONG}
 use Rattle.cedarwood.specs.Tree.{Tree, number_at}
 use Rattle.cedarwood.specs.declared.error.CedarError.{CedarError}
-use Rattle.cedarwood.specs.declared.error.CedarError.TheVariants.{EmptyKey, NulByte, InvalidValue, InvalidMaxTrial, DuplicateKey, KeysNotSorted, Memory, SlotLimit}
+use Rattle.cedarwood.specs.declared.error.CedarError.TheVariants.{EmptyKey, NulByte, InvalidValue}
+use Rattle.cedarwood.specs.declared.error.CedarError.TheVariants.{InvalidMaxTrial, DuplicateKey}
+use Rattle.cedarwood.specs.declared.error.CedarError.TheVariants.{KeysNotSorted, Memory, SlotLimit}
 
 -- the number of an error
 abbrev pub status_of : CedarError → ℕ

@@ -1,9 +1,11 @@
 -- What calls say that store the value of one key, and those that erase keys.
-use Rattle.std.specs.Prelude.{◌≡◌, ◌⊎◌, ◌↔◌, ◌≤◌, ◌<◌, ◌*◌, ◌-◌, ℕ, ℤ, List, length, None, option_map, IfSome, IsSome}
+use Rattle.std.specs.Prelude.{◌≡◌, ◌⊎◌, ◌↔◌, ◌≤◌, ◌<◌, ◌*◌, ◌-◌, ℕ, ℤ, List, length}
+use Rattle.std.specs.Prelude.{None, option_map, IfSome, IsSome}
 use Rattle.cedarwood.specs.Fault.{fault}
 use Rattle.cedarwood.specs.Limits.{most_slots}
 use Rattle.cedarwood.specs.State.{after_put}
-use Rattle.cedar_c.specs.Content.{capacity_in, content, layout_in, size_in, state_in, tree_in, trials_in}
+use Rattle.cedar_c.specs.Content.{capacity_in, content, layout_in, size_in}
+use Rattle.cedar_c.specs.Content.{state_in, tree_in, trials_in}
 use Rattle.cedar_c.specs.Status.{LacksOnlyNew, TellsPosition, position_of, status_of}
 use Rattle.cedar_c.specs.declared.handle.Handle.{Handle}
 use Rattle.cedar_c.specs.declared.status.TheConstants.{OK, CLOSED, MEMORY, SLOT_LIMIT}

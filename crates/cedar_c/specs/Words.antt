@@ -1,23 +1,33 @@
 -- The words of clauses, from one place.
 pub use Rattle.cedarwood.specs.Sorted.{entries_of}
 pub use Rattle.cedar_c.specs.Changes.{IsRecord}
-pub use Rattle.cedar_c.specs.Content.{capacity_in, ChangesBy, content, ErasesUnder, layout_in, marks_in, size_in, state_in, tree_in}
+pub use Rattle.cedar_c.specs.Content.{capacity_in, ChangesBy, content, ErasesUnder, layout_in}
+pub use Rattle.cedar_c.specs.Content.{marks_in, size_in, state_in, tree_in}
 pub use Rattle.cedar_c.specs.Content.{trials_in}
 pub use Rattle.cedar_c.specs.Cuts.{IsLeastCut, LacksRoomForCut, prices, WritesLeastCut}
-pub use Rattle.cedar_c.specs.Entries.{bytes_lacking, EndsPage, entries_behind_key, PageOf, TellsEntries, TellsPage, visited_key, WritesNothing, WritesPage}
-pub use Rattle.cedar_c.specs.Files.{early_refusal, file_in, file_status, is_reduced_byte, IsFileOf, LacksOrCorrupt, TellsNoTable}
+pub use Rattle.cedar_c.specs.Entries.{bytes_lacking, EndsPage, entries_behind_key, PageOf}
+pub use Rattle.cedar_c.specs.Entries.{TellsEntries, TellsPage, visited_key, WritesNothing}
+pub use Rattle.cedar_c.specs.Entries.{WritesPage}
+pub use Rattle.cedar_c.specs.Files.{early_refusal, file_in, file_status, is_reduced_byte}
+pub use Rattle.cedar_c.specs.Files.{IsFileOf, LacksOrCorrupt, TellsNoTable}
 pub use Rattle.cedar_c.specs.Files.{layout_named, minor_of, TellsHeader, TellsJust}
 pub use Rattle.cedar_c.specs.Groups.{AddsChange, group_head, IsGroup, LacksGroup}
 pub use Rattle.cedar_c.specs.Layouts.{dictionary_in, HasToGrow, layout_if, layout_of}
 pub use Rattle.cedar_c.specs.Lending.{as_shown, LendsCedar, LendsSeen}
-pub use Rattle.cedar_c.specs.Matches.{all_longer, filled_from, filled_matches, Fit, front_keys, longer, match_of, predicted_keys}
+pub use Rattle.cedar_c.specs.Matches.{all_longer, filled_from, filled_matches, Fit, front_keys}
+pub use Rattle.cedar_c.specs.Matches.{longer, match_of, predicted_keys}
 pub use Rattle.cedar_c.specs.Opens.{OpensBuilt, OpensLoaded, OpensNew}
-pub use Rattle.cedar_c.specs.Pairs.{build_fault, entries_in, keys_in, MayWantSlots, named_keys, StoresFront, StoresPart, taken_pair}
-pub use Rattle.cedar_c.specs.Plans.{damage_of, format_if, IsChangePlan, IsErasurePlan, IsOpening, IsPutPlan, LacksChange, LacksRecord, MayCut, TellsWhy, store_status}
+pub use Rattle.cedar_c.specs.Pairs.{build_fault, entries_in, keys_in, MayWantSlots, named_keys}
+pub use Rattle.cedar_c.specs.Pairs.{StoresFront, StoresPart, taken_pair}
+pub use Rattle.cedar_c.specs.Plans.{damage_of, format_if, IsChangePlan, IsErasurePlan}
+pub use Rattle.cedar_c.specs.Plans.{IsOpening, IsPutPlan, LacksChange, LacksRecord, MayCut}
+pub use Rattle.cedar_c.specs.Plans.{TellsWhy, store_status}
 pub use Rattle.cedar_c.specs.Readings.{shown_figure, shown_in, shown_layout, shown_tree}
-pub use Rattle.cedar_c.specs.Scans.{found_keywords, found_spot, found_spots, found_token, found_tokens, WritesOn, WritesPiece}
+pub use Rattle.cedar_c.specs.Scans.{found_keywords, found_spot, found_spots, found_token}
+pub use Rattle.cedar_c.specs.Scans.{found_tokens, WritesOn, WritesPiece}
 pub use Rattle.cedar_c.specs.Shrinks.{Shrinks}
-pub use Rattle.cedar_c.specs.Status.{LacksOnlyNew, position_of, status_of, status_text, TellsFault, TellsPosition}
+pub use Rattle.cedar_c.specs.Status.{LacksOnlyNew, position_of, status_of, status_text}
+pub use Rattle.cedar_c.specs.Status.{TellsFault, TellsPosition}
 pub use Rattle.cedar_c.specs.Stores.{HoldsFront, HoldsPart, RefusesAll}
 pub use Rattle.cedar_c.specs.Updates.{KeepsSlots, StoresValue}
 pub use Rattle.cedar_c.specs.declared.any.AnyCedar.{AnyCedar}
@@ -53,7 +63,8 @@ pub use Rattle.cedarwood.specs.Shrinking.{IsShrunk}
 pub use Rattle.cedarwood.specs.State.{after_erase, after_put}
 pub use Rattle.cedarwood.specs.Tree.{number_at}
 pub use Rattle.cedarwood.specs.Updates.{IsUpdate}
-pub use Rattle.cedarwood.specs.Words.{IsCleared, IsEmpty, IsErasedUnder, IsSlotLimit, IsSorted, most_slots}
+pub use Rattle.cedarwood.specs.Words.{IsCleared, IsEmpty, IsErasedUnder, IsSlotLimit}
+pub use Rattle.cedarwood.specs.Words.{IsSorted, most_slots}
 pub use Rattle.cedarwood.specs.Words.{key_fault, value_fault}
 pub use Rattle.std.specs.Borrow.{sem}
 pub use Rattle.std.specs.List.{starts_with}

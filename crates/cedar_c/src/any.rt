@@ -1,7 +1,11 @@
 //! A dictionary of either layout: each call goes to the one that is there.
 
-ghost use Rattle.std.specs.Prelude.{◌*◌, ◌+◌, ◌-◌, ◌/◌, ◌<◌, ◌↔◌, ◌≡◌, ◌≤◌, Err, IfErr, IfOk, IfSome, IsOk, IsSome, IsTrue, length, OnErr, OnOk};
-ghost use Rattle.cedar_c.specs.Words.{after_erase, capacity_after, default_layout, dictionary_in, fault, IsEmpty, IsUpdate, LacksRoom, layout_if, layout_of, most_slots, number_at, outcome, prefixes, reduced_layout, slots_of_tree, walk};
+ghost use Rattle.std.specs.Prelude.{◌*◌, ◌+◌, ◌-◌, ◌/◌, ◌<◌, ◌↔◌, ◌≡◌, ◌≤◌, Err, IfErr, IfOk};
+ghost use Rattle.std.specs.Prelude.{IfSome, IsOk, IsSome, IsTrue, length, OnErr, OnOk};
+ghost use Rattle.cedar_c.specs.Words.{after_erase, capacity_after, default_layout, dictionary_in};
+ghost use Rattle.cedar_c.specs.Words.{fault, IsEmpty, IsUpdate, LacksRoom, layout_if, layout_of};
+ghost use Rattle.cedar_c.specs.Words.{most_slots, number_at, outcome, prefixes, reduced_layout};
+ghost use Rattle.cedar_c.specs.Words.{slots_of_tree, walk};
 
 use cedarwood::{Cedar, CedarBuilder, CedarError, ReducedCedar};
 use std::alloc::Global;

@@ -1,7 +1,12 @@
 //! The calls that make, copy, change and query a dictionary.
 
-ghost use Rattle.std.specs.Prelude.{◌*◌, ◌-◌, ◌<◌, ◌↔◌, ◌≡◌, ◌⊎◌, IfSome, IsSome, IsTrue, length, None, option_map, pos, Some, true};
-ghost use Rattle.cedar_c.specs.Words.{after_erase, AnyCedar, ChangesBy, content, default_layout, dictionary_in, ErasesUnder, IsCleared, IsEmpty, IsErasedUnder, KeepsSlots, layout_if, layout_in, layout_of, longest_front, match_of, number_at, OpensNew, reduced_layout, shown_in, shown_tree, state_in, StoresValue, tree_in};
+ghost use Rattle.std.specs.Prelude.{◌*◌, ◌-◌, ◌<◌, ◌↔◌, ◌≡◌, ◌⊎◌, IfSome, IsSome, IsTrue, length};
+ghost use Rattle.std.specs.Prelude.{None, option_map, pos, Some, true};
+ghost use Rattle.cedar_c.specs.Words.{after_erase, AnyCedar, ChangesBy, content, default_layout};
+ghost use Rattle.cedar_c.specs.Words.{dictionary_in, ErasesUnder, IsCleared, IsEmpty};
+ghost use Rattle.cedar_c.specs.Words.{IsErasedUnder, KeepsSlots, layout_if, layout_in, layout_of};
+ghost use Rattle.cedar_c.specs.Words.{longest_front, match_of, number_at, OpensNew, reduced_layout};
+ghost use Rattle.cedar_c.specs.Words.{shown_in, shown_tree, state_in, StoresValue, tree_in};
 
 use crate::any::AnyCedar;
 use crate::handle::Handle;

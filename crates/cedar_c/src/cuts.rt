@@ -1,7 +1,9 @@
 //! The cut of least cost of a whole text, written into a buffer of the caller's.
 
-ghost use Rattle.std.specs.Prelude.{◌++◌, ◌<◌, ◌↔◌, ◌≡◌, ◌≤◌, ◌⊎◌, drop, IfSome, length, map, None, set};
-ghost use Rattle.cedar_c.specs.Words.{dictionary_in, found_token, IsLeastCut, LacksRoomForCut, prices, shown_in, shown_tree, WritesLeastCut};
+ghost use Rattle.std.specs.Prelude.{◌++◌, ◌<◌, ◌↔◌, ◌≡◌, ◌≤◌, ◌⊎◌, drop, IfSome};
+ghost use Rattle.std.specs.Prelude.{length, map, None, set};
+ghost use Rattle.cedar_c.specs.Words.{dictionary_in, found_token, IsLeastCut, LacksRoomForCut};
+ghost use Rattle.cedar_c.specs.Words.{prices, shown_in, shown_tree, WritesLeastCut};
 
 use crate::any::AnyCedar;
 use crate::reading::Reading;

@@ -1,7 +1,11 @@
 //! Entries with their keys, a page of them a call.
 
-ghost use Rattle.std.specs.Prelude.{◌++◌, ◌+◌, ◌-◌, ◌↔◌, ◌≡◌, ◌≤◌, [], IfSome, IsSome, IsTrue, length, nat_eq, None, take, true};
-ghost use Rattle.cedar_c.specs.Words.{bytes_lacking, ComesToFirst, EndsPage, entries_behind_key, entries_left, IsNumberedBelow, IsRangePlace, IsWellFormed, number_at, PageOf, shown_in, starts_with, TellsEntries, TellsPage, tree_of, visited_key, WritesNothing, WritesPage};
+ghost use Rattle.std.specs.Prelude.{◌++◌, ◌+◌, ◌-◌, ◌↔◌, ◌≡◌, ◌≤◌, [], IfSome, IsSome, IsTrue};
+ghost use Rattle.std.specs.Prelude.{length, nat_eq, None, take, true};
+ghost use Rattle.cedar_c.specs.Words.{bytes_lacking, ComesToFirst, EndsPage, entries_behind_key};
+ghost use Rattle.cedar_c.specs.Words.{entries_left, IsNumberedBelow, IsRangePlace, IsWellFormed};
+ghost use Rattle.cedar_c.specs.Words.{number_at, PageOf, shown_in, starts_with, TellsEntries};
+ghost use Rattle.cedar_c.specs.Words.{TellsPage, tree_of, visited_key, WritesNothing, WritesPage};
 
 use crate::any::AnyCedar;
 use crate::reading::Reading;

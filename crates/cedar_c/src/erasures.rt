@@ -1,7 +1,9 @@
 //! Many keys removed in one call.
 
-ghost use Rattle.std.specs.Prelude.{◌++◌, ◌+◌, ◌≡◌, drop, IfSome, length, None, option_map, set, take};
-ghost use Rattle.cedar_c.specs.Words.{content, dictionary_in, held_in_turn, KeepsSlots, keys_erased, layout_of, named_keys, state_in, tree_in, walk};
+ghost use Rattle.std.specs.Prelude.{◌++◌, ◌+◌, ◌≡◌, drop, IfSome, length, None};
+ghost use Rattle.std.specs.Prelude.{option_map, set, take};
+ghost use Rattle.cedar_c.specs.Words.{content, dictionary_in, held_in_turn, KeepsSlots};
+ghost use Rattle.cedar_c.specs.Words.{keys_erased, layout_of, named_keys, state_in, tree_in, walk};
 
 use crate::any::AnyCedar;
 use crate::handle::Handle;

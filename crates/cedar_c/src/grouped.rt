@@ -1,7 +1,9 @@
 //! The changes of a store that go to the disk together, as one record.
 
-ghost use Rattle.std.specs.Prelude.{◌≡◌, ◌⊎◌, ◌+◌, ◌<◌, ◌≤◌, ◌^◌, ◌++◌, ◌∷◌, ℕ, List, [], IfErr, OnOk, drop, length, take};
-ghost use Rattle.cedar_c.specs.Words.{format_if, frame_of, group_head, IsGroup, LacksGroup, length_bytes, opening, works_of, Plain, Summed};
+ghost use Rattle.std.specs.Prelude.{◌≡◌, ◌⊎◌, ◌+◌, ◌<◌, ◌≤◌, ◌^◌, ◌++◌, ◌∷◌, ℕ, List, []};
+ghost use Rattle.std.specs.Prelude.{IfErr, OnOk, drop, length, take};
+ghost use Rattle.cedar_c.specs.Words.{format_if, frame_of, group_head, IsGroup, LacksGroup};
+ghost use Rattle.cedar_c.specs.Words.{length_bytes, opening, works_of, Plain, Summed};
 
 use crate::planned::go_on;
 use crate::records::format_if;

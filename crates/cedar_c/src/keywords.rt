@@ -1,7 +1,8 @@
 //! The keywords of a text, of which a buffer takes as many as it has room for.
 
 ghost use Rattle.std.specs.Prelude.{◌<◌, ◌≡◌, ◌≤◌, ◌⊎◌, IsSome, length, None, take};
-ghost use Rattle.cedar_c.specs.Words.{dictionary_in, found_keywords, shown_in, shown_tree, WritesOn, WritesPiece};
+ghost use Rattle.cedar_c.specs.Words.{dictionary_in, found_keywords, shown_in};
+ghost use Rattle.cedar_c.specs.Words.{shown_tree, WritesOn, WritesPiece};
 
 use crate::any::AnyCedar;
 use crate::reading::Reading;

@@ -1,7 +1,8 @@
 //! Walks of a dictionary in pieces: a call goes on where the one before it ended.
 
 ghost use Rattle.std.specs.Prelude.{◌+◌, ◌<◌, ◌^◌, ◌≡◌, [], drop, false, IsTrue, length, take};
-ghost use Rattle.cedar_c.specs.Words.{all_longer, dictionary_in, filled_matches, Fit, front, front_keys, predict, predicted_keys, shown_tree};
+ghost use Rattle.cedar_c.specs.Words.{all_longer, dictionary_in, filled_matches, Fit, front};
+ghost use Rattle.cedar_c.specs.Words.{front_keys, predict, predicted_keys, shown_tree};
 
 use crate::any::AnyCedar;
 use crate::reading::Reading;

@@ -1,7 +1,11 @@
 //! Many pairs in one call.
 
-ghost use Rattle.std.specs.Prelude.{◌↔◌, ◌≡◌, ◌⊎◌, Err, IfErr, IfSome, IsSome, map, None, OnErr, OnOk, option_map};
-ghost use Rattle.cedar_c.specs.Words.{all_stored, content, dictionary_in, entries_in, first_fault, HoldsFront, HoldsPart, IsShortage, layout_in, layout_of, most_slots, RefusesAll, size_in, state_in, StoresFront, StoresPart, taken_pair, TellsPosition, trials_in};
+ghost use Rattle.std.specs.Prelude.{◌↔◌, ◌≡◌, ◌⊎◌, Err, IfErr, IfSome, IsSome, map, None};
+ghost use Rattle.std.specs.Prelude.{OnErr, OnOk, option_map};
+ghost use Rattle.cedar_c.specs.Words.{all_stored, content, dictionary_in, entries_in, first_fault};
+ghost use Rattle.cedar_c.specs.Words.{HoldsFront, HoldsPart, IsShortage, layout_in, layout_of};
+ghost use Rattle.cedar_c.specs.Words.{most_slots, RefusesAll, size_in, state_in, StoresFront};
+ghost use Rattle.cedar_c.specs.Words.{StoresPart, taken_pair, TellsPosition, trials_in};
 
 use crate::any::AnyCedar;
 use crate::handle::Handle;

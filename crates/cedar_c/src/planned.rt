@@ -1,8 +1,17 @@
 //! The dictionary of a store, whose file C keeps (`c/store.c`): each call writes down a plan, and C carries it out before it acknowledges
 //! the change. These exports are the library's own, and no program sees them.
 
-ghost use Rattle.std.specs.Prelude.{◌≡◌, ◌≢◌, ◌⊎◌, ◌↔◌, ◌+◌, ◌<◌, ◌≤◌, ◌^◌, ◌++◌, ◌∷◌, ℕ, List, false, IfErr, IfOk, IfSome, IsFalse, IsSome, IsTrue, None, Some, length, option_map, take, true};
-ghost use Rattle.cedar_c.specs.Words.{AddsChange, after_erase, after_put, append_works, content, CutsNone, damage_of, dictionary_in, end_of, erase_at, fault, Format, format_if, format_in, frame_of, HasExtent, IsChangePlan, IsErasurePlan, IsOpening, IsPutPlan, LacksChange, LacksRecord, layout_if, layout_in, layout_of, LoadCause, MayCut, number_at, opening, overhead, Plain, position_of, put_at, record_count, state_in, state_of, status_of, store_status, TellsWhy, tree_in, works_of};
+ghost use Rattle.std.specs.Prelude.{◌≡◌, ◌≢◌, ◌⊎◌, ◌↔◌, ◌+◌, ◌<◌, ◌≤◌, ◌^◌, ◌++◌, ◌∷◌, ℕ, List};
+ghost use Rattle.std.specs.Prelude.{false, IfErr, IfOk, IfSome, IsFalse, IsSome, IsTrue, None};
+ghost use Rattle.std.specs.Prelude.{Some, length, option_map, take, true};
+ghost use Rattle.cedar_c.specs.Words.{AddsChange, after_erase, after_put, append_works, content};
+ghost use Rattle.cedar_c.specs.Words.{CutsNone, damage_of, dictionary_in, end_of, erase_at, fault};
+ghost use Rattle.cedar_c.specs.Words.{Format, format_if, format_in, frame_of, HasExtent};
+ghost use Rattle.cedar_c.specs.Words.{IsChangePlan, IsErasurePlan, IsOpening, IsPutPlan};
+ghost use Rattle.cedar_c.specs.Words.{LacksChange, LacksRecord, layout_if, layout_in, layout_of};
+ghost use Rattle.cedar_c.specs.Words.{LoadCause, MayCut, number_at, opening, overhead, Plain};
+ghost use Rattle.cedar_c.specs.Words.{position_of, put_at, record_count, state_in, state_of};
+ghost use Rattle.cedar_c.specs.Words.{status_of, store_status, TellsWhy, tree_in, works_of};
 
 use crate::any::AnyCedar;
 use crate::handle::Handle;

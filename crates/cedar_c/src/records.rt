@@ -1,7 +1,9 @@
 //! The records of changes, written into a buffer of the caller's.
 
-ghost use Rattle.std.specs.Prelude.{◌==◌, ◌≡◌, ◌+◌, ◌<◌, ◌^◌, ◌++◌, ◌∷◌, ℕ, IfErr, IfOk, IfSome, IsOk, List, None, OnOk, length, position};
-ghost use Rattle.cedar_c.specs.Words.{erase_at, fault, format_if, frame_of, IsRecord, key_fault, LacksRecord, opening, overhead, put_at, value_fault};
+ghost use Rattle.std.specs.Prelude.{◌==◌, ◌≡◌, ◌+◌, ◌<◌, ◌^◌, ◌++◌, ◌∷◌, ℕ, IfErr, IfOk, IfSome};
+ghost use Rattle.std.specs.Prelude.{IsOk, List, None, OnOk, length, position};
+ghost use Rattle.cedar_c.specs.Words.{erase_at, fault, format_if, frame_of, IsRecord, key_fault};
+ghost use Rattle.cedar_c.specs.Words.{LacksRecord, opening, overhead, put_at, value_fault};
 
 use crate::save::copy_whole;
 use crate::status::{MEMORY, NO_ROOM, OK, STORE_FULL, STORE_TOO_LONG};

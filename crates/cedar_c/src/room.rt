@@ -1,7 +1,9 @@
 //! Memory allocated ahead, and memory freed.
 
 ghost use Rattle.std.specs.Prelude.{◌*◌, ◌+◌, ◌-◌, ◌<◌, ◌↔◌, ◌≡◌, ◌≤◌, ◌⊎◌, IsSome, None, OnErr};
-ghost use Rattle.cedar_c.specs.Words.{capacity_after, capacity_in, content, dictionary_in, HasToGrow, IsShrunk, layout_in, layout_of, marks_in, most_slots, Shrinks, size_in, state_in, trials_in};
+ghost use Rattle.cedar_c.specs.Words.{capacity_after, capacity_in, content, dictionary_in};
+ghost use Rattle.cedar_c.specs.Words.{HasToGrow, IsShrunk, layout_in, layout_of, marks_in};
+ghost use Rattle.cedar_c.specs.Words.{most_slots, Shrinks, size_in, state_in, trials_in};
 
 use crate::any::AnyCedar;
 use crate::handle::Handle;

@@ -1,6 +1,7 @@
 //! A dictionary's file, written into a buffer of the caller's.
 
-ghost use Rattle.std.specs.Prelude.{◌++◌, ◌<◌, ◌↔◌, ◌≡◌, ◌≤◌, ◌⊎◌, drop, IfSome, length, None, take};
+ghost use Rattle.std.specs.Prelude.{◌++◌, ◌<◌, ◌↔◌, ◌≡◌, ◌≤◌, ◌⊎◌, drop, IfSome};
+ghost use Rattle.std.specs.Prelude.{length, None, take};
 ghost use Rattle.cedar_c.specs.Words.{file_in, minor_of, shown_in, table_bytes};
 
 use crate::any::AnyCedar;

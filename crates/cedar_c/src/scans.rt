@@ -1,7 +1,9 @@
 //! Long texts, of which a buffer takes as much as it has room for: a call goes on where the one before it ended.
 
-ghost use Rattle.std.specs.Prelude.{◌++◌, ◌+◌, ◌<◌, ◌^◌, ◌∷◌, ◌≡◌, ◌≤◌, ◌⊎◌, drop, IfSome, IsSome, length, map, None, set, take};
-ghost use Rattle.cedar_c.specs.Words.{dictionary_in, Fit, found_spot, found_spots, found_tokens, front, shown_in, shown_tree, Tree, WritesPiece};
+ghost use Rattle.std.specs.Prelude.{◌++◌, ◌+◌, ◌<◌, ◌^◌, ◌∷◌, ◌≡◌, ◌≤◌, ◌⊎◌, drop, IfSome};
+ghost use Rattle.std.specs.Prelude.{IsSome, length, map, None, set, take};
+ghost use Rattle.cedar_c.specs.Words.{dictionary_in, Fit, found_spot, found_spots, found_tokens};
+ghost use Rattle.cedar_c.specs.Words.{front, shown_in, shown_tree, Tree, WritesPiece};
 
 use crate::any::AnyCedar;
 use crate::reading::Reading;

@@ -1,7 +1,9 @@
 //! Walks of a dictionary, written into a buffer of the caller's.
 
 ghost use Rattle.std.specs.Prelude.{◌+◌, ◌<◌, ◌^◌, ◌∷◌, ◌≡◌, [], length, List, MatchOption, ℕ, ℤ};
-ghost use Rattle.cedar_c.specs.Words.{all_longer, dictionary_in, filled_from, filled_matches, Fit, front, front_keys, longer, predict, predicted_keys, shown_tree};
+ghost use Rattle.cedar_c.specs.Words.{all_longer, dictionary_in, filled_from, filled_matches};
+ghost use Rattle.cedar_c.specs.Words.{Fit, front, front_keys, longer, predict};
+ghost use Rattle.cedar_c.specs.Words.{predicted_keys, shown_tree};
 
 use crate::any::AnyCedar;
 use crate::reading::Reading;

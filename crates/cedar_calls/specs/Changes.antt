@@ -1,5 +1,7 @@
 -- What a change of a dictionary returns, and the dictionary after it.
-use Rattle.std.specs.Prelude.{◌≡◌, ℕ, ℤ, ◌+◌, ◌-◌, ◌*◌, ◌<◌, ◌≤◌, Bool, List, length, IfErr, IfOk, IfSome, IsOk, IsSome, IsTrue, ◌↔◌, None, OnErr, OnOk, Option, Result, Err, take, Vec}
+use Rattle.std.specs.Prelude.{◌≡◌, ℕ, ℤ, ◌+◌, ◌-◌, ◌*◌, ◌<◌, ◌≤◌, Bool, List, length, IfErr}
+use Rattle.std.specs.Prelude.{IfOk, IfSome, IsOk, IsSome, IsTrue, ◌↔◌, None, OnErr, OnOk}
+use Rattle.std.specs.Prelude.{Option, Result, Err, take, Vec}
 use Rattle.cedarwood.specs.Tree.{number_at}
 use Rattle.cedarwood.specs.Queries.{Entry}
 use Rattle.cedarwood.specs.State.{after_erase}

@@ -1,5 +1,7 @@
 -- What a key holds after some changes of a dictionary: only changes of that key have a part in it, the last of them decides.
-use Rattle.std.specs.Prelude.{◌≡◌, ◌<◌, ℕ, ℤ, List, [], ◌∷◌, ◌++◌, length, take, map, slice_get, slice_set, Option, Some, None, IsSome, fold, nat_eq, if◌then◌else◌, Result, Ok, Err, OnOk, MatchResult}
+use Rattle.std.specs.Prelude.{◌≡◌, ◌<◌, ℕ, ℤ, List, [], ◌∷◌, ◌++◌, length, take, map, slice_get}
+use Rattle.std.specs.Prelude.{slice_set, Option, Some, None, IsSome, fold, nat_eq, if◌then◌else◌}
+use Rattle.std.specs.Prelude.{Result, Ok, Err, OnOk, MatchResult}
 use Rattle.std.specs.List.{remove, starts_with}
 use Rattle.cedarwood.specs.Tree.{number_at, IsSoundBelow}
 use Rattle.cedarwood.specs.Queries.{is_path, last_at}

@@ -1,5 +1,7 @@
 -- What runs return as far as trees go: neither places nor bytes nor settings but the order have a part in it.
-use Rattle.std.specs.Prelude.{◌≡◌, Bool, true, false, ℕ, ℤ, List, [], ◌∷◌, ◌++◌, ◌+◌, length, map, slice_get, slice_set, Option, option_map, Some, None, is_some, string_bytes, if◌then◌else◌, Result, Ok, Err}
+use Rattle.std.specs.Prelude.{◌≡◌, Bool, true, false, ℕ, ℤ, List, [], ◌∷◌, ◌++◌, ◌+◌, length, map}
+use Rattle.std.specs.Prelude.{slice_get, slice_set, Option, option_map, Some, None, is_some}
+use Rattle.std.specs.Prelude.{string_bytes, if◌then◌else◌, Result, Ok, Err}
 use Rattle.std.specs.List.{AllByRecursion, remove}
 use Rattle.std.specs.Str.{is_utf8}
 use Rattle.cedarwood.specs.Tree.{empty_tree, number_at}

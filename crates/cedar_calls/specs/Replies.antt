@@ -1,5 +1,7 @@
 -- What a question to a dictionary returns.
-use Rattle.std.specs.Prelude.{◌≡◌, Bool, true, false, ℕ, ℤ, ◌+◌, ◌-◌, ◌*◌, ◌/◌, ◌<◌, List, [], ◌∷◌, length, map, Option, option_map, Some, None, is_some, IsTrue, ◌↔◌, MatchResult, Result, string_bytes}
+use Rattle.std.specs.Prelude.{◌≡◌, Bool, true, false, ℕ, ℤ, ◌+◌, ◌-◌, ◌*◌, ◌/◌, ◌<◌, List, [], ◌∷◌}
+use Rattle.std.specs.Prelude.{length, map, Option, option_map, Some, None, is_some, IsTrue, ◌↔◌}
+use Rattle.std.specs.Prelude.{MatchResult, Result, string_bytes}
 use Rattle.std.specs.Str.{IsUtf8}
 use Rattle.cedarwood.specs.Tree.{number_at}
 use Rattle.cedarwood.specs.Queries.{Entry, exact, front, predict, slots_of_tree, walk}
@@ -14,7 +16,8 @@ use Rattle.cedarwood.specs.Tables.{IsTableFile}
 use Rattle.cedarwood.specs.Dictionary.{Dictionary, held_slots}
 use Rattle.cedarwood.specs.declared.figures.MemoryStats.{MemoryStats}
 use Rattle.cedar_calls.specs.declared.call.Figure.{Figure}
-use Rattle.cedar_calls.specs.declared.call.Figure.TheVariants.{AllocatedBytes, Capacity, SpareBlocks, UsedSlots}
+use Rattle.cedar_calls.specs.declared.call.Figure.TheVariants.{AllocatedBytes, Capacity}
+use Rattle.cedar_calls.specs.declared.call.Figure.TheVariants.{SpareBlocks, UsedSlots}
 use Rattle.cedar_calls.specs.declared.call.Question.{Question}
 use Rattle.cedar_calls.specs.declared.call.Question.TheVariants as question
 use Rattle.cedar_calls.specs.declared.answer.Reply.{Reply}

@@ -1,13 +1,16 @@
 -- What a script's run writes, and what it leaves: first of one order, then of the lines of a script,
 -- and last of a run that has come to some position in its script.
-use Rattle.std.specs.Prelude.{◌≡◌, ◌⊎◌, ℕ, ◌<◌, Bool, true, false, if◌then◌else◌, ℤ, List, [], ◌∷◌, ◌++◌, length, Option, Some, None, Result, Err, OnOk, IfErr, IsSome, MatchOption, codes, decimal, is_some}
+use Rattle.std.specs.Prelude.{◌≡◌, ◌⊎◌, ℕ, ◌<◌, Bool, true, false, if◌then◌else◌, ℤ, List, [], ◌∷◌}
+use Rattle.std.specs.Prelude.{◌++◌, length, Option, Some, None, Result, Err, OnOk, IfErr, IsSome}
+use Rattle.std.specs.Prelude.{MatchOption, codes, decimal, is_some}
 use Rattle.std.specs.Fmt.{signed_decimal}
 use Rattle.std.specs.Io.KnownBytes.{Appends}
 use Rattle.cedarwood.specs.Tree.{number_at}
 use Rattle.cedarwood.specs.Queries.{Entry, front, predict, walk}
 use Rattle.cedarwood.specs.State.{after_erase, after_put}
 use Rattle.cedarwood.specs.Layouts.{LayoutKind}
-use Rattle.cedar_cli.specs.declared.command.Verb.TheVariants.{Put, Erase, Exact, Segment, Prefixes, Predict, Entries, Figures}
+use Rattle.cedar_cli.specs.declared.command.Verb.TheVariants.{Put, Erase, Exact, Segment, Prefixes}
+use Rattle.cedar_cli.specs.declared.command.Verb.TheVariants.{Predict, Entries, Figures}
 use Rattle.cedar_cli.specs.declared.script.ScriptError.{ScriptError}
 use Rattle.cedar_cli.specs.declared.script.ScriptError.TheVariants.{Read, Write, Memory, SlotLimit}
 use Rattle.cedarwood.specs.declared.error.CedarError.{CedarError}

@@ -1,5 +1,6 @@
 -- What a script sees of a dictionary, and how storing and removing a key change that.
-use Rattle.std.specs.Prelude.{ℕ, ◌+◌, ℤ, Bool, true, false, not, ◌&&◌, ◌||◌, ◌==◌, if◌then◌else◌, List, [], ◌∷◌, length, is_some}
+use Rattle.std.specs.Prelude.{ℕ, ◌+◌, ℤ, Bool, true, false, not, ◌&&◌, ◌||◌, ◌==◌}
+use Rattle.std.specs.Prelude.{if◌then◌else◌, List, [], ◌∷◌, length, is_some}
 use Rattle.cedarwood.specs.Tree.{Tree, is_bare, number_at}
 use Rattle.cedarwood.specs.Queries.{is_path, node_at, prefixes, slots_of_tree, walk}
 use Rattle.cedarwood.specs.State.{State, after_put, after_erase}

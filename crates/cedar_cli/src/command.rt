@@ -1,7 +1,9 @@
 //! A line of a script, read as an order, and why one isn't read so.
 
-ghost use Rattle.std.specs.Prelude.{◌*◌, ◌≡◌, ◌≤◌, IfSome, is_some, length, not, option_map, position, take};
-ghost use Rattle.cedar_cli.specs.Words.{after_first, before_first, is_space, key_of, order_of, value_of, with_key};
+ghost use Rattle.std.specs.Prelude.{◌*◌, ◌≡◌, ◌≤◌, IfSome, is_some, length, not};
+ghost use Rattle.std.specs.Prelude.{option_map, position, take};
+ghost use Rattle.cedar_cli.specs.Words.{after_first, before_first, is_space, key_of};
+ghost use Rattle.cedar_cli.specs.Words.{order_of, value_of, with_key};
 
 use cedar_hex::decode_into;
 use memchr::memchr;

@@ -1,7 +1,12 @@
 //! The program: arguments, files and three streams in, a status out.
 
-ghost use Rattle.std.specs.Prelude.{◌<◌, ◌↔◌, ◌≡◌, ◌≤◌, Bool, IfErr, IfOk, IfSome, is_some, IsTrue, None, OnOk, true};
-ghost use Rattle.cedar_cli.specs.Words.{AnswersAll, AnswersUpTo, asked_limit, AsksForFile, BeginsWith, EndsBy, fault_text, FitsInMemory, has_failed, IsReported, IsSlotLimit, LacksWithin, layout_byte, OnAsked, OnBegun, Request, request_in, request_of, ShowsCause, TellsCause, view_of, WritesOrFailed};
+ghost use Rattle.std.specs.Prelude.{◌<◌, ◌↔◌, ◌≡◌, ◌≤◌, Bool, IfErr, IfOk, IfSome};
+ghost use Rattle.std.specs.Prelude.{is_some, IsTrue, None, OnOk, true};
+ghost use Rattle.cedar_cli.specs.Words.{AnswersAll, AnswersUpTo, asked_limit, AsksForFile};
+ghost use Rattle.cedar_cli.specs.Words.{BeginsWith, EndsBy, fault_text, FitsInMemory, has_failed};
+ghost use Rattle.cedar_cli.specs.Words.{IsReported, IsSlotLimit, LacksWithin, layout_byte, OnAsked};
+ghost use Rattle.cedar_cli.specs.Words.{OnBegun, Request, request_in, request_of, ShowsCause};
+ghost use Rattle.cedar_cli.specs.Words.{TellsCause, view_of, WritesOrFailed};
 
 use crate::options::{Options, limit_or_default, options_of};
 use crate::script::{ScriptError, run_script};

@@ -1,7 +1,11 @@
 //! A run of a script: lines in, answers out.
 
-ghost use Rattle.std.specs.Prelude.{◌||◌, ◌++◌, ◌+◌, ◌<◌, ◌∷◌, ◌≡◌, ◌≤◌, [], false, IfErr, IfOk, IfSome, length, OnErr, OnOk, position, true, vec_capacity};
-ghost use Rattle.cedar_cli.specs.Words.{AdvancesBy, Answers, AnswersOrFails, EndsInput, FinishesAll, FinishesComing, GrowsBefore, GrowsWithin, has_failed, HasLineRoom, HasNoNewline, held_by, is_newline, LineMayLackMemory, OnWriter, order_of, StopsOn};
+ghost use Rattle.std.specs.Prelude.{◌||◌, ◌++◌, ◌+◌, ◌<◌, ◌∷◌, ◌≡◌, ◌≤◌, [], false, IfErr, IfOk};
+ghost use Rattle.std.specs.Prelude.{IfSome, length, OnErr, OnOk, position, true, vec_capacity};
+ghost use Rattle.cedar_cli.specs.Words.{AdvancesBy, Answers, AnswersOrFails, EndsInput};
+ghost use Rattle.cedar_cli.specs.Words.{FinishesAll, FinishesComing, GrowsBefore, GrowsWithin};
+ghost use Rattle.cedar_cli.specs.Words.{has_failed, HasLineRoom, HasNoNewline, held_by, is_newline};
+ghost use Rattle.cedar_cli.specs.Words.{LineMayLackMemory, OnWriter, order_of, StopsOn};
 
 use crate::flushes::{Flushes, flush_answers};
 use crate::verbs::answer_line;

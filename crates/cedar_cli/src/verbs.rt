@@ -1,7 +1,11 @@
 //! The answer to one line. A line whose answer isn't written whole changes no key and no value.
 
-ghost use Rattle.std.specs.Prelude.{◌*◌, ◌++◌, ◌<◌, ◌∷◌, ◌≡◌, ◌≤◌, [], IsSome, length, MatchOption, Some};
-ghost use Rattle.cedar_cli.specs.Words.{Answers, AnswersOrFails, figures_text, found_text, Grows, GrowsWithin, has_failed, held_by, IsPairFault, IsTakenBack, MayLackMemory, number_at, order_of, put_text, WritesBytes, WritesOrFails};
+ghost use Rattle.std.specs.Prelude.{◌*◌, ◌++◌, ◌<◌, ◌∷◌, ◌≡◌, ◌≤◌, [], IsSome};
+ghost use Rattle.std.specs.Prelude.{length, MatchOption, Some};
+ghost use Rattle.cedar_cli.specs.Words.{Answers, AnswersOrFails, figures_text, found_text, Grows};
+ghost use Rattle.cedar_cli.specs.Words.{GrowsWithin, has_failed, held_by, IsPairFault, IsTakenBack};
+ghost use Rattle.cedar_cli.specs.Words.{MayLackMemory, number_at, order_of, put_text, WritesBytes};
+ghost use Rattle.cedar_cli.specs.Words.{WritesOrFails};
 
 use crate::answers::{write_entries, write_pairs, write_tokens};
 use crate::command::{Verb, parse_line};

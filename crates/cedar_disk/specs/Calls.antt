@@ -1,6 +1,8 @@
 -- The calls on a file, and the model of a disk that they make: what a read returns, and what a crash may leave. This is all that is
 -- supposed of a real disk.
-use Rattle.std.specs.Prelude.{◌≡◌, ◌⊎◌, ◌≤◌, ◌+◌, ◌==◌, nat_le, ℕ, zero, suc, Bool, true, false, ◌&&◌, if◌then◌else◌, List, [], ◌∷◌, ◌++◌, length, take, drop, slice_index}
+use Rattle.std.specs.Prelude.{◌≡◌, ◌⊎◌, ◌≤◌, ◌+◌, ◌==◌, nat_le, ℕ, zero, suc, Bool, true}
+use Rattle.std.specs.Prelude.{false, ◌&&◌, if◌then◌else◌, List, [], ◌∷◌, ◌++◌, length}
+use Rattle.std.specs.Prelude.{take, drop, slice_index}
 use Rattle.cedar_journal.specs.Device.{Torn, Cut}
 
 -- a call: its kind, an offset or a length, whether it succeeded, and bytes

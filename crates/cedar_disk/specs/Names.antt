@@ -1,5 +1,6 @@
 -- The name of a file that is written beside another one.
-use Rattle.std.specs.Prelude.{◌≡◌, ◌≢◌, ◌<◌, ◌≤◌, ◌⊎◌, ◌+◌, ◌/◌, ◌%◌, ◌==◌, ◌++◌, ◌∷◌, [], codes, if◌then◌else◌, length, nat_lt, ℕ, List, take}
+use Rattle.std.specs.Prelude.{◌≡◌, ◌≢◌, ◌<◌, ◌≤◌, ◌⊎◌, ◌+◌, ◌/◌, ◌%◌, ◌==◌, ◌++◌, ◌∷◌, [], codes}
+use Rattle.std.specs.Prelude.{if◌then◌else◌, length, nat_lt, ℕ, List, take}
 use Rattle.std.specs.Str.{NoCharPasses}
 
 -- what ends the name of a file while it is written

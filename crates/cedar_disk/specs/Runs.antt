@@ -1,8 +1,11 @@
 -- What calls on a file do one behind another: time goes on, bytes are written in as many calls as the system takes, and a file takes the
 -- name of another one.
-use Rattle.std.specs.Prelude.{◌≡◌, ◌⊎◌, ◌<◌, ◌≤◌, ◌^◌, ℕ, true, false, List, ◌∷◌, length, take, IsTrue}
+use Rattle.std.specs.Prelude.{◌≡◌, ◌⊎◌, ◌<◌, ◌≤◌, ◌^◌, ℕ, true, false, List}
+use Rattle.std.specs.Prelude.{◌∷◌, length, take, IsTrue}
 use Rattle.cedar_journal.specs.Device.{Elapses, Follows, Torn}
-use Rattle.cedar_disk.specs.Calls.{Call, LeftSince, MayLeave, all_within, faults_in, is_named_after, is_usable_after, folder_sync_call, overlay, refused_call, rename_call, seen_after, write_call}
+use Rattle.cedar_disk.specs.Calls.{Call, LeftSince, MayLeave, all_within, faults_in, is_named_after}
+use Rattle.cedar_disk.specs.Calls.{is_usable_after, folder_sync_call, overlay, refused_call}
+use Rattle.cedar_disk.specs.Calls.{rename_call, seen_after, write_call}
 use Rattle.cedar_disk.specs.declared.wrote.Wrote.{Wrote}
 use Rattle.cedar_disk.specs.declared.wrote.Wrote.TheVariants.{Bytes, Nothing, Full, Failed}
 

@@ -1,5 +1,6 @@
 -- A file that is written beside the one at a path and then given its name: what is at the path at each moment.
-use Rattle.std.specs.Prelude.{◌≡◌, ◌⊎◌, ◌==◌, ◌&&◌, if◌then◌else◌, ℕ, Bool, true, false, List, [], ◌∷◌, Option, Some, IsTrue}
+use Rattle.std.specs.Prelude.{◌≡◌, ◌⊎◌, ◌==◌, ◌&&◌, if◌then◌else◌, ℕ, Bool, true, false}
+use Rattle.std.specs.Prelude.{List, [], ◌∷◌, Option, Some, IsTrue}
 use Rattle.cedar_journal.specs.Device.{Only}
 use Rattle.cedar_disk.specs.Calls.{Call, folder_sync_call, MayLeave, seen_after, took_name}
 

@@ -1,7 +1,12 @@
 //! A file, and what the calls on it so far make of it. `specs/Calls.antt` has the model.
 
-ghost use Rattle.std.specs.Prelude.{◌≡◌, ◌<◌, ◌≤◌, ◌⊎◌, ◌∷◌, [], false, IsErrOf, IsTrue, length, List, OnErr, OnOk, take, true, ℕ};
-ghost use Rattle.cedar_disk.specs.Words.{all_within, compaction_path, Cut, faults_in, Follows, TimePasses, HasCause, is_locked_after, is_named_after, is_usable_after, LeavesOnly, LeftSince, lock_call, MayLeave, Only, open_call, overlay, refused_call, seen_after, Torn};
+ghost use Rattle.std.specs.Prelude.{◌≡◌, ◌<◌, ◌≤◌, ◌⊎◌, ◌∷◌, [], false, IsErrOf, IsTrue, length};
+ghost use Rattle.std.specs.Prelude.{List, OnErr, OnOk, take, true, ℕ};
+ghost use Rattle.cedar_disk.specs.Words.{all_within, compaction_path, Cut, faults_in, Follows};
+ghost use Rattle.cedar_disk.specs.Words.{TimePasses, HasCause, is_locked_after, is_named_after};
+ghost use Rattle.cedar_disk.specs.Words.{is_usable_after, LeavesOnly, LeftSince, lock_call};
+ghost use Rattle.cedar_disk.specs.Words.{MayLeave, Only, open_call, overlay, refused_call};
+ghost use Rattle.cedar_disk.specs.Words.{seen_after, Torn};
 ghost use Rattle.cedar_disk.specs.NotedFiles.{is_beside, noted_calls};
 
 use crate::noted::{Noted, Place};

@@ -1,7 +1,8 @@
 //! The name of a file that is written beside another one.
 
 ghost use Rattle.std.specs.Prelude.{◌++◌, ◌+◌, ◌<◌, ◌≡◌, ◌≤◌, ◌⊎◌, length, MatchOption, take};
-ghost use Rattle.cedar_disk.specs.Words.{compaction_path, HasNoSlash, LiesBeside, mark_of, new_suffix};
+ghost use Rattle.cedar_disk.specs.Words.{compaction_path, HasNoSlash, LiesBeside};
+ghost use Rattle.cedar_disk.specs.Words.{mark_of, new_suffix};
 
 use arrayvec::ArrayString;
 

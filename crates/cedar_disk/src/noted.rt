@@ -4,9 +4,14 @@
 //! No contract can say what the system does. So this is believed: that each function here makes the call that its clause notes. The fields
 //! are private, so that no other module notes a call, or takes one that failed for one that was made.
 
-ghost use Rattle.std.specs.Prelude.{◌≡◌, ◌≤◌, ◌<◌, ◌^◌, ◌∷◌, [], false, IfOk, IfSome, is_ok, length, OnErr, OnOk, true};
+ghost use Rattle.std.specs.Prelude.{◌≡◌, ◌≤◌, ◌<◌, ◌^◌, ◌∷◌, [], false, IfOk, IfSome};
+ghost use Rattle.std.specs.Prelude.{is_ok, length, OnErr, OnOk, true};
 ghost use Rattle.cedar_disk.specs.NotedFiles.{is_beside, noted_calls};
-ghost use Rattle.cedar_disk.specs.Words.{call_with, compaction_path, folder_sync_call, is_locked_after, LiesBeside, lock_call, MayLeave, Only, open_call, refused_call, rename_call, seen_after, sync_call, took_name, TookSome, truncate_call, write_by_outcome};
+ghost use Rattle.cedar_disk.specs.Words.{call_with, compaction_path, folder_sync_call};
+ghost use Rattle.cedar_disk.specs.Words.{is_locked_after, LiesBeside, lock_call, MayLeave, Only};
+ghost use Rattle.cedar_disk.specs.Words.{open_call, refused_call, rename_call, seen_after};
+ghost use Rattle.cedar_disk.specs.Words.{sync_call, took_name, TookSome, truncate_call};
+ghost use Rattle.cedar_disk.specs.Words.{write_by_outcome};
 
 use crate::history::History;
 use crate::names::compaction_beside;

@@ -1,7 +1,10 @@
 //! Files that are written beside the one at a path and take its place once they are whole.
 
-ghost use Rattle.std.specs.Prelude.{◌≡◌, ◌∷◌, [], false, IfErr, IfOk, IsTrue, length, OnOk, Some, true};
-ghost use Rattle.cedar_disk.specs.Words.{asked_after, Keeps, LiesBeside, is_usable_after, IsPlaced, IsWholeBeside, IsUnplacedAt, open_call, seen_after, WriteAppends, WritesAtMost};
+ghost use Rattle.std.specs.Prelude.{◌≡◌, ◌∷◌, [], false, IfErr, IfOk, IsTrue};
+ghost use Rattle.std.specs.Prelude.{length, OnOk, Some, true};
+ghost use Rattle.cedar_disk.specs.Words.{asked_after, Keeps, LiesBeside, is_usable_after, IsPlaced};
+ghost use Rattle.cedar_disk.specs.Words.{IsWholeBeside, IsUnplacedAt, open_call, seen_after};
+ghost use Rattle.cedar_disk.specs.Words.{WriteAppends, WritesAtMost};
 ghost use Rattle.cedar_disk.specs.NotedFiles.{is_beside, noted_calls};
 
 use crate::names::{NAMES, PATH_LEN, name_beside};

@@ -1,7 +1,10 @@
 //! Bytes written by as many calls as the system takes for them.
 
-ghost use Rattle.std.specs.Prelude.{◌≡◌, ◌<◌, ◌≤◌, ◌∷◌, [], false, IfErr, IfOk, IsErrOf, length, OnErr, OnOk, true};
-ghost use Rattle.cedar_disk.specs.Words.{AreWritten, AreWrittenInPart, compaction_path, faults_in, folder_sync_call, is_locked_after, IsUnplaced, MayLeave, Only, open_call, rename_call, seen_after, Spoils};
+ghost use Rattle.std.specs.Prelude.{◌≡◌, ◌<◌, ◌≤◌, ◌∷◌, [], false, IfErr, IfOk, IsErrOf};
+ghost use Rattle.std.specs.Prelude.{length, OnErr, OnOk, true};
+ghost use Rattle.cedar_disk.specs.Words.{AreWritten, AreWrittenInPart, compaction_path, faults_in};
+ghost use Rattle.cedar_disk.specs.Words.{folder_sync_call, is_locked_after, IsUnplaced, MayLeave};
+ghost use Rattle.cedar_disk.specs.Words.{Only, open_call, rename_call, seen_after, Spoils};
 ghost use Rattle.cedar_disk.specs.NotedFiles.{is_beside, noted_calls};
 ghost use Rattle.cedar_disk.specs.PathFiles.{place_path};
 

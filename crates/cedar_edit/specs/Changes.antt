@@ -1,5 +1,7 @@
 -- What the calls of this crate change of a tree, of its numbers' slots and of the blocks, each as one word.
-use Rattle.std.specs.Prelude.{◌≡◌, ◌≢◌, ◌⊎◌, ◌↔◌, ◌+◌, ◌*◌, ◌<◌, ◌≤◌, ℕ, ℤ, bit_xor, Bool, false, IfErr, IfOk, is_some, IsTrue, length, List, [], ◌∷◌, MatchOption, OnErr, OnOk, Option, pos, Result, Some, take, true}
+use Rattle.std.specs.Prelude.{◌≡◌, ◌≢◌, ◌⊎◌, ◌↔◌, ◌+◌, ◌*◌, ◌<◌, ◌≤◌, ℕ, ℤ, bit_xor, Bool, false}
+use Rattle.std.specs.Prelude.{IfErr, IfOk, is_some, IsTrue, length, List, [], ◌∷◌, MatchOption}
+use Rattle.std.specs.Prelude.{OnErr, OnOk, Option, pos, Result, Some, take, true}
 use Rattle.cedar_model.specs.Tree.{Forest, has_label, IsAscending, number_at, put}
 use Rattle.cedar_model.specs.Edits.{add_leaf, edit_at}
 use Rattle.cedar_slots.specs.Places.{MayRefuse}

@@ -1,11 +1,13 @@
 -- What a load returns.
-use Rattle.std.specs.Prelude.{◌≡◌, ◌⊎◌, ℕ, Bool, true, false, List, take, Option, Some, None, MatchOption, Result, Ok, Err, IfErr, IfOk, IfSome, IsErrAnd}
+use Rattle.std.specs.Prelude.{◌≡◌, ◌⊎◌, ℕ, Bool, true, false, List, take, Option, Some, None}
+use Rattle.std.specs.Prelude.{MatchOption, Result, Ok, Err, IfErr, IfOk, IfSome, IsErrAnd}
 use Rattle.std.specs.Io.KnownBytes.{Consumes}
 use Rattle.cedar_model.specs.Meaning.WellFormed.{IsWellFormed}
 use Rattle.cedar_model.specs.Table.Layouts.{LayoutKind, layout_byte}
 use Rattle.cedar_model.specs.Table.TableFields.{Fields}
 use Rattle.cedar_format.specs.declared.error.CedarPersistenceError.{CedarPersistenceError}
-use Rattle.cedar_format.specs.Format.{header_answer, header_at, header_refusal, size_refusal, IsVersion, Passes}
+use Rattle.cedar_format.specs.Format.{header_answer, header_at, header_refusal}
+use Rattle.cedar_format.specs.Format.{size_refusal, IsVersion, Passes}
 use Rattle.cedar_format.specs.Reading.{IsIo, LacksNoMore, LacksTable}
 use Rattle.cedar_format.specs.Refusal.{CorruptData, refusal, refusal_of}
 use Rattle.cedar_format.specs.Tables.{table_bytes, IsTableFile}

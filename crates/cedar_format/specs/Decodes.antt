@@ -1,9 +1,11 @@
 -- What a decoding promises, whatever it reads from.
-use Rattle.std.specs.Prelude.{◌≡◌, ℕ, Bool, true, false, List, ◌++◌, Option, Result, IfErr, IfOk, IfSome, OnOk}
+use Rattle.std.specs.Prelude.{◌≡◌, ℕ, Bool, true, false, List, ◌++◌, Option, Result}
+use Rattle.std.specs.Prelude.{IfErr, IfOk, IfSome, OnOk}
 use Rattle.std.specs.Io.KnownBytes.{Consumes, IsAtEnd}
 use Rattle.cedar_format.specs.declared.body.Decoded.{Decoded}
 use Rattle.cedar_format.specs.declared.error.CedarPersistenceError.{CedarPersistenceError}
-use Rattle.cedar_format.specs.Format.{listed_bytes, listed_in, DecodeAnswers, IsFile, IsHeader, Passes}
+use Rattle.cedar_format.specs.Format.{listed_bytes, listed_in, DecodeAnswers}
+use Rattle.cedar_format.specs.Format.{IsFile, IsHeader, Passes}
 use Rattle.cedar_format.specs.Reading.{IsIo, LacksNoMore}
 
 -- fields were read of a source that had `before` left and now has `after`; `failed` is whether a read of it failed so far

@@ -1,8 +1,11 @@
 -- What reads and writes say of the bytes that a reader has left and a writer holds, where those are known.
-use Rattle.std.specs.Prelude.{ℕ, ◌≡◌, ◌<◌, ◌/◌, ◌⊎◌, Bool, true, false, List, length, take, Option, Some, None, ⊤, Result, IfErr, IfOk, MatchResult}
+use Rattle.std.specs.Prelude.{ℕ, ◌≡◌, ◌<◌, ◌/◌, ◌⊎◌, Bool, true, false, List, length, take, Option}
+use Rattle.std.specs.Prelude.{Some, None, ⊤, Result, IfErr, IfOk, MatchResult}
 use Rattle.std.specs.Io.KnownBytes.{Consumes}
 use Rattle.cedar_format.specs.declared.error.CedarPersistenceError.{CedarPersistenceError}
-use Rattle.cedar_format.specs.declared.error.CedarPersistenceError.TheVariants.{Io, Truncated, AllocationFailed, TrailingData}
+use Rattle.cedar_format.specs.declared.error.CedarPersistenceError.TheVariants.{Io, Truncated}
+use Rattle.cedar_format.specs.declared.error.CedarPersistenceError.TheVariants.{AllocationFailed}
+use Rattle.cedar_format.specs.declared.error.CedarPersistenceError.TheVariants.{TrailingData}
 use Rattle.cedar_format.specs.declared.header.Header.{Header}
 
 -- fewer than n bytes are left

@@ -1,7 +1,13 @@
 //! The tables of a file.
 
-ghost use Rattle.std.specs.Prelude.{◌+◌, ◌/◌, ◌<◌, ◌^◌, ◌≡◌, ◌≤◌, [], false, IfErr, IfOk, length, OnOk, true, vec_capacity};
-ghost use Rattle.cedar_format.specs.Words.{Appends, blank_block, blank_info, blank_node, body_bytes, body_len, Consumes, CountsWithin, DecodesBy, device_of, filled_bytes, filled_list, FitsBody, FitsFilled, has_failed, IsAtEnd, IsIo, IsSlotLimit, LacksTable, Misses, need, Passes, tables_len, TellsBreaks, Trails};
+ghost use Rattle.std.specs.Prelude.{◌+◌, ◌/◌, ◌<◌, ◌^◌, ◌≡◌, ◌≤◌, [], false, IfErr, IfOk};
+ghost use Rattle.std.specs.Prelude.{length, OnOk, true, vec_capacity};
+ghost use Rattle.cedar_format.specs.Words.{Appends, blank_block, blank_info, blank_node};
+ghost use Rattle.cedar_format.specs.Words.{body_bytes, body_len, Consumes, CountsWithin, DecodesBy};
+ghost use Rattle.cedar_format.specs.Words.{device_of, filled_bytes, filled_list, FitsBody};
+ghost use Rattle.cedar_format.specs.Words.{FitsFilled, has_failed, IsAtEnd, IsIo, IsSlotLimit};
+ghost use Rattle.cedar_format.specs.Words.{LacksTable, Misses, need, Passes, tables_len};
+ghost use Rattle.cedar_format.specs.Words.{TellsBreaks, Trails};
 
 use crate::buffer::BUFFER_LEN;
 use crate::error::CedarPersistenceError;

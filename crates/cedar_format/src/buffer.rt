@@ -1,7 +1,8 @@
 //! Numbers at the start of some bytes, at a position among them, and after those in a buffer.
 
 ghost use Rattle.std.specs.Prelude.{◌++◌, ◌+◌, ◌∷◌, ◌≡◌, ◌≤◌, length, take};
-ghost use Rattle.cedar_format.specs.Words.{array_vec_len, i16_bytes, i32_bytes, IsI16, IsI32, u16_bytes, u64_bytes};
+ghost use Rattle.cedar_format.specs.Words.{array_vec_len, i16_bytes, i32_bytes, IsI16, IsI32};
+ghost use Rattle.cedar_format.specs.Words.{u16_bytes, u64_bytes};
 
 use crate::header::HEADER_LEN;
 use arrayvec::ArrayVec;

@@ -1,7 +1,14 @@
 //! The header of a file.
 
-ghost use Rattle.std.specs.Prelude.{◌+◌, ◌<◌, ◌^◌, ◌≡◌, ◌≢◌, ◌≤◌, ◌⊎◌, Err, false, IfErr, IfNone, IfOk, IfSome, IsSome, length, List, nat_eq, Ok, OnOk, slice_index, take, true, ℕ};
-ghost use Rattle.cedar_format.specs.Words.{Appends, Consumes, device_of, error_kind, FitsHeader, has_failed, header_at, header_bytes, header_refusal, i32_at, InvalidHeader, Io, IsHeader, IsIo, IsLack, IsVersion, kind_refusal, listed_slots, magic, refusal, refusal_of, size_refusal, starts_with, TellsBreaks, Truncated, u16_at, u64_at, version_refusal};
+ghost use Rattle.std.specs.Prelude.{◌+◌, ◌<◌, ◌^◌, ◌≡◌, ◌≢◌, ◌≤◌, ◌⊎◌, Err, false, IfErr, IfNone};
+ghost use Rattle.std.specs.Prelude.{IfOk, IfSome, IsSome, length, List, nat_eq, Ok, OnOk};
+ghost use Rattle.std.specs.Prelude.{slice_index, take, true, ℕ};
+ghost use Rattle.cedar_format.specs.Words.{Appends, Consumes, device_of, error_kind, FitsHeader};
+ghost use Rattle.cedar_format.specs.Words.{has_failed, header_at, header_bytes, header_refusal};
+ghost use Rattle.cedar_format.specs.Words.{i32_at, InvalidHeader, Io, IsHeader, IsIo, IsLack};
+ghost use Rattle.cedar_format.specs.Words.{IsVersion, kind_refusal, listed_slots, magic, refusal};
+ghost use Rattle.cedar_format.specs.Words.{refusal_of, size_refusal, starts_with, TellsBreaks};
+ghost use Rattle.cedar_format.specs.Words.{Truncated, u16_at, u64_at, version_refusal};
 
 use crate::buffer::{Buffer, put_bytes, put_i32, put_u16, put_usize};
 use crate::error::CedarPersistenceError;

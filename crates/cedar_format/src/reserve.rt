@@ -1,6 +1,7 @@
 //! Room for a table's lists.
 
-ghost use Rattle.std.specs.Prelude.{◌*◌, ◌+◌, ◌<◌, ◌^◌, ◌≡◌, ◌≤◌, IfErr, OnOk, vec_capacity, vec_len};
+ghost use Rattle.std.specs.Prelude.{◌*◌, ◌+◌, ◌<◌, ◌^◌, ◌≡◌, ◌≤◌, IfErr, OnOk};
+ghost use Rattle.std.specs.Prelude.{vec_capacity, vec_len};
 ghost use Rattle.cedar_format.specs.Words.{AllocationFailed, refusal_of};
 
 use crate::error::CedarPersistenceError;

@@ -1,7 +1,9 @@
 //! Digits read as bytes, and bytes written as digits.
 
-ghost use Rattle.std.specs.Prelude.{◌%◌, ◌*◌, ◌+◌, ◌/◌, ◌<◌, ◌≡◌, ◌≤◌, drop, IfSome, is_err, length, MatchOption, Ok, option_map, slice_index, take, true};
-ghost use Rattle.cedar_hex.specs.Words.{decode_of, decode_pairs, encode_lower, hex_digit_value, lower_digits, result_ok};
+ghost use Rattle.std.specs.Prelude.{◌%◌, ◌*◌, ◌+◌, ◌/◌, ◌<◌, ◌≡◌, ◌≤◌, drop, IfSome, is_err};
+ghost use Rattle.std.specs.Prelude.{length, MatchOption, Ok, option_map, slice_index, take, true};
+ghost use Rattle.cedar_hex.specs.Words.{decode_of, decode_pairs, encode_lower};
+ghost use Rattle.cedar_hex.specs.Words.{hex_digit_value, lower_digits, result_ok};
 
 /// Reads hexadecimal digits of either case, two for each byte, writes the bytes to the start of `room`, and returns how many they are.
 ///

@@ -1,5 +1,7 @@
 -- What a journal's file represents. Its first record is the header, whose payload names what the file is, and the format of the others.
-use Rattle.std.specs.Prelude.{◌≡◌, ℕ, ◌-◌, ◌≤◌, ◌<◌, ◌&&◌, ◌||◌, ◌==◌, nat_eq, nat_le, Bool, true, false, List, [], ◌∷◌, ◌++◌, length, take, drop, get_or, slice_index, cond, Option, Some, None}
+use Rattle.std.specs.Prelude.{◌≡◌, ℕ, ◌-◌, ◌≤◌, ◌<◌, ◌&&◌, ◌||◌, ◌==◌, nat_eq, nat_le, Bool, true}
+use Rattle.std.specs.Prelude.{false, List, [], ◌∷◌, ◌++◌, length, take, drop, get_or, slice_index}
+use Rattle.std.specs.Prelude.{cond, Option, Some, None}
 use Rattle.std.specs.List.{starts_with}
 use Rattle.cedar_journal.specs.declared.format.Format.{Format}
 use Rattle.cedar_journal.specs.declared.format.Format.TheVariants.{Plain, Summed}
@@ -9,7 +11,8 @@ use Rattle.cedar_journal.specs.declared.records.FileFault.{FileFault}
 use Rattle.cedar_journal.specs.declared.records.FileFault.TheVariants as fault
 use Rattle.cedar_journal.specs.declared.records.Next.{Next}
 use Rattle.cedar_journal.specs.declared.records.Next.TheVariants as next
-use Rattle.cedar_journal.specs.Formats.{ArePieces, AreUndamaged, Reading, read_behind, damaged, payloads_read, records_read, stands}
+use Rattle.cedar_journal.specs.Formats.{ArePieces, AreUndamaged, Reading, read_behind, damaged}
+use Rattle.cedar_journal.specs.Formats.{payloads_read, records_read, stands}
 use Rattle.cedar_journal.specs.Records.{frame_body}
 
 -- the payload of a header: "CEDARJ" and two bytes that name the version

@@ -1,6 +1,7 @@
 -- Records of version 1, one after another. A record is a gate, the length of its payload in four bytes, the lowest first, and the payload.
 -- It counts if its gate is open (1) and all of it is there.
-use Rattle.std.specs.Prelude.{◌≡◌, ℕ, zero, suc, ◌+◌, ◌*◌, ◌/◌, ◌%◌, ◌&&◌, ◌==◌, nat_le, Bool, List, [], ◌∷◌, ◌++◌, length, take, drop, get_or, cond}
+use Rattle.std.specs.Prelude.{◌≡◌, ℕ, zero, suc, ◌+◌, ◌*◌, ◌/◌, ◌%◌, ◌&&◌, ◌==◌, nat_le, Bool, List}
+use Rattle.std.specs.Prelude.{[], ◌∷◌, ◌++◌, length, take, drop, get_or, cond}
 
 -- the length that a record names, whether it is there or not
 abbrev pub payload_length : List ℕ → ℕ

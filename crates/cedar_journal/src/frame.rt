@@ -1,7 +1,8 @@
 //! A record as it is written: made before anything is written, so that a lack of memory changes nothing.
 
 ghost use Rattle.std.specs.Prelude.{◌+◌, ◌++◌, ◌<◌, ◌^◌, ◌≡◌, ◌≤◌, IfOk, IsErrOf, length, OnOk};
-ghost use Rattle.cedar_journal.specs.Fields.{frame_of, length_bytes, Memory, payload_of_frame, Summed};
+ghost use Rattle.cedar_journal.specs.Fields.{frame_of, length_bytes, Memory};
+ghost use Rattle.cedar_journal.specs.Fields.{payload_of_frame, Summed};
 
 use crate::Format;
 use crc32c::crc32c_joined;

@@ -3,8 +3,12 @@
 //! A closed gate (0) comes after the last record. It is on the disk before anything is written after it, and is opened by a write of its
 //! own after a sync. So no sum is trusted: those of version 2 only show that somebody else has changed the file.
 
-ghost use Rattle.std.specs.Prelude.{◌+◌, ◌<◌, ◌^◌, ◌≡◌, ◌≤◌, IfErr, IfOk, IsErrOf, IsOkAnd, length, OnErr, OnOk, Some, true};
-ghost use Rattle.cedar_journal.specs.Words.{with_payload, Device, HasExtent, IfKept, image_bytes, extent_end, is_at_rest, IsBeforeOrAfter, IsSettled, IsStaged, LeavesOnly, Only, payload_of, payloads_of, file_payloads, StandsForEither};
+ghost use Rattle.std.specs.Prelude.{◌+◌, ◌<◌, ◌^◌, ◌≡◌, ◌≤◌, IfErr, IfOk, IsErrOf, IsOkAnd};
+ghost use Rattle.std.specs.Prelude.{length, OnErr, OnOk, Some, true};
+ghost use Rattle.cedar_journal.specs.Words.{with_payload, Device, HasExtent, IfKept, image_bytes};
+ghost use Rattle.cedar_journal.specs.Words.{extent_end, is_at_rest, IsBeforeOrAfter, IsSettled};
+ghost use Rattle.cedar_journal.specs.Words.{IsStaged, LeavesOnly, Only, payload_of, payloads_of};
+ghost use Rattle.cedar_journal.specs.Words.{file_payloads, StandsForEither};
 
 use crate::records::{ends_closed, open_gate};
 use crate::repair::{cut_off, make_ready};

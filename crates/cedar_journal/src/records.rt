@@ -1,7 +1,12 @@
 //! Records as bytes: what is at the start of some bytes, where whole records end, and how far the file of a journal goes.
 
-ghost use Rattle.std.specs.Prelude.{◌*◌, ◌+◌, ◌∷◌, ◌≡◌, ◌≤◌, ◌↔◌, [], drop, false, get_or, IfErr, IfNone, IfOk, IfSome, IsErr, length, None, Some, true};
-ghost use Rattle.cedar_journal.specs.Words.{read_behind, behind_record, damaged, ends_closed, file_reading, format_of, HasExtent, HasRecords, has_record, is_begun, IsFault, IsFoundThere, AreUndamaged, opening, overhead, payload, records_read, file_payloads, stands};
+ghost use Rattle.std.specs.Prelude.{◌*◌, ◌+◌, ◌∷◌, ◌≡◌, ◌≤◌, ◌↔◌, [], drop, false, get_or, IfErr};
+ghost use Rattle.std.specs.Prelude.{IfNone, IfOk, IfSome, IsErr, length, None, Some, true};
+ghost use Rattle.cedar_journal.specs.Words.{read_behind, behind_record, damaged, ends_closed};
+ghost use Rattle.cedar_journal.specs.Words.{file_reading, format_of, HasExtent, HasRecords};
+ghost use Rattle.cedar_journal.specs.Words.{has_record, is_begun, IsFault, IsFoundThere};
+ghost use Rattle.cedar_journal.specs.Words.{AreUndamaged, opening, overhead, payload, records_read};
+ghost use Rattle.cedar_journal.specs.Words.{file_payloads, stands};
 
 use crate::Format;
 use crc32c::crc32c;

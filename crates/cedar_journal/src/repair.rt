@@ -1,7 +1,9 @@
 //! Calls that make a file that a crash may have left ready for the next record. A crash may cut off each of these calls too.
 
-ghost use Rattle.std.specs.Prelude.{◌<◌, ◌∷◌, ◌≡◌, ◌≤◌, [], IfOk, IsErrOf, length, List, OnOk, Some, take, ℕ};
-ghost use Rattle.cedar_journal.specs.Words.{extent_end, file_payloads, HasExtent, HasFront, HasRecords, IsNewFile, IsSettled, LeavesOnly, Only};
+ghost use Rattle.std.specs.Prelude.{◌<◌, ◌∷◌, ◌≡◌, ◌≤◌, [], IfOk, IsErrOf, length};
+ghost use Rattle.std.specs.Prelude.{List, OnOk, Some, take, ℕ};
+ghost use Rattle.cedar_journal.specs.Words.{extent_end, file_payloads, HasExtent, HasFront};
+ghost use Rattle.cedar_journal.specs.Words.{HasRecords, IsNewFile, IsSettled, LeavesOnly, Only};
 
 use crate::records::{HEADER_FRAME, HEADER_LEN};
 use crate::{Device, DeviceError, Extent, Format};

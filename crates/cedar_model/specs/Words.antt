@@ -3,7 +3,8 @@ pub use Rattle.cedar_model.specs.Meaning.Marks.{HasMark, KeepsMarks, MarkedAt, m
 pub use Rattle.cedar_model.specs.Meaning.StandsFor.{HoldsTree, labels, Leads, slot_at}
 pub use Rattle.cedar_model.specs.Meaning.WellFormed.{cells_in, IsWellFormed, slots_named, tree_of}
 pub use Rattle.cedar_model.specs.Table.Cells.{Cells, is_held, NoPlace}
-pub use Rattle.cedar_model.specs.Table.Layouts.{default_layout, layout_byte, LayoutKind, reading, reduced_layout}
+pub use Rattle.cedar_model.specs.Table.Layouts.{default_layout, layout_byte, LayoutKind}
+pub use Rattle.cedar_model.specs.Table.Layouts.{reading, reduced_layout}
 pub use Rattle.cedar_model.specs.Table.TableFields.{Fields, size_of}
 pub use Rattle.cedar_model.specs.declared.layout.Stored.TheVariants.{AtBase, Nothing}
 pub use Rattle.cedar_slots.specs.Ring.{occurs}

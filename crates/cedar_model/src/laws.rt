@@ -1,7 +1,12 @@
 //! Laws of what a table represents.
 
-ghost use Rattle.std.specs.Prelude.{if◌then◌else◌, ◌+◌, ◌↔◌, ◌≡◌, count_by, length, List, None, true, ℕ};
-ghost use Rattle.cedar_model.specs.Words.{Cells, cells_in, default_layout, Fields, Forest, HasMark, HoldsTree, is_held, IsWellFormed, KeepsMarks, labels, Leads, MarkedAt, marks, NoPlace, occurs, prefixes, range_with_len, size_of, slot_at, slots_named, slots_of_tree, tree_of, walk};
+ghost use Rattle.std.specs.Prelude.{if◌then◌else◌, ◌+◌, ◌↔◌, ◌≡◌, count_by, length};
+ghost use Rattle.std.specs.Prelude.{List, None, true, ℕ};
+ghost use Rattle.cedar_model.specs.Words.{Cells, cells_in, default_layout, Fields, Forest, HasMark};
+ghost use Rattle.cedar_model.specs.Words.{HoldsTree, is_held, IsWellFormed, KeepsMarks, labels};
+ghost use Rattle.cedar_model.specs.Words.{Leads, MarkedAt, marks, NoPlace, occurs, prefixes};
+ghost use Rattle.cedar_model.specs.Words.{range_with_len, size_of, slot_at, slots_named};
+ghost use Rattle.cedar_model.specs.Words.{slots_of_tree, tree_of, walk};
 
 /// Slots represent one tree at most, and those of a table the one that is read from it.
 pub fn one_tree()

@@ -1,7 +1,10 @@
 //! Plans: the steps by which a file is opened, and by which a record is appended; and records as they are written.
 
-ghost use Rattle.std.specs.Prelude.{◌≡◌, ◌+◌, ◌<◌, ◌^◌, ◌++◌, ◌∷◌, ℕ, ◌≤◌, IfOk, IsErrOf, length, List, [], true};
-ghost use Rattle.cedar_plan.specs.Words.{append_works, cut_to, ends_closed, frame_of, header, opening, opening_works, overhead, works_of, Format, HasExtent, is_at_rest, Plain, Summed, write_to};
+ghost use Rattle.std.specs.Prelude.{◌≡◌, ◌+◌, ◌<◌, ◌^◌, ◌++◌, ◌∷◌, ℕ, ◌≤◌, IfOk};
+ghost use Rattle.std.specs.Prelude.{IsErrOf, length, List, [], true};
+ghost use Rattle.cedar_plan.specs.Words.{append_works, cut_to, ends_closed, frame_of, header};
+ghost use Rattle.cedar_plan.specs.Words.{opening, opening_works, overhead, works_of, Format};
+ghost use Rattle.cedar_plan.specs.Words.{HasExtent, is_at_rest, Plain, Summed, write_to};
 
 use cedar_journal::{Extent, Format, FrameError, MAX_PAYLOAD, push_frame};
 use std::alloc::Allocator;

@@ -1,7 +1,10 @@
 //! Calls of a store, one after another.
 
 ghost use Rattle.std.specs.Prelude.{◌+◌, ◌≡◌, ◌≤◌, IfErr, IfOk, length, vec_capacity, vec_len};
-ghost use Rattle.cedar_runs.specs.Words.{AddsStoreRun, after_call, after_erase, after_put, all_changed, BeginsSession, changes_told, IsCallStep, IsReadyStore, KeepsState, Only, outcome_of, outcome_of_compaction, outcome_of_erasure, point_of};
+ghost use Rattle.cedar_runs.specs.Words.{AddsStoreRun, after_call, after_erase, after_put};
+ghost use Rattle.cedar_runs.specs.Words.{all_changed, BeginsSession, changes_told, IsCallStep};
+ghost use Rattle.cedar_runs.specs.Words.{IsReadyStore, KeepsState, Only, outcome_of};
+ghost use Rattle.cedar_runs.specs.Words.{outcome_of_compaction, outcome_of_erasure, point_of};
 
 use crate::{Outcome, StoreCall};
 use cedar_journal::{Device, ReplaceDevice};

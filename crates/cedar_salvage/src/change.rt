@@ -1,7 +1,9 @@
 //! Payloads, and whether they are changes of a dictionary.
 
-ghost use Rattle.std.specs.Prelude.{◌*◌, ◌+◌, ◌<◌, ◌==◌, ◌≡◌, get_or, IfSome, is_some, length, not, position};
-ghost use Rattle.cedar_salvage.specs.Words.{batch_of, change_of, is_change, is_kind, key_fault, put_of};
+ghost use Rattle.std.specs.Prelude.{◌*◌, ◌+◌, ◌<◌, ◌==◌, ◌≡◌, get_or, IfSome, is_some};
+ghost use Rattle.std.specs.Prelude.{length, not, position};
+ghost use Rattle.cedar_salvage.specs.Words.{batch_of, change_of, is_change, is_kind};
+ghost use Rattle.cedar_salvage.specs.Words.{key_fault, put_of};
 
 use cedar_journal::first_payload;
 use cedar_store::BATCH;

@@ -1,7 +1,8 @@
 //! What an opening would cut off a file.
 
 ghost use Rattle.std.specs.Prelude.{◌*◌, ◌<◌, ◌≡◌, ◌⊎◌, [], false, length, true};
-ghost use Rattle.cedar_salvage.specs.Words.{behind_record, cuts_records, found_in, has_record, has_some, HasExtent, look_at, looks, TakesLong};
+ghost use Rattle.cedar_salvage.specs.Words.{behind_record, cuts_records, found_in, has_record};
+ghost use Rattle.cedar_salvage.specs.Words.{has_some, HasExtent, look_at, looks, TakesLong};
 
 use crate::change::number;
 use crate::record::whole_payload;

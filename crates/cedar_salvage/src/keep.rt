@@ -1,7 +1,9 @@
 //! What an opening would cut off a store's file, kept beside it.
 
-ghost use Rattle.std.specs.Prelude.{◌+◌, ◌++◌, ◌≡◌, ◌≤◌, [], drop, IfNone, IfOk, IfSome, length, List, OnOk, take};
-ghost use Rattle.cedar_salvage.specs.Words.{CutsNone, Elapses, IsCutOf, MayLeave, Memory, Only, seen_after};
+ghost use Rattle.std.specs.Prelude.{◌+◌, ◌++◌, ◌≡◌, ◌≤◌, [], drop, IfNone, IfOk, IfSome};
+ghost use Rattle.std.specs.Prelude.{length, List, OnOk, take};
+ghost use Rattle.cedar_salvage.specs.Words.{CutsNone, Elapses, IsCutOf, MayLeave, Memory};
+ghost use Rattle.cedar_salvage.specs.Words.{Only, seen_after};
 ghost use Rattle.cedar_disk.specs.FileDevices.{device_calls};
 
 use crate::cut::may_cut_records;

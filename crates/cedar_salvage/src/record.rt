@@ -1,7 +1,9 @@
 //! Records, and whether they are whole.
 
-ghost use Rattle.std.specs.Prelude.{◌+◌, ◌<◌, ◌∷◌, ◌≡◌, ◌≤◌, [], drop, false, IfNone, IfSome, length};
-ghost use Rattle.cedar_salvage.specs.Words.{first_changes, format_of, found_in, is_whole, payloads_in};
+ghost use Rattle.std.specs.Prelude.{◌+◌, ◌<◌, ◌∷◌, ◌≡◌, ◌≤◌, [], drop, false};
+ghost use Rattle.std.specs.Prelude.{IfNone, IfSome, length};
+ghost use Rattle.cedar_salvage.specs.Words.{first_changes, format_of, found_in};
+ghost use Rattle.cedar_salvage.specs.Words.{is_whole, payloads_in};
 
 use crate::change::{is_change, number};
 use cedar_journal::{Format, PLAIN_HEADER, SUMMED_HEADER, first_payload};

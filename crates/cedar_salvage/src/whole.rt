@@ -1,7 +1,9 @@
 //! The whole records of a file, as a new file.
 
 ghost use Rattle.std.specs.Prelude.{◌++◌, ◌∷◌, ◌≡◌, [], drop, IfOk, OnOk, Some};
-ghost use Rattle.cedar_salvage.specs.Words.{file_payloads, first_changes, found_in, found_of, HasExtent, IsSettled, Only, payloads_in, payloads_of, salvage_of};
+ghost use Rattle.cedar_salvage.specs.Words.{file_payloads, first_changes, found_in, found_of};
+ghost use Rattle.cedar_salvage.specs.Words.{HasExtent, IsSettled, Only, payloads_in};
+ghost use Rattle.cedar_salvage.specs.Words.{payloads_of, salvage_of};
 
 use crate::record::{format_of, next_whole, plain_change};
 use cedar_journal::{

@@ -1,6 +1,8 @@
 -- What holds of a table between any two of its operations.
-use Rattle.std.specs.Prelude.{bit_xor, ◌≡◌, ℕ, ◌+◌, ◌*◌, ◌/◌, ◌^◌, ◌<◌, ◌≤◌, ◌≤ℤ◌, ℤ, true, false, cond, ◌==◌, List, [], ◌∷◌, length, pos, replicate, slice_index_or}
-use Rattle.cedar_slots.specs.Blocks.{blank_block, block_at, BlockFields, counts_at, HasLists, head_of, kind_of, Sized}
+use Rattle.std.specs.Prelude.{bit_xor, ◌≡◌, ℕ, ◌+◌, ◌*◌, ◌/◌, ◌^◌, ◌<◌, ◌≤◌, ◌≤ℤ◌, ℤ, true, false}
+use Rattle.std.specs.Prelude.{cond, ◌==◌, List, [], ◌∷◌, length, pos, replicate, slice_index_or}
+use Rattle.cedar_slots.specs.Blocks.{blank_block, block_at, BlockFields, counts_at}
+use Rattle.cedar_slots.specs.Blocks.{HasLists, head_of, kind_of, Sized}
 use Rattle.cedar_slots.specs.declared.blocks.BlockType.{BlockType}
 use Rattle.cedar_slots.specs.declared.blocks.BlockType.TheVariants.{Open}
 use Rattle.cedar_slots.specs.declared.shortage.Shortage.{Shortage}
@@ -8,7 +10,8 @@ use Rattle.cedar_slots.specs.declared.shortage.Shortage.TheVariants.{Memory, Slo
 use Rattle.cedar_slots.specs.declared.blocks.Counts.{Counts}
 use Rattle.cedar_slots.specs.declared.records.BlockRecord.{BlockRecord}
 use Rattle.cedar_slots.specs.declared.records.NodeRecord.{NodeRecord}
-use Rattle.cedar_slots.specs.Slots.{AllFree, blank_info, blank_node, FreeRing, info_at, is_free, node_record_at, SlotFields, SlotLink}
+use Rattle.cedar_slots.specs.Slots.{AllFree, blank_info, blank_node, FreeRing, info_at, is_free}
+use Rattle.cedar_slots.specs.Slots.{node_record_at, SlotFields, SlotLink}
 use Rattle.cedar_slots.specs.Ring.{first_of}
 
 -- the slots, the blocks that they are in, and the reject values, as a file has them too

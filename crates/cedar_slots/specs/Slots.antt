@@ -1,5 +1,6 @@
 -- The free slots of a block, and the ring that they are in.
-use Rattle.std.specs.Prelude.{All, bit_xor, true, ◌≡◌, ℕ, ◌/◌, ◌<◌, Bool, not, ◌&&◌, cond, ◌==◌, List, slice_index_or, slice_set, ℤ, pos, neg_ℤ, int_lt, unsigned_abs}
+use Rattle.std.specs.Prelude.{All, bit_xor, true, ◌≡◌, ℕ, ◌/◌, ◌<◌, Bool, not, ◌&&◌, cond, ◌==◌}
+use Rattle.std.specs.Prelude.{List, slice_index_or, slice_set, ℤ, pos, neg_ℤ, int_lt, unsigned_abs}
 use Rattle.cedar_slots.specs.declared.records.NodeRecord.{NodeRecord}
 use Rattle.cedar_slots.specs.declared.records.NInfoRecord.{NInfoRecord}
 use Rattle.cedar_slots.specs.Ring.{occurs, Ring}

@@ -1,6 +1,7 @@
 //! The blocks, and the lists that they are in.
 
-ghost use Rattle.std.specs.Prelude.{◌+ℤ◌, ◌+◌, ◌<ℤ◌, ◌<◌, ◌^◌, ◌∷◌, ◌≡◌, ◌≤ℤ◌, ◌≤◌, IsTrue, length, List, pos, unsigned_abs, ℕ, ℤ};
+ghost use Rattle.std.specs.Prelude.{◌+ℤ◌, ◌+◌, ◌<ℤ◌, ◌<◌, ◌^◌, ◌∷◌, ◌≡◌, ◌≤ℤ◌, ◌≤◌, IsTrue};
+ghost use Rattle.std.specs.Prelude.{length, List, pos, unsigned_abs, ℕ, ℤ};
 
 use crate::padded::Padded;
 use crate::records::BlockRecord;
@@ -169,7 +170,11 @@ pub struct Blocks<A: Allocator> {
 }
 
 impl<A: Allocator> Blocks<A> {
-    ghost use Rattle.cedar_slots.specs.Words.{block_at, blocks_of, BlockType, counts_at, fresh_counts, HasLists, head_of, KeepsCounts, KeepsLinks, kind_of, linked_blocks, ListRings, lists_with, next_at, occurs, Popped, prev_at, SameFrom, SetsCounts, Sized, total};
+    ghost use Rattle.cedar_slots.specs.Words.{block_at, blocks_of, BlockType, counts_at};
+    ghost use Rattle.cedar_slots.specs.Words.{fresh_counts, HasLists, head_of, KeepsCounts};
+    ghost use Rattle.cedar_slots.specs.Words.{KeepsLinks, kind_of, linked_blocks, ListRings};
+    ghost use Rattle.cedar_slots.specs.Words.{lists_with, next_at, occurs, Popped, prev_at};
+    ghost use Rattle.cedar_slots.specs.Words.{SameFrom, SetsCounts, Sized, total};
 
     /// Returns the first block of a list, or 0.
     pub fn head(&self, list: BlockType) -> i32

@@ -1,6 +1,8 @@
 //! The slots and their blocks together: which slots are free, and where free ones are found.
 
-ghost use Rattle.std.specs.Prelude.{if◌then◌else◌, ◌*◌, ◌+◌, ◌/◌, ◌<◌, ◌==◌, ◌^◌, ◌≡◌, ◌≤ℤ◌, ◌≤◌, ◌⊎◌, count_by, false, IfErr, IfNone, IfOk, IfSome, int_lt, length, not, OnErr, OnOk, pos, slice_set, true, ℕ};
+ghost use Rattle.std.specs.Prelude.{if◌then◌else◌, ◌*◌, ◌+◌, ◌/◌, ◌<◌, ◌==◌, ◌^◌, ◌≡◌, ◌≤ℤ◌, ◌≤◌};
+ghost use Rattle.std.specs.Prelude.{◌⊎◌, count_by, false, IfErr, IfNone, IfOk, IfSome, int_lt};
+ghost use Rattle.std.specs.Prelude.{length, not, OnErr, OnOk, pos, slice_set, true, ℕ};
 ghost use Rattle.cedar_slots.specs.Places.{reject_at};
 
 use crate::blocks::{BlockType, Blocks};
@@ -41,7 +43,13 @@ fn first_rejects<A: Allocator>(alloc: A) -> Result<Vec<i16, A>, AllocError>
 }
 
 impl<A: Allocator> Places<A> {
-    ghost use Rattle.cedar_slots.specs.Words.{AddsBlock, blocks_of, counts_at, FreesSlot, Grown, is_free, IsBase, IsFreePlace, IsNewPlaces, IsOpenBlock, IsPowerOfTwo, IsSlotLimit, IsStart, MayRefuse, node_record_at, NoneFree, places_of, range_with_len, reject_at, Rejects, room_for_one, SameSlots, Shaped, slots_of, Sound, TakesSlot, Within};
+    ghost use Rattle.cedar_slots.specs.Words.{AddsBlock, blocks_of, counts_at, FreesSlot, Grown};
+    ghost use Rattle.cedar_slots.specs.Words.{is_free, IsBase, IsFreePlace, IsNewPlaces};
+    ghost use Rattle.cedar_slots.specs.Words.{IsOpenBlock, IsPowerOfTwo, IsSlotLimit, IsStart};
+    ghost use Rattle.cedar_slots.specs.Words.{MayRefuse, node_record_at, NoneFree, places_of};
+    ghost use Rattle.cedar_slots.specs.Words.{range_with_len, reject_at, Rejects, room_for_one};
+    ghost use Rattle.cedar_slots.specs.Words.{SameSlots, Shaped, slots_of, Sound, TakesSlot};
+    ghost use Rattle.cedar_slots.specs.Words.{Within};
 
     /// One block, in which the root alone is held.
     pub fn new(alloc: A, root: NodeRecord, max_trial: i32) -> Result<Places<A>, AllocError>

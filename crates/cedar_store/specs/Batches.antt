@@ -1,5 +1,6 @@
 -- How the changes of a batch are made: all updates first, then the erasures of keys that no later change puts. And how they are recorded.
-use Rattle.std.specs.Prelude.{◌≡◌, ℕ, ◌+◌, ◌<◌, ℤ, Bool, false, ◌||◌, cond, List, [], ◌∷◌, ◌++◌, fold, get_or, length, take, Option, None, Some, nat_eq}
+use Rattle.std.specs.Prelude.{◌≡◌, ℕ, ◌+◌, ◌<◌, ℤ, Bool, false, ◌||◌, cond, List, [], ◌∷◌, ◌++◌}
+use Rattle.std.specs.Prelude.{fold, get_or, length, take, Option, None, Some, nat_eq}
 use Rattle.std.specs.Cmp.Lexicographic.{pointwise}
 use Rattle.cedar_journal.specs.Records.{length_bytes}
 use Rattle.cedarwood.specs.State.{State, after_put, after_erase}

@@ -1,5 +1,6 @@
 -- What an error of a store says.
-use Rattle.std.specs.Prelude.{◌≡◌, ◌⊎◌, ℕ, ◌<◌, ◌≤◌, Bool, true, List, length, Option, None, Some, IsSome}
+use Rattle.std.specs.Prelude.{◌≡◌, ◌⊎◌, ℕ, ◌<◌, ◌≤◌, Bool, true, List, length}
+use Rattle.std.specs.Prelude.{Option, None, Some, IsSome}
 use Rattle.cedar_journal.specs.declared.device.DeviceError.TheVariants.{Failed}
 use Rattle.cedar_journal.specs.Files.{file_payloads, file_reading}
 use Rattle.cedar_journal.specs.Formats.{damaged}

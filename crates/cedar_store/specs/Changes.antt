@@ -1,5 +1,6 @@
 -- Changes of a dictionary as the payload of a record.
-use Rattle.std.specs.Prelude.{ℕ, ◌+◌, ◌*◌, ◌==◌, nat_le, cond, ℤ, pos, List, [], ◌∷◌, length, drop, fold, get_or, Option, Some, None, option_map, option_and_then}
+use Rattle.std.specs.Prelude.{ℕ, ◌+◌, ◌*◌, ◌==◌, nat_le, cond, ℤ, pos, List, [], ◌∷◌, length, drop}
+use Rattle.std.specs.Prelude.{fold, get_or, Option, Some, None, option_map, option_and_then}
 use Rattle.cedar_journal.specs.Records.{payloads_in}
 use Rattle.cedarwood.specs.State.{State, after_put, after_erase}
 use Rattle.cedarwood.specs.declared.error.CedarError.{CedarError}

@@ -1,5 +1,6 @@
 -- When a file is compacted, what it has then, and why it wasn't.
-use Rattle.std.specs.Prelude.{◌≡◌, ◌<◌, ℕ, ◌+◌, ◌-◌, ◌*◌, max, nat_lt, ℤ, Bool, false, List, [], ◌∷◌, ◌++◌, length, Some}
+use Rattle.std.specs.Prelude.{◌≡◌, ◌<◌, ℕ, ◌+◌, ◌-◌, ◌*◌, max, nat_lt, ℤ, Bool, false}
+use Rattle.std.specs.Prelude.{List, [], ◌∷◌, ◌++◌, length, Some}
 use Rattle.cedar_journal.specs.declared.device.DeviceError.TheVariants as device
 use Rattle.cedar_journal.specs.declared.frame.FrameError.{FrameError}
 use Rattle.cedar_journal.specs.declared.frame.FrameError.TheVariants as frame
@@ -10,7 +11,8 @@ use Rattle.cedar_store.specs.Changes.{changes_of, put_at}
 use Rattle.cedar_store.specs.declared.compaction.Compaction.{Compaction}
 use Rattle.cedar_store.specs.declared.compaction.Compaction.TheVariants.{Never, Beyond}
 use Rattle.cedar_store.specs.declared.compaction.CompactError.{CompactError}
-use Rattle.cedar_store.specs.declared.compaction.CompactError.TheVariants.{Memory, TooLong, Kept, Failed}
+use Rattle.cedar_store.specs.declared.compaction.CompactError.TheVariants.{Memory, TooLong, Kept}
+use Rattle.cedar_store.specs.declared.compaction.CompactError.TheVariants.{Failed}
 
 -- the rule of a store that was opened: twice what the entries take, and 64 KiB
 abbrev pub default_rule : Compaction

@@ -1,5 +1,6 @@
 -- The dictionary that a file represents.
-use Rattle.std.specs.Prelude.{◌≡◌, ◌⊎◌, ℕ, Bool, true, false, ◌||◌, not, is_some, List, [], ◌∷◌, length, Option, Some, option_and_then, option_map}
+use Rattle.std.specs.Prelude.{◌≡◌, ◌⊎◌, ℕ, Bool, true, false, ◌||◌, not, is_some, List, [], ◌∷◌}
+use Rattle.std.specs.Prelude.{length, Option, Some, option_and_then, option_map}
 use Rattle.cedar_journal.specs.Files.{file_payloads, with_payload}
 use Rattle.cedarwood.specs.State.{State, new_state}
 use Rattle.cedar_store.specs.Changes.{after_payloads, Change, changes_of}

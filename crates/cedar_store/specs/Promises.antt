@@ -4,7 +4,8 @@ use Rattle.cedar_journal.specs.Device.{LeavesOnly}
 use Rattle.cedar_journal.specs.Journal.{IsSettled}
 use Rattle.cedarwood.specs.State.{State}
 use Rattle.cedarwood.specs.declared.error.CedarError.{CedarError}
-use Rattle.cedar_store.specs.Causes.{BatchCause, ChangeCause, EraseCause, IsOfDevice, IsUnwritten, Leaves}
+use Rattle.cedar_store.specs.Causes.{BatchCause, ChangeCause, EraseCause, IsOfDevice}
+use Rattle.cedar_store.specs.Causes.{IsUnwritten, Leaves}
 use Rattle.cedar_store.specs.Changes.{Change}
 use Rattle.cedar_store.specs.Files.{AddsRecord, IsEither, StandsFor, record_count, state_of}
 use Rattle.cedar_store.specs.Shortening.{IsShortened}

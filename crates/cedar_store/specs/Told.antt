@@ -11,7 +11,9 @@ use Rattle.cedar_store.specs.Changes.{Change, put_at, erase_at}
 use Rattle.cedar_store.specs.declared.change.Change.{Change as ToldChange}
 use Rattle.cedar_store.specs.declared.change.Change.TheVariants as change
 use Rattle.cedar_store.specs.declared.error.DurableError.{DurableError}
-use Rattle.cedar_store.specs.declared.error.DurableError.TheVariants.{Damaged, Device, Foreign, Full, NoRoom, Refused, TooLong}
+use Rattle.cedar_store.specs.declared.error.DurableError.TheVariants.{Damaged, Device, Foreign}
+use Rattle.cedar_store.specs.declared.error.DurableError.TheVariants.{Full, NoRoom, Refused}
+use Rattle.cedar_store.specs.declared.error.DurableError.TheVariants.{TooLong}
 
 abbrev pub file_error : FileFault → DurableError
 file_error fault.Foreign = Foreign

@@ -1,7 +1,18 @@
 //! A store's file made short: one record for each entry.
 
-ghost use Rattle.std.specs.Prelude.{◌+◌, ◌-◌, ◌<◌, ◌^◌, ◌≡◌, ◌⊎◌, false, IfErr, IfOk, IsErrOf, length, None, OnErr, OnOk, option_and_then, Some, true};
-ghost use Rattle.cedar_store.specs.Words.{with_payload, after, all_erased_late, all_stored, AllByRecursion, changes_told, CompactCause, compacted_length, CrashLeavesState, CrashLeavesStateOrOld, FailsByDevice, fault, IfKept, image_bytes, is_beyond, IsBeforeReplacing, IsConsistent, IsEither, IsFailureTold, IsLookedAfter, IsLookedAfterError, IsLookedAt, IsPutBehind, IsReadyStore, IsSettled, IsShortened, KeepsCount, KeepsFile, LeavesUnwritten, Leaves, LeavesFile, LeavesOnly, LostRoom, new_state, payload_of, payloads_of, file_payloads, after_payloads, State, state_of, walk};
+ghost use Rattle.std.specs.Prelude.{◌+◌, ◌-◌, ◌<◌, ◌^◌, ◌≡◌, ◌⊎◌, false, IfErr, IfOk, IsErrOf};
+ghost use Rattle.std.specs.Prelude.{length, None, OnErr, OnOk, option_and_then, Some, true};
+ghost use Rattle.cedar_store.specs.Words.{with_payload, after, all_erased_late, all_stored};
+ghost use Rattle.cedar_store.specs.Words.{AllByRecursion, changes_told, CompactCause};
+ghost use Rattle.cedar_store.specs.Words.{compacted_length, CrashLeavesState};
+ghost use Rattle.cedar_store.specs.Words.{CrashLeavesStateOrOld, FailsByDevice, fault, IfKept};
+ghost use Rattle.cedar_store.specs.Words.{image_bytes, is_beyond, IsBeforeReplacing, IsConsistent};
+ghost use Rattle.cedar_store.specs.Words.{IsEither, IsFailureTold, IsLookedAfter};
+ghost use Rattle.cedar_store.specs.Words.{IsLookedAfterError, IsLookedAt, IsPutBehind};
+ghost use Rattle.cedar_store.specs.Words.{IsReadyStore, IsSettled, IsShortened, KeepsCount};
+ghost use Rattle.cedar_store.specs.Words.{KeepsFile, LeavesUnwritten, Leaves, LeavesFile};
+ghost use Rattle.cedar_store.specs.Words.{LeavesOnly, LostRoom, new_state, payload_of, payloads_of};
+ghost use Rattle.cedar_store.specs.Words.{file_payloads, after_payloads, State, state_of, walk};
 
 use crate::batch::erase_rest;
 use crate::frames::put_payload;

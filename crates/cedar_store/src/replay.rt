@@ -1,7 +1,10 @@
 //! The changes of a file, made again.
 
 ghost use Rattle.std.specs.Prelude.{◌*◌, ◌+◌, ◌≡◌, IfErr, IfOk, OnOk, Some, option_map};
-ghost use Rattle.cedar_store.specs.Words.{after, all_changed, batch_of, change_of, after_change, payloads_read, new_state, put_of, records_read, after_payloads, state_of, HasExtent, IsShortage, AreUndamaged, LoadCause, ReplayCause};
+ghost use Rattle.cedar_store.specs.Words.{after, all_changed, batch_of, change_of, after_change};
+ghost use Rattle.cedar_store.specs.Words.{payloads_read, new_state, put_of, records_read};
+ghost use Rattle.cedar_store.specs.Words.{after_payloads, state_of, HasExtent, IsShortage};
+ghost use Rattle.cedar_store.specs.Words.{AreUndamaged, LoadCause, ReplayCause};
 
 use crate::DurableError;
 use crate::words::{Made, Words};

@@ -1,7 +1,18 @@
 //! The store: a dictionary, and the journal of its changes.
 
-ghost use Rattle.std.specs.Prelude.{◌+◌, ◌<◌, ◌^◌, ◌≡◌, ◌≤◌, ◌∷◌, IfErr, IfOk, IfSome, IsErrOf, IsOk, OnErr, OnOk, Some, [], false, if◌then◌else◌, is_some, length, true};
-ghost use Rattle.cedar_store.specs.Words.{with_payload, all_changed, changes_told, erase_at, ends_closed, after_erase, fault, format_of, first_refused, number_at, payload_of, file_payloads, state_of, after_put, AllByRecursion, HasExtent, IsBeforeOrAfter, IsBeforeWrites, IsCorrupt, IsFaultless, IsRecordedIn, IsSettled, LeavesOnly, Only, OpenCause, put_at, ReadCause, CrashLeavesEither, HasState, IsBatchCause, IsChangeCause, IsCounted, IsEraseCause, IsLookedAfter, IsLookedAfterError, IsReadyStore, IsUnlooked, KeepsCount, LeavesUnwritten, LeavesStore};
+ghost use Rattle.std.specs.Prelude.{◌+◌, ◌<◌, ◌^◌, ◌≡◌, ◌≤◌, ◌∷◌, IfErr, IfOk, IfSome};
+ghost use Rattle.std.specs.Prelude.{IsErrOf, IsOk, OnErr, OnOk, Some, [], false};
+ghost use Rattle.std.specs.Prelude.{if◌then◌else◌, is_some, length, true};
+ghost use Rattle.cedar_store.specs.Words.{with_payload, all_changed, changes_told, erase_at};
+ghost use Rattle.cedar_store.specs.Words.{ends_closed, after_erase, fault, format_of};
+ghost use Rattle.cedar_store.specs.Words.{first_refused, number_at, payload_of, file_payloads};
+ghost use Rattle.cedar_store.specs.Words.{state_of, after_put, AllByRecursion, HasExtent};
+ghost use Rattle.cedar_store.specs.Words.{IsBeforeOrAfter, IsBeforeWrites, IsCorrupt, IsFaultless};
+ghost use Rattle.cedar_store.specs.Words.{IsRecordedIn, IsSettled, LeavesOnly, Only, OpenCause};
+ghost use Rattle.cedar_store.specs.Words.{put_at, ReadCause, CrashLeavesEither, HasState};
+ghost use Rattle.cedar_store.specs.Words.{IsBatchCause, IsChangeCause, IsCounted, IsEraseCause};
+ghost use Rattle.cedar_store.specs.Words.{IsLookedAfter, IsLookedAfterError, IsReadyStore};
+ghost use Rattle.cedar_store.specs.Words.{IsUnlooked, KeepsCount, LeavesUnwritten, LeavesStore};
 
 use crate::batch::{make, take_all_back};
 use crate::counts::count_records;

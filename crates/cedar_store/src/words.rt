@@ -1,7 +1,12 @@
 //! The dictionary of a store, as the store sees it.
 
-ghost use Rattle.std.specs.Prelude.{◌≡◌, IfErr, IfOk, IfSome, None, OnOk, Some, is_some, length, true};
-ghost use Rattle.cedar_store.specs.Words.{after_erase, after_payloads, compacted_length, image_bytes, IsAscending, IsBeforeReplacing, IsLimit, IsPut, IsPutOf, IsShortage, IsSound, new_state, number_at, outcome, payloads_of, State, value_fault, walk};
+ghost use Rattle.std.specs.Prelude.{◌≡◌, IfErr, IfOk, IfSome, None, OnOk, Some};
+ghost use Rattle.std.specs.Prelude.{is_some, length, true};
+ghost use Rattle.cedar_store.specs.Words.{after_erase, after_payloads, compacted_length};
+ghost use Rattle.cedar_store.specs.Words.{image_bytes, IsAscending, IsBeforeReplacing, IsLimit};
+ghost use Rattle.cedar_store.specs.Words.{IsPut, IsPutOf, IsShortage, IsSound, new_state};
+ghost use Rattle.cedar_store.specs.Words.{number_at, outcome, payloads_of, State, value_fault};
+ghost use Rattle.cedar_store.specs.Words.{walk};
 
 use crate::CompactError;
 use crate::compact::image_of;

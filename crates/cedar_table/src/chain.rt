@@ -1,7 +1,8 @@
 //! The chain of a node's labels: what a slot says about the next one, and a slot put into the chain.
 
 ghost use Rattle.std.specs.Prelude.{◌<◌, ◌≢◌, MatchOption};
-ghost use Rattle.cedar_table.specs.Words.{cells, fields, Held, IsTable, LinkedBehind, LinkedChild, SameFrame, SetsChild, SetsSibling, size_of};
+ghost use Rattle.cedar_table.specs.Words.{cells, fields, Held, IsTable, LinkedBehind, LinkedChild};
+ghost use Rattle.cedar_table.specs.Words.{SameFrame, SetsChild, SetsSibling, size_of};
 
 use crate::table::Table;
 use cedar_model::Layout;

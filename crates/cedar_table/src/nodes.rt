@@ -1,7 +1,13 @@
 //! One node of a table, read and written: its base, its owner, its slots for labels, its labels, and the node of a key.
 
-ghost use Rattle.std.specs.Prelude.{◌<◌, ◌^◌, ◌↔◌, ◌≡◌, ◌≢◌, [], IsTrue, length, List, MatchOption, None, pos, Some, true, ℕ};
-ghost use Rattle.cedar_table.specs.Words.{base_of, below, cells, ChecksAt, edit_at, empty_tree, Family, fields, FieldSet, Forest, HasNode, HasPath, Head, Held, is_value, IsAt, IsNode, IsTable, IsWellFormed, Links, node_at, Nothing, number_at, owned_slots, OwnNumber, OwnsNothing, Rebased, reduced_layout, SameFrame, size_of, TableHolds, tree_of};
+ghost use Rattle.std.specs.Prelude.{◌<◌, ◌^◌, ◌↔◌, ◌≡◌, ◌≢◌, [], IsTrue, length, List};
+ghost use Rattle.std.specs.Prelude.{MatchOption, None, pos, Some, true, ℕ};
+ghost use Rattle.cedar_table.specs.Words.{base_of, below, cells, ChecksAt, edit_at, empty_tree};
+ghost use Rattle.cedar_table.specs.Words.{Family, fields, FieldSet, Forest, HasNode, HasPath, Head};
+ghost use Rattle.cedar_table.specs.Words.{Held, is_value, IsAt, IsNode, IsTable, IsWellFormed};
+ghost use Rattle.cedar_table.specs.Words.{Links, node_at, Nothing, number_at, owned_slots};
+ghost use Rattle.cedar_table.specs.Words.{OwnNumber, OwnsNothing, Rebased, reduced_layout};
+ghost use Rattle.cedar_table.specs.Words.{SameFrame, size_of, TableHolds, tree_of};
 
 use crate::table::Table;
 use arrayvec::ArrayVec;

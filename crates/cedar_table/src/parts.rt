@@ -1,7 +1,8 @@
 //! A table as its parts: it is made from them when it is loaded, and returns them when it is saved.
 
 ghost use Rattle.std.specs.Prelude.{◌*◌, ◌≡◌, ◌≤◌, length};
-ghost use Rattle.cedar_table.specs.Words.{blank_block, blank_info, blank_node, fields, parts_fields, places_of, Shaped, size_of, with_blanks};
+ghost use Rattle.cedar_table.specs.Words.{blank_block, blank_info, blank_node, fields};
+ghost use Rattle.cedar_table.specs.Words.{parts_fields, places_of, Shaped, size_of, with_blanks};
 
 use crate::table::Table;
 use cedar_model::Layout;

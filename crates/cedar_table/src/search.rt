@@ -7,8 +7,10 @@ use std::alloc::Allocator;
 use std::sync::ledger::Ledger;
 
 impl<L: Layout, const SLOTS: usize, A: Allocator> Table<L, SLOTS, A> {
-    ghost use Rattle.std.specs.Prelude.{◌+◌, ◌<◌, ◌↔◌, ◌≡◌, ◌≤◌, false, IsTrue, length, MatchOption, OnSome, pos};
-    ghost use Rattle.cedar_table.specs.Words.{cells, exact, fields, has_label, IsWellFormed, size_of, Stands, subtree, Tree, tree_of};
+    ghost use Rattle.std.specs.Prelude.{◌+◌, ◌<◌, ◌↔◌, ◌≡◌, ◌≤◌, false, IsTrue, length};
+    ghost use Rattle.std.specs.Prelude.{MatchOption, OnSome, pos};
+    ghost use Rattle.cedar_table.specs.Words.{cells, exact, fields, has_label, IsWellFormed};
+    ghost use Rattle.cedar_table.specs.Words.{size_of, Stands, subtree, Tree, tree_of};
 
     /// Returns whether a slot belongs to an owner: one comparison of a check field with a slot's number.
     pub(crate) fn belongs<C: Ledger>(&self, slot: usize, owner: usize, ticks: &mut Ticks<C>) -> bool

@@ -1,6 +1,7 @@
 //! The table: slots in blocks, free or held, with the settings that it was made with.
 
-ghost use Rattle.std.specs.Prelude.{◌*◌, ◌+◌, ◌-◌, ◌/◌, ◌<◌, ◌^◌, ◌↔◌, ◌≡◌, ◌≤◌, ◌≤ℤ◌, ◌⊎◌, count_by, IfErr, IfOk, IsTrue, length, negsuc, OnErr, pos, ℕ};
+ghost use Rattle.std.specs.Prelude.{◌*◌, ◌+◌, ◌-◌, ◌/◌, ◌<◌, ◌^◌, ◌↔◌, ◌≡◌, ◌≤◌, ◌≤ℤ◌, ◌⊎◌};
+ghost use Rattle.std.specs.Prelude.{count_by, IfErr, IfOk, IsTrue, length, negsuc, OnErr, pos, ℕ};
 ghost use Rattle.cedar_slots.specs.Words.{places_of, Shaped};
 
 use cedar_model::{Layout, Stored};
@@ -23,7 +24,14 @@ pub struct Table<L: Layout, const SLOTS: usize, A: Allocator> {
 }
 
 impl<L: Layout, const SLOTS: usize, A: Allocator> Table<L, SLOTS, A> {
-    ghost use Rattle.cedar_table.specs.Words.{AddsBlock, block_at, capacity_of, cells, cells_without, check_at, empty_tree, fields, Gives, HasPlaces, Held, InfoWritten, is_held, IsNewPlaces, IsPlace, IsSlotLimit, IsTable, IsWellFormed, MakesBlocks, MayClaim, MayRefuse, Memory, NodeWritten, NoPlace, range_with_len, reading, reject_at, SameFrame, SameHeld, SameSettings, SameSlots, size_of, Takes, tree_of};
+    ghost use Rattle.cedar_table.specs.Words.{AddsBlock, block_at, capacity_of, cells};
+    ghost use Rattle.cedar_table.specs.Words.{cells_without, check_at, empty_tree, fields, Gives};
+    ghost use Rattle.cedar_table.specs.Words.{HasPlaces, Held, InfoWritten, is_held, IsNewPlaces};
+    ghost use Rattle.cedar_table.specs.Words.{IsPlace, IsSlotLimit, IsTable, IsWellFormed};
+    ghost use Rattle.cedar_table.specs.Words.{MakesBlocks, MayClaim, MayRefuse, Memory};
+    ghost use Rattle.cedar_table.specs.Words.{NodeWritten, NoPlace, range_with_len, reading};
+    ghost use Rattle.cedar_table.specs.Words.{reject_at, SameFrame, SameHeld, SameSettings};
+    ghost use Rattle.cedar_table.specs.Words.{SameSlots, size_of, Takes, tree_of};
 
     /// A table with one block, in which the root alone is held. It represents the empty tree.
     pub fn new(alloc: A, ordered: bool, max_trial: i32) -> Result<Self, Shortage>

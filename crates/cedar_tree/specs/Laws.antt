@@ -4,7 +4,8 @@ use Rattle.std.specs.List.{Contains, AllByRecursion}
 use Rattle.std.specs.List.Sorted.{IsStrictlySortedBy}
 use Rattle.std.specs.Cmp.Lexicographic.{slice_cmp}
 use Rattle.std.specs.Ordering.{nat_cmp}
-use Rattle.cedar_tree.specs.Tree.{Tree, has_label, subtree, is_bare, cut, IsKey, IsSound, IsAscending}
+use Rattle.cedar_tree.specs.Tree.{Tree, has_label, subtree, is_bare, cut, IsKey}
+use Rattle.cedar_tree.specs.Tree.{IsSound, IsAscending}
 use Rattle.cedar_tree.specs.Queries.{Entry, walk}
 
 -- the paths of some pairs ascend by bytes, each below those after it

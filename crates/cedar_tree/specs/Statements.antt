@@ -1,11 +1,16 @@
 -- The laws of the labelled tree, each as a statement. Functions of this crate have them as their contracts.
-use Rattle.std.specs.Prelude.{◌≡◌, ◌≢◌, ℕ, ℤ, ◌+◌, ◌-◌, Bool, true, false, not, List, [], ◌∷◌, ◌++◌, ◌<◌, length, take, map, None, Some, IfSome, is_some, ◌↔◌, if◌then◌else◌}
+use Rattle.std.specs.Prelude.{◌≡◌, ◌≢◌, ℕ, ℤ, ◌+◌, ◌-◌, Bool, true, false, not, List, []}
+use Rattle.std.specs.Prelude.{◌∷◌, ◌++◌, ◌<◌, length, take, map, None, Some, IfSome}
+use Rattle.std.specs.Prelude.{is_some, ◌↔◌, if◌then◌else◌}
 use Rattle.std.specs.List.{Contains, filter, AllByRecursion}
 use Rattle.std.specs.List.Sorted.{IsStrictlySortedBy}
 use Rattle.std.specs.Ordering.{nat_cmp}
-use Rattle.cedar_tree.specs.Tree.{Tree, IsPath, IsKey, IsSound, IsSoundBelow, IsAscending, AllNumbers, number_at, put, is_bare, cut}
-use Rattle.cedar_tree.specs.Laws.{ArePathsAscending, ArePathsKeys, IsTreeOf, ComesBefore, IsPartOf, fronts, missing_nodes, bare_nodes}
-use Rattle.cedar_tree.specs.Queries.{Entry, asc, last_at, walk, front, predict, node_at, prefixes, slots_of_tree, is_path, entry_at, IsFront}
+use Rattle.cedar_tree.specs.Tree.{Tree, IsPath, IsKey, IsSound, IsSoundBelow, IsAscending}
+use Rattle.cedar_tree.specs.Tree.{AllNumbers, number_at, put, is_bare, cut}
+use Rattle.cedar_tree.specs.Laws.{ArePathsAscending, ArePathsKeys, IsTreeOf, ComesBefore}
+use Rattle.cedar_tree.specs.Laws.{IsPartOf, fronts, missing_nodes, bare_nodes}
+use Rattle.cedar_tree.specs.Queries.{Entry, asc, last_at, walk, front, predict, node_at, prefixes}
+use Rattle.cedar_tree.specs.Queries.{slots_of_tree, is_path, entry_at, IsFront}
 
 -- a put number is at its path
 abbrev pub PutIsReadBack : Type 0

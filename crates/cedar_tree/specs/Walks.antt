@@ -1,5 +1,6 @@
 -- What a walk that is under way has left.
-use Rattle.std.specs.Prelude.{ℕ, ◌+◌, ◌-◌, ◌==◌, if◌then◌else◌, ℤ, List, [], ◌∷◌, ◌++◌, length, take, map, Option, option_map}
+use Rattle.std.specs.Prelude.{ℕ, ◌+◌, ◌-◌, ◌==◌, if◌then◌else◌, ℤ, List, [], ◌∷◌, ◌++◌}
+use Rattle.std.specs.Prelude.{length, take, map, Option, option_map}
 use Rattle.std.specs.List.{filter_map, range_with_len}
 use Rattle.cedar_tree.specs.Tree.{Forest, none, child, Tree, subtree, number_at}
 use Rattle.cedar_tree.specs.Queries.{Entry}

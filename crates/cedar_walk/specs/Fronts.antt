@@ -1,5 +1,6 @@
 -- How far a walk along a query is in a table.
-use Rattle.std.specs.Prelude.{◌≡◌, ℕ, ◌-◌, ◌<◌, ◌≤◌, List, [], ◌∷◌, length, MatchOption, take, Option, Some, None}
+use Rattle.std.specs.Prelude.{◌≡◌, ℕ, ◌-◌, ◌<◌, ◌≤◌, List, [], ◌∷◌, length}
+use Rattle.std.specs.Prelude.{MatchOption, take, Option, Some, None}
 use Rattle.cedar_model.specs.Tree.{Tree}
 use Rattle.cedar_model.specs.Queries.{node_at}
 use Rattle.cedar_model.specs.Walks.{front_from}

@@ -1,5 +1,6 @@
 -- The entries of a tree whose keys lie in a range.
-use Rattle.std.specs.Prelude.{ℕ, ℤ, ◌+◌, nat_eq, nat_lt, if◌then◌else◌, List, ◌++◌, filter, None, Option, option_map}
+use Rattle.std.specs.Prelude.{ℕ, ℤ, ◌+◌, nat_eq, nat_lt, if◌then◌else◌, List, ◌++◌}
+use Rattle.std.specs.Prelude.{filter, None, Option, option_map}
 use Rattle.std.specs.List.{last_or, starts_with}
 use Rattle.std.specs.Cmp.Lexicographic.{slice_cmp}
 use Rattle.std.specs.Ordering.{is_ge, nat_cmp}

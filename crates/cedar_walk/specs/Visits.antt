@@ -1,8 +1,10 @@
 -- How far a walk over the nodes of a tree is in a table.
-use Rattle.std.specs.Prelude.{◌≡◌, ℕ, ℤ, zero, suc, ◌+◌, ◌-◌, ◌<◌, ◌≤◌, List, [], ◌∷◌, ◌++◌, length, MatchOption, Option, Some, take, unsigned_abs}
+use Rattle.std.specs.Prelude.{◌≡◌, ℕ, ℤ, zero, suc, ◌+◌, ◌-◌, ◌<◌, ◌≤◌, List, [], ◌∷◌, ◌++◌, length}
+use Rattle.std.specs.Prelude.{MatchOption, Option, Some, take, unsigned_abs}
 use Rattle.cedar_model.specs.Tree.{Forest, none, child, Tree}
 use Rattle.cedar_model.specs.Queries.{Entry, node_at}
-use Rattle.cedar_model.specs.Walks.{behind, Visit, visited_entries, forwards, visits_after, visits_left}
+use Rattle.cedar_model.specs.Walks.{behind, Visit, visited_entries, forwards}
+use Rattle.cedar_model.specs.Walks.{visits_after, visits_left}
 use Rattle.cedar_walk.specs.declared.visits.Numbered.{Numbered}
 use Rattle.cedar_walk.specs.declared.visits.Place.{Place}
 use Rattle.cedar_walk.specs.declared.visits.Visited.{Visited}

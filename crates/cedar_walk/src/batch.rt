@@ -1,7 +1,8 @@
 //! Look-ups of many keys in step, so that their waits for memory overlap.
 
 ghost use Rattle.std.specs.Prelude.{◌++◌, ◌+◌, ◌≡◌, ◌≤◌, drop, length, map, Some, take};
-ghost use Rattle.cedar_walk.specs.Words.{AreLanes, exact, fields, IsLane, IsWellFormed, keys_of, tree_of};
+ghost use Rattle.cedar_walk.specs.Words.{AreLanes, exact, fields, IsLane, IsWellFormed};
+ghost use Rattle.cedar_walk.specs.Words.{keys_of, tree_of};
 
 use cedar_model::Layout;
 use cedar_slots::Ticks;

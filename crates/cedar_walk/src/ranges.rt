@@ -1,7 +1,10 @@
 //! Walks over a range of keys: the first entry at or after a key, and the path of a node that a walk has reached.
 
-ghost use Rattle.std.specs.Prelude.{◌++◌, ◌-◌, ◌<◌, ◌∷◌, ◌≡◌, ◌≤◌, ◌⊎◌, [], length, List, take, true, ℕ};
-ghost use Rattle.cedar_walk.specs.Words.{AboveFrom, BeginsAtFirst, below, cells, ComesToFirst, entries_since, fields, IsAt, IsBelow, IsReached, IsWellFormed, left_above, node_at, path_to, tree_of};
+ghost use Rattle.std.specs.Prelude.{◌++◌, ◌-◌, ◌<◌, ◌∷◌, ◌≡◌, ◌≤◌, ◌⊎◌, [], length};
+ghost use Rattle.std.specs.Prelude.{List, take, true, ℕ};
+ghost use Rattle.cedar_walk.specs.Words.{AboveFrom, BeginsAtFirst, below, cells, ComesToFirst};
+ghost use Rattle.cedar_walk.specs.Words.{entries_since, fields, IsAt, IsBelow, IsReached};
+ghost use Rattle.cedar_walk.specs.Words.{IsWellFormed, left_above, node_at, path_to, tree_of};
 
 use crate::visits::{
     Numbered, Place, child_under, first_child, first_numbered, next_after, numbered_from, parent,

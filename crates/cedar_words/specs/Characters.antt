@@ -1,5 +1,6 @@
 -- Texts and keys that are UTF-8, and which tokens are whole characters.
-use Rattle.std.specs.Prelude.{◌≡◌, ◌↔◌, ℕ, ◌+◌, ◌<◌, ℤ, List, MatchOption, Some, slice_index, IsUtf8, IsCharBoundary}
+use Rattle.std.specs.Prelude.{◌≡◌, ◌↔◌, ℕ, ◌+◌, ◌<◌, ℤ, List, MatchOption, Some}
+use Rattle.std.specs.Prelude.{slice_index, IsUtf8, IsCharBoundary}
 use Rattle.cedarwood.specs.Tree.{Tree, number_at}
 use Rattle.cedar_words.specs.Tokens.{Token}
 

@@ -1,5 +1,7 @@
 -- Cuts of a text into keys and single bytes, and what they cost.
-use Rattle.std.specs.Prelude.{◌≡◌, ℕ, ◌+◌, ◌-◌, ◌^◌, ◌<◌, ◌≤◌, ◌⊎◌, min, nat_le, if◌then◌else◌, ℤ, unsigned_abs, List, [], ◌∷◌, length, drop, take, slice_index_or, Option, Some, None, MatchOption}
+use Rattle.std.specs.Prelude.{◌≡◌, ℕ, ◌+◌, ◌-◌, ◌^◌, ◌<◌, ◌≤◌, ◌⊎◌, min, nat_le, if◌then◌else◌, ℤ}
+use Rattle.std.specs.Prelude.{unsigned_abs, List, [], ◌∷◌, length, drop, take, slice_index_or}
+use Rattle.std.specs.Prelude.{Option, Some, None, MatchOption}
 use Rattle.cedarwood.specs.Tree.{Tree, number_at}
 use Rattle.cedar_words.specs.Tokens.{Token}
 

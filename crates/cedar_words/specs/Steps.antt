@@ -1,5 +1,7 @@
 -- How a cut of least cost is found: what the last bytes of a text cost, none of them, one, and so on, each by what fewer cost.
-use Rattle.std.specs.Prelude.{◌≡◌, ℕ, zero, suc, ◌+◌, ◌-◌, ◌^◌, ◌<◌, ◌⊎◌, min, nat_le, if◌then◌else◌, ℤ, pos, unsigned_abs, List, [], ◌∷◌, length, drop, take, slice_index_or, Option, Some, None, MatchOption}
+use Rattle.std.specs.Prelude.{◌≡◌, ℕ, zero, suc, ◌+◌, ◌-◌, ◌^◌, ◌<◌, ◌⊎◌, min, nat_le}
+use Rattle.std.specs.Prelude.{if◌then◌else◌, ℤ, pos, unsigned_abs, List, [], ◌∷◌, length, drop}
+use Rattle.std.specs.Prelude.{take, slice_index_or, Option, Some, None, MatchOption}
 use Rattle.cedarwood.specs.Tree.{Tree}
 use Rattle.cedarwood.specs.Queries.{front}
 use Rattle.cedar_words.specs.Tokens.{Token}

@@ -1,5 +1,6 @@
 -- A text that is cut into tokens: from each position the longest key that a tree holds there, or else one byte.
-use Rattle.std.specs.Prelude.{◌≡◌, ℕ, zero, suc, ◌+◌, ◌-◌, ◌<◌, ◌≤◌, ℤ, List, [], ◌∷◌, length, drop, take, sum, map, Option, Some, None, option_map}
+use Rattle.std.specs.Prelude.{◌≡◌, ℕ, zero, suc, ◌+◌, ◌-◌, ◌<◌, ◌≤◌, ℤ, List, [], ◌∷◌, length, drop}
+use Rattle.std.specs.Prelude.{take, sum, map, Option, Some, None, option_map}
 use Rattle.std.specs.List.{last_or}
 use Rattle.cedarwood.specs.Tree.{Tree, number_at}
 use Rattle.cedarwood.specs.Queries.{front}

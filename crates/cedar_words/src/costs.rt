@@ -1,7 +1,12 @@
 //! The cut of least cost: a key costs its value, and each byte without a value costs the same.
 
-ghost use Rattle.std.specs.Prelude.{◌+◌, ◌-◌, ◌<◌, ◌^◌, ◌∷◌, ◌≡◌, ◌≤◌, [], IfOk, length, List, MatchOption, ℕ, ℤ};
-ghost use Rattle.cedar_words.specs.Words.{AreCosts, AreMarks, AreWithin, best_cut, best_of, better_of, character_price, front, IsAheadCapped, IsCheapest, IsCheapestBy, IsCut, IsFoundBy, IsLeastCapped, IsMark, key_step, step_at, step_over, Tree};
+ghost use Rattle.std.specs.Prelude.{◌+◌, ◌-◌, ◌<◌, ◌^◌, ◌∷◌, ◌≡◌, ◌≤◌, [], IfOk, length};
+ghost use Rattle.std.specs.Prelude.{List, MatchOption, ℕ, ℤ};
+ghost use Rattle.cedar_words.specs.Words.{AreCosts, AreMarks, AreWithin, best_cut, best_of};
+ghost use Rattle.cedar_words.specs.Words.{better_of, character_price, front, IsAheadCapped};
+ghost use Rattle.cedar_words.specs.Words.{IsCheapest, IsCheapestBy, IsCut, IsFoundBy};
+ghost use Rattle.cedar_words.specs.Words.{IsLeastCapped, IsMark, key_step, step_at, step_over};
+ghost use Rattle.cedar_words.specs.Words.{Tree};
 
 use cedarwood::{Layout, PrefixIter, Trie, Walked};
 use std::alloc::{AllocError, Allocator};

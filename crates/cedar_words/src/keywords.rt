@@ -1,7 +1,8 @@
 //! The keywords of a text, which don't overlap.
 
 ghost use Rattle.std.specs.Prelude.{◌≡◌, drop, List, ⊤};
-ghost use Rattle.cedar_words.specs.Words.{item_count, keywords_from, keywords_in, keywords_of, Spot, YieldsFirst};
+ghost use Rattle.cedar_words.specs.Words.{item_count, keywords_from, keywords_in};
+ghost use Rattle.cedar_words.specs.Words.{keywords_of, Spot, YieldsFirst};
 
 use crate::longest::LongestPrefix;
 use crate::segments::{Segments, segment, segment_from};

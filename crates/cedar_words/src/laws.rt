@@ -1,7 +1,14 @@
 //! Laws of the tokens of a text.
 
-ghost use Rattle.std.specs.Prelude.{◌+◌, ◌↔◌, ◌<◌, ◌^◌, ◌≡◌, ◌≤◌, [], All, Bool, Contains, drop, IsUtf8, length, List, ℕ, ℤ};
-ghost use Rattle.cedar_words.specs.Words.{all_stored, AreAdjacent, AreWholeCharacters, bytes_in, cost_by, cut, empty_tree, Entry, HasOneCheapest, HasUtf8Keys, IsAheadCapped, IsCheapestBy, IsCut, IsKeyIn, IsLeastCapped, IsLeftmost, IsLongest, IsSoundBelow, keywords_from, keywords_in, PartsNoCharacter, put, segments, Spot, spots_from, State, Token, tokens_behind, TokensGoOn, Tree};
+ghost use Rattle.std.specs.Prelude.{◌+◌, ◌↔◌, ◌<◌, ◌^◌, ◌≡◌, ◌≤◌, [], All, Bool, Contains};
+ghost use Rattle.std.specs.Prelude.{drop, IsUtf8, length, List, ℕ, ℤ};
+ghost use Rattle.cedar_words.specs.Words.{all_stored, AreAdjacent, AreWholeCharacters, bytes_in};
+ghost use Rattle.cedar_words.specs.Words.{cost_by, cut, empty_tree, Entry, HasOneCheapest};
+ghost use Rattle.cedar_words.specs.Words.{HasUtf8Keys, IsAheadCapped, IsCheapestBy, IsCut, IsKeyIn};
+ghost use Rattle.cedar_words.specs.Words.{IsLeastCapped, IsLeftmost, IsLongest, IsSoundBelow};
+ghost use Rattle.cedar_words.specs.Words.{keywords_from, keywords_in, PartsNoCharacter, put};
+ghost use Rattle.cedar_words.specs.Words.{segments, Spot, spots_from, State, Token, tokens_behind};
+ghost use Rattle.cedar_words.specs.Words.{TokensGoOn, Tree};
 
 /// The tokens of a text cover it in order: each begins where the one before it ended, has one byte or more, and together they have
 /// the bytes of the text.

@@ -1,7 +1,10 @@
 //! The tokens of a text, one after another.
 
-ghost use Rattle.std.specs.Prelude.{◌+◌, ◌<◌, ◌^◌, ◌≡◌, ◌≤◌, drop, IfSome, length, List, min, Some, ⊤};
-ghost use Rattle.cedar_words.specs.Words.{bytes_in, found_number, IsWithinCount, item_count, len_of, longest, segments, Token, tokens_behind, UpTo, YieldsFirst};
+ghost use Rattle.std.specs.Prelude.{◌+◌, ◌<◌, ◌^◌, ◌≡◌, ◌≤◌, drop, IfSome, length};
+ghost use Rattle.std.specs.Prelude.{List, min, Some, ⊤};
+ghost use Rattle.cedar_words.specs.Words.{bytes_in, found_number, IsWithinCount, item_count};
+ghost use Rattle.cedar_words.specs.Words.{len_of, longest, segments, Token, tokens_behind};
+ghost use Rattle.cedar_words.specs.Words.{UpTo, YieldsFirst};
 
 use crate::longest::LongestPrefix;
 use cedarwood::{Layout, Trie};

@@ -1,7 +1,8 @@
 //! All keys in a text.
 
 ghost use Rattle.std.specs.Prelude.{◌-◌, ◌≡◌, ◌≤◌, drop, length, List, ⊤};
-ghost use Rattle.cedar_words.specs.Words.{AreWithin, front, item_count, Spot, spots_at, spots_from, spots_left, Tree, YieldsFirst};
+ghost use Rattle.cedar_words.specs.Words.{AreWithin, front, item_count, Spot, spots_at, spots_from};
+ghost use Rattle.cedar_words.specs.Words.{spots_left, Tree, YieldsFirst};
 
 use crate::costs::NextFront;
 use cedarwood::{Layout, PrefixIter, Trie, Walked};

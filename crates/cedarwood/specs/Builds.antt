@@ -1,5 +1,6 @@
 -- What keeps pairs from being stored, and what a build of them returns and leaves.
-use Rattle.std.specs.Prelude.{◌≡◌, ◌<◌, ◌⊎◌, ℕ, zero, suc, List, [], ◌∷◌, fold, length, take, Option, None, Result, Ok, Err}
+use Rattle.std.specs.Prelude.{◌≡◌, ◌<◌, ◌⊎◌, ℕ, zero, suc, List, [], ◌∷◌, fold, length}
+use Rattle.std.specs.Prelude.{take, Option, None, Result, Ok, Err}
 use Rattle.cedar_tree.specs.Queries.{Entry}
 use Rattle.cedar_tree.specs.State.{after_put, State}
 use Rattle.cedar_tree.specs.Tree.{number_at}

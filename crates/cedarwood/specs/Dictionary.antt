@@ -1,11 +1,13 @@
 -- What a caller sees of a dictionary.
-use Rattle.std.specs.Prelude.{◌≡◌, ℕ, zero, suc, ◌+◌, ◌*◌, ◌^◌, ◌<◌, ◌≤◌, ◌==◌, Bool, true, cond, List, [], ◌∷◌, length, ℤ, None, is_some}
+use Rattle.std.specs.Prelude.{◌≡◌, ℕ, zero, suc, ◌+◌, ◌*◌, ◌^◌, ◌<◌, ◌≤◌, ◌==◌, Bool, true, cond}
+use Rattle.std.specs.Prelude.{List, [], ◌∷◌, length, ℤ, None, is_some}
 use Rattle.std.specs.Coded.{Coded, code_by, coded×, coded_ℕ, coded_ℤ}
 use Rattle.std.proofs.Common.{refl}
 use Rattle.cedar_tree.specs.Queries.{prefixes, walk}
 use Rattle.cedar_tree.specs.State.{State, state_code}
 use Rattle.cedar_tree.specs.Stored.{coded_tree}
-use Rattle.cedar_tree.specs.Tree.{AllNumbers, Forest, none, child, IsAscending, IsSound, number_at, Tree}
+use Rattle.cedar_tree.specs.Tree.{AllNumbers, Forest, none, child, IsAscending}
+use Rattle.cedar_tree.specs.Tree.{IsSound, number_at, Tree}
 use Rattle.cedar_model.specs.Meaning.StandsFor.{labels}
 use Rattle.cedar_model.specs.Table.TableFields.{Fields}
 use Rattle.cedarwood.specs.TableCode.{fields_code}

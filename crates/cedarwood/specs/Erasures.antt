@@ -1,5 +1,6 @@
 -- What an erasure of all keys that begin with a prefix returns, and what it leaves.
-use Rattle.std.specs.Prelude.{◌≡◌, ◌↔◌, ℕ, nat_eq, not, false, if◌then◌else◌, List, [], filter, fold, length, None}
+use Rattle.std.specs.Prelude.{◌≡◌, ◌↔◌, ℕ, nat_eq, not, false, if◌then◌else◌, List}
+use Rattle.std.specs.Prelude.{[], filter, fold, length, None}
 use Rattle.std.specs.List.{starts_with}
 use Rattle.cedar_tree.specs.Tree.{Tree, empty_tree, number_at}
 use Rattle.cedar_tree.specs.Queries.{Entry, walk}

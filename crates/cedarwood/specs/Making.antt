@@ -1,5 +1,6 @@
 -- How a dictionary is made, and what is returned where it isn't.
-use Rattle.std.specs.Prelude.{◌≡◌, ◌⊎◌, ℕ, ◌+◌, ◌*◌, ◌≤◌, List, [], length, None, true, pos, IfErr, IfOk, IfSome, MatchResult, Result, Err}
+use Rattle.std.specs.Prelude.{◌≡◌, ◌⊎◌, ℕ, ◌+◌, ◌*◌, ◌≤◌, List, [], length, None, true, pos}
+use Rattle.std.specs.Prelude.{IfErr, IfOk, IfSome, MatchResult, Result, Err}
 use Rattle.std.specs.Int.Signed.{≤ℤ_refl}
 use Rattle.cedar_tree.specs.Tree.{empty_tree}
 use Rattle.cedar_tree.specs.Queries.{Entry, asc, prefixes}

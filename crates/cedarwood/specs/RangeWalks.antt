@@ -1,5 +1,6 @@
 -- How far walks over the entries of a range are in a table.
-use Rattle.std.specs.Prelude.{◌≡◌, Bool, false, true, ℕ, List, [], ◌∷◌, ◌++◌, filter, map, MatchOption, None, Option, Some}
+use Rattle.std.specs.Prelude.{◌≡◌, Bool, false, true, ℕ, List, [], ◌∷◌, ◌++◌, filter, map}
+use Rattle.std.specs.Prelude.{MatchOption, None, Option, Some}
 use Rattle.std.specs.Cmp.Lexicographic.{slice_cmp}
 use Rattle.std.specs.Ordering.{is_ge, is_lt, nat_cmp}
 use Rattle.cedar_tree.specs.Tree.{Tree}

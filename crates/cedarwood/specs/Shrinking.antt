@@ -1,5 +1,7 @@
 -- A dictionary built anew of another one's entries, in as little room as these take.
-use Rattle.std.specs.Prelude.{◌≡◌, ◌≤◌, ◌<◌, ◌⊎◌, ◌+◌, ◌-◌, ◌*◌, ◌/◌, ℕ, ℤ, Bool, List, [], ◌∷◌, length, map, Option, Some, None, IfErr, IfSome, MatchResult, OnErr, OnOk, Result, Ok, Err}
+use Rattle.std.specs.Prelude.{◌≡◌, ◌≤◌, ◌<◌, ◌⊎◌, ◌+◌, ◌-◌, ◌*◌, ◌/◌, ℕ, ℤ, Bool, List, [], ◌∷◌}
+use Rattle.std.specs.Prelude.{length, map, Option, Some, None, IfErr, IfSome, MatchResult}
+use Rattle.std.specs.Prelude.{OnErr, OnOk, Result, Ok, Err}
 use Rattle.std.specs.List.{AllByRecursion}
 use Rattle.cedar_tree.specs.Tree.{Tree, empty_tree, put}
 use Rattle.cedar_tree.specs.Queries.{Entry, prefixes, walk}

@@ -1,5 +1,6 @@
 -- What an update returns, and what it leaves.
-use Rattle.std.specs.Prelude.{◌≡◌, ◌⊎◌, ℕ, ℤ, ◌+◌, ◌-◌, ◌*◌, ◌<◌, ◌≤◌, false, List, [], ◌∷◌, length, None, IfSome, IsSome, IsOk, IfErr, OnOk, OnErr, Result, Err}
+use Rattle.std.specs.Prelude.{◌≡◌, ◌⊎◌, ℕ, ℤ, ◌+◌, ◌-◌, ◌*◌, ◌<◌, ◌≤◌, false, List, [], ◌∷◌, length}
+use Rattle.std.specs.Prelude.{None, IfSome, IsSome, IsOk, IfErr, OnOk, OnErr, Result, Err}
 use Rattle.cedar_tree.specs.Tree.{has_label, number_at}
 use Rattle.cedar_tree.specs.Queries.{slots_of_tree}
 use Rattle.cedar_tree.specs.State.{after_put}

@@ -1,5 +1,6 @@
 -- How far walks that are under way are in a table.
-use Rattle.std.specs.Prelude.{◌≡◌, ◌==◌, cond, ℕ, ◌<◌, ◌≤◌, ℤ, List, [], ◌∷◌, length, map, MatchOption, Option, Some}
+use Rattle.std.specs.Prelude.{◌≡◌, ◌==◌, cond, ℕ, ◌<◌, ◌≤◌, ℤ, List, [], ◌∷◌, length}
+use Rattle.std.specs.Prelude.{map, MatchOption, Option, Some}
 use Rattle.cedar_tree.specs.Queries.{Entry, predict}
 use Rattle.cedar_tree.specs.Walks.{visited_entries}
 use Rattle.cedar_walk.specs.declared.pending.PendingSibling.{PendingSibling}

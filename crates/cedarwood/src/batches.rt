@@ -1,7 +1,8 @@
 //! Many keys changed in one call.
 
 ghost use Rattle.std.specs.Prelude.{◌++◌, ◌≡◌, drop, IfErr, length, OnOk, take};
-ghost use Rattle.cedarwood.specs.Words.{all_stored, entries_of, held_in_turn, IsErasures, IsUpdates, keys_erased, keys_of};
+ghost use Rattle.cedarwood.specs.Words.{all_stored, entries_of, held_in_turn, IsErasures};
+ghost use Rattle.cedarwood.specs.Words.{IsUpdates, keys_erased, keys_of};
 
 use crate::{CedarError, Layout, Trie};
 use std::alloc::Allocator;

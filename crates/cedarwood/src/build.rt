@@ -1,7 +1,8 @@
 //! Many pairs stored at once.
 
 ghost use Rattle.std.specs.Prelude.{◌<◌, ◌≡◌, get_or, IfErr, IfSome, IsOk, IsSome, None, OnOk, ℕ};
-ghost use Rattle.cedarwood.specs.Words.{all_stored, AreBytes, entries_by, entries_of, fault, first_fault, IsBuild, IsRefusedBuild};
+ghost use Rattle.cedarwood.specs.Words.{all_stored, AreBytes, entries_by, entries_of, fault};
+ghost use Rattle.cedarwood.specs.Words.{first_fault, IsBuild, IsRefusedBuild};
 
 use crate::batches::LANES;
 use crate::pair::check_pair;

@@ -24,7 +24,9 @@ pub struct CedarBuilder {
 }
 
 impl CedarBuilder {
-    ghost use Rattle.cedarwood.specs.Words.{CedarFitsInMemory, default_layout, entries_of, IsNew, IsSortedBuild, most_slots, reduced_layout, ReducedFitsInMemory};
+    ghost use Rattle.cedarwood.specs.Words.{CedarFitsInMemory, default_layout, entries_of, IsNew};
+    ghost use Rattle.cedarwood.specs.Words.{IsSortedBuild, most_slots, reduced_layout};
+    ghost use Rattle.cedarwood.specs.Words.{ReducedFitsInMemory};
 
     /// Labels ascend, and one failed search closes a block.
     ///

@@ -1,7 +1,8 @@
 //! Calls whose steps are counted, called with counts of their own that nothing reads.
 
 ghost use Rattle.std.specs.Prelude.{◌++◌, ◌≡◌, drop, IfSome, length, map, None, take, ℕ};
-ghost use Rattle.cedarwood.specs.Words.{exact, Fields, IsBlankOf, IsLimit, IsSound, keys_of, LayoutKind, LoadsBy, TellsBreaks, Tree, value_fault};
+ghost use Rattle.cedarwood.specs.Words.{exact, Fields, IsBlankOf, IsLimit, IsSound, keys_of};
+ghost use Rattle.cedarwood.specs.Words.{LayoutKind, LoadsBy, TellsBreaks, Tree, value_fault};
 
 use crate::{CedarPersistenceError, Layout, Source, Ticks, Trie};
 use cedar_walk::exact_match_search_batch;

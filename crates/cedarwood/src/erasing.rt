@@ -1,7 +1,8 @@
 //! Erasures of all keys that begin with a prefix, and of a key that was found.
 
 ghost use Rattle.std.specs.Prelude.{◌≡◌, false, MatchOption, None, true};
-ghost use Rattle.cedarwood.specs.Words.{dictionary_of, fields, IsCleared, IsErasedUnder, IsErasure, IsFound, IsWellFormed, number_at};
+ghost use Rattle.cedarwood.specs.Words.{dictionary_of, fields, IsCleared, IsErasedUnder, IsErasure};
+ghost use Rattle.cedarwood.specs.Words.{IsFound, IsWellFormed, number_at};
 
 use crate::{Layout, Trie};
 use cedar_edit::erase_at;

@@ -1,6 +1,9 @@
 //! A dictionary in as little room as its entries take.
 
-ghost use Rattle.cedarwood.specs.Words.{[], ArePlaces, entry_of, IfOk, IsEntryPlace, IsMadeOf, IsPutBack, IsRebuilt, IsShrunk, IsSlotLimit, IsWellFormed, LacksPlaces, map, MatchResult, PutsBack, PutsEntry, tree_of, walk};
+ghost use Rattle.cedarwood.specs.Words.{[], ArePlaces, entry_of, IfOk, IsEntryPlace, IsMadeOf};
+ghost use Rattle.cedarwood.specs.Words.{IsPutBack, IsRebuilt, IsShrunk, IsSlotLimit, IsWellFormed};
+ghost use Rattle.cedarwood.specs.Words.{LacksPlaces, map, MatchResult, PutsBack, PutsEntry};
+ghost use Rattle.cedarwood.specs.Words.{tree_of, walk};
 
 use crate::builder::CedarBuilder;
 use crate::queries::ranged::write_key;

@@ -1,7 +1,11 @@
 //! The test of a sorted input, and a dictionary made of one.
 
-ghost use Rattle.std.specs.Prelude.{◌<◌, ◌≡◌, ◌≢◌, ◌≤◌, [], get_or, IfSome, IsOk, IsTrue, length, None, OnOk, ℕ};
-ghost use Rattle.cedarwood.specs.Words.{AreBytes, entries_by, fault_behind, fault_from, fault_of_order, HasNoNul, IsInRange, IsLimit, IsSharedFront, IsSortedBuild, key_at, Less, nat_cmp, slice_cmp};
+ghost use Rattle.std.specs.Prelude.{◌<◌, ◌≡◌, ◌≢◌, ◌≤◌, [], get_or, IfSome, IsOk};
+ghost use Rattle.std.specs.Prelude.{IsTrue, length, None, OnOk, ℕ};
+ghost use Rattle.cedarwood.specs.Words.{AreBytes, entries_by, fault_behind, fault_from};
+ghost use Rattle.cedarwood.specs.Words.{fault_of_order, HasNoNul, IsInRange, IsLimit};
+ghost use Rattle.cedarwood.specs.Words.{IsSharedFront, IsSortedBuild, key_at, Less, nat_cmp};
+ghost use Rattle.cedarwood.specs.Words.{slice_cmp};
 
 use crate::builder::CedarBuilder;
 use crate::pair::check_pair;

@@ -1,7 +1,13 @@
 //! The dictionary and its calls.
 
-ghost use Rattle.std.specs.Prelude.{◌+◌, ◌-◌, ◌/◌, ◌↔◌, ◌≡◌, ◌≤◌, [], IfOk, IfSome, IsSome, IsTrue, length, None, pos, true};
-ghost use Rattle.cedarwood.specs.Words.{after_erase, CedarFitsInMemory, default_layout, default_settings, entries_of, exact, IsLimit, IsMarked, IsNew, IsOnTable, IsRenewed, IsSortedBuild, IsSound, IsUpdate, IsValid, marks, MarksCut, most_slots, number_at, prefixes, reduced_layout, ReducedFitsInMemory, slots_of_tree, value_fault, walk};
+ghost use Rattle.std.specs.Prelude.{◌+◌, ◌-◌, ◌/◌, ◌↔◌, ◌≡◌, ◌≤◌, [], IfOk, IfSome, IsSome};
+ghost use Rattle.std.specs.Prelude.{IsTrue, length, None, pos, true};
+ghost use Rattle.cedarwood.specs.Words.{after_erase, CedarFitsInMemory, default_layout};
+ghost use Rattle.cedarwood.specs.Words.{default_settings, entries_of, exact, IsLimit, IsMarked};
+ghost use Rattle.cedarwood.specs.Words.{IsNew, IsOnTable, IsRenewed, IsSortedBuild, IsSound};
+ghost use Rattle.cedarwood.specs.Words.{IsUpdate, IsValid, marks, MarksCut, most_slots, number_at};
+ghost use Rattle.cedarwood.specs.Words.{prefixes, reduced_layout, ReducedFitsInMemory};
+ghost use Rattle.cedarwood.specs.Words.{slots_of_tree, value_fault, walk};
 
 use crate::builder::CedarBuilder;
 use crate::counted::search_uncounted;
@@ -31,7 +37,8 @@ pub type ReducedCedar<A> = Trie<ReducedLayout, MOST_SLOTS, A>;
 
 impl<L: Layout, const SLOTS: usize, A: Allocator> Model for Trie<L, SLOTS, A> {
     // `Words` names the struct.
-    ghost use Rattle.cedar_table.specs.Words.{capacity_of, fields, IsWellFormed, marks, size_of, tree_of};
+    ghost use Rattle.cedar_table.specs.Words.{capacity_of, fields, IsWellFormed, marks};
+    ghost use Rattle.cedar_table.specs.Words.{size_of, tree_of};
     ghost use Rattle.cedarwood.specs.Dictionary.{Dictionary, dictionary_code};
 
     ghost Value = { Dictionary };

@@ -1,6 +1,8 @@
 //! The plain tree.
 ghost use Rattle.std.specs.Prelude.{◌≡◌, IfOk, is_some, IsOk, IsSome, length, OnErr, OnOk};
-ghost use Rattle.plain_tree.specs.Words.{coded_tree, cut, empty_tree, exact, front, number_at, paths_of, predict, prefixes, put, slots_of_tree, Tree, vector_entries, walk};
+ghost use Rattle.plain_tree.specs.Words.{coded_tree, cut, empty_tree, exact, front, number_at};
+ghost use Rattle.plain_tree.specs.Words.{paths_of, predict, prefixes, put, slots_of_tree, Tree};
+ghost use Rattle.plain_tree.specs.Words.{vector_entries, walk};
 
 use crate::node;
 use crate::node::Node;

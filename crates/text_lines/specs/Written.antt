@@ -1,5 +1,6 @@
 -- What is said of a watched writer that bytes are written to, by what its own trait reports of the device inside.
-use Rattle.std.specs.Prelude.{◌≡◌, ℕ, ◌<◌, ◌++◌, Bool, true, List, length, Option, Result, Err, OnOk, OnErr}
+use Rattle.std.specs.Prelude.{◌≡◌, ℕ, ◌<◌, ◌++◌, Bool, true, List, length, Option}
+use Rattle.std.specs.Prelude.{Result, Err, OnOk, OnErr}
 use Rattle.std.specs.Io.KnownBytes.{Appends}
 use Rattle.cedar_format.specs.WatchedDevice.{device_of, has_failed}
 use Rattle.cedar_format.specs.declared.watched.Watched.{Watched}

@@ -1,7 +1,8 @@
 //! A glossary, whose terms are found in texts.
 
 ghost use Rattle.std.specs.Prelude.{◌≡◌, IfOk, map, OnErr, OnOk};
-ghost use Rattle.uses.specs.Words.{after_put, empty_tree, HasUtf8Keys, keywords_in, State, state_code, term_of};
+ghost use Rattle.uses.specs.Words.{after_put, empty_tree, HasUtf8Keys, keywords_in};
+ghost use Rattle.uses.specs.Words.{State, state_code, term_of};
 
 use cedar_words::leftmost_longest;
 use cedarwood::{Cedar, CedarError};

@@ -1,7 +1,8 @@
 -- The word that a text represents.
 use Rattle.hex.specs.Hex.{decode_sized}
 use Rattle.hex.specs.declared.FromHexError.{FromHexError}
-use Rattle.std.specs.Prelude.{ℕ, zero, suc, ◌-◌, ◌==◌, ◌&&◌, if◌then◌else◌, List, [], ◌∷◌, get_or, Result, Ok, Err}
+use Rattle.std.specs.Prelude.{ℕ, zero, suc, ◌-◌, ◌==◌, ◌&&◌, if◌then◌else◌, List, []}
+use Rattle.std.specs.Prelude.{◌∷◌, get_or, Result, Ok, Err}
 
 -- the byte that two digits name behind `\x`, and how many bytes name it: four; or the backslash alone, where they are no digits
 abbrev pub named_of : Result (List ℕ) FromHexError → ℕ × ℕ

@@ -1,5 +1,7 @@
 -- What the lines of a word list store in a dictionary, and what is reported of them.
-use Rattle.std.specs.Prelude.{◌≡◌, ℕ, ◌+◌, ◌<◌, ◌^◌, Bool, true, false, ◌&&◌, ◌==◌, nat_le, int_le, if◌then◌else◌, ℤ, pos, negsuc, List, [], ◌∷◌, ◌++◌, length, Option, Some, None, IfSome, is_some, Result, Ok, Err}
+use Rattle.std.specs.Prelude.{◌≡◌, ℕ, ◌+◌, ◌<◌, ◌^◌, Bool, true, false, ◌&&◌, ◌==◌, nat_le, int_le}
+use Rattle.std.specs.Prelude.{if◌then◌else◌, ℤ, pos, negsuc, List, [], ◌∷◌, ◌++◌, length, Option}
+use Rattle.std.specs.Prelude.{Some, None, IfSome, is_some, Result, Ok, Err}
 use Rattle.std.specs.List.{before_first, after_first, list_all, position}
 use Rattle.std.specs.Str.Parse.{without_leading_sign, signed_digits_value}
 use Rattle.cedarwood.specs.State.{State, after_erase, after_put}
@@ -8,7 +10,8 @@ use Rattle.cedarwood.specs.Tree.{number_at}
 use Rattle.cedarwood.specs.Fault.{fault}
 use Rattle.cedarwood.specs.Builds.{all_stored}
 use Rattle.cedarwood.specs.declared.error.CedarError.{CedarError}
-use Rattle.cedarwood.specs.declared.error.CedarError.TheVariants.{EmptyKey, NulByte, InvalidValue, SlotLimit as OfSlots}
+use Rattle.cedarwood.specs.declared.error.CedarError.TheVariants.{EmptyKey, NulByte, InvalidValue}
+use Rattle.cedarwood.specs.declared.error.CedarError.TheVariants.{SlotLimit as OfSlots}
 use Rattle.text_lines.specs.Lines.{is_digit, is_filled, onto_first}
 use Rattle.word_lists.specs.Reading.{read_as}
 use Rattle.word_lists.specs.Texts.{body_of}

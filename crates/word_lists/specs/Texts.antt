@@ -1,8 +1,12 @@
 -- Texts by the words of a dictionary: the words that one begins with, the words that are in it, and its cuts.
-use Rattle.std.specs.Prelude.{ℕ, ℤ, ◌+◌, ◌-◌, ◌^◌, ◌<◌, ltb, nat_le, Bool, ◌==◌, ◌&&◌, ◌||◌, not, if◌then◌else◌, Option, Some, None, List, [], ◌∷◌, ◌++◌, map, length, take, drop, get_or, is_some, decimal, codes, int_le, pos, unsigned_abs}
+use Rattle.std.specs.Prelude.{ℕ, ℤ, ◌+◌, ◌-◌, ◌^◌, ◌<◌, ltb, nat_le, Bool, ◌==◌, ◌&&◌, ◌||◌}
+use Rattle.std.specs.Prelude.{not, if◌then◌else◌, Option, Some, None, List, [], ◌∷◌, ◌++◌, map}
+use Rattle.std.specs.Prelude.{length, take, drop, get_or, is_some, decimal, codes, int_le, pos}
+use Rattle.std.specs.Prelude.{unsigned_abs}
 use Rattle.cedarwood.specs.Queries.{Entry, front}
 use Rattle.cedarwood.specs.Tree.{Tree}
-use Rattle.cedar_words.specs.Words.{IsAheadCapped, IsCheapestBy, IsCut, IsLeastCapped, Spot, Token, character_price, keywords_in, segments, spots_from}
+use Rattle.cedar_words.specs.Words.{IsAheadCapped, IsCheapestBy, IsCut, IsLeastCapped, Spot, Token}
+use Rattle.cedar_words.specs.Words.{character_price, keywords_in, segments, spots_from}
 use Rattle.std.specs.Borrow.{Bor}
 use Rattle.word_lists.specs.declared.cut.Style.{Style}
 use Rattle.word_lists.specs.declared.cut.Style.TheVariants.{Parted, Marked, Replaced}

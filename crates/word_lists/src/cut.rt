@@ -1,7 +1,10 @@
 //! A text cut into tokens, with a sign between them.
 
 ghost use Rattle.std.specs.Prelude.{◌++◌, ◌∷◌, ◌≡◌, [], Err, List, MatchOption, OnOk};
-ghost use Rattle.word_lists.specs.Words.{body_of, BreaksOff, ending_of, greedy_line, has_failed, is_parted, LinesOrFails, OnCheapestLine, parted_token, parting, style_text, styled_text, Token, Writes, WritesBytes};
+ghost use Rattle.word_lists.specs.Words.{body_of, BreaksOff, ending_of, greedy_line, has_failed};
+ghost use Rattle.word_lists.specs.Words.{is_parted, LinesOrFails, OnCheapestLine, parted_token};
+ghost use Rattle.word_lists.specs.Words.{parting, style_text, styled_text, Token, Writes};
+ghost use Rattle.word_lists.specs.Words.{WritesBytes};
 
 use crate::marked::{write_marked_token, write_replaced_token};
 use crate::parts::{body, byte_at, ending, goes_on, part};

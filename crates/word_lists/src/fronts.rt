@@ -1,7 +1,8 @@
 //! The words that a text begins with.
 
 ghost use Rattle.std.specs.Prelude.{◌∷◌, ◌≡◌, [], IfOk, length, List, ltb, map, MatchOption, ℕ, ℤ};
-ghost use Rattle.word_lists.specs.Words.{entry_line, entry_lines, front_entry, fronts_of, WritesBytes};
+ghost use Rattle.word_lists.specs.Words.{entry_line, entry_lines, front_entry};
+ghost use Rattle.word_lists.specs.Words.{fronts_of, WritesBytes};
 
 use crate::parts::through;
 use crate::word::write_entry;

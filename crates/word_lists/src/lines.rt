@@ -1,7 +1,14 @@
 //! The lines of a word list, stored in a dictionary.
 
-ghost use Rattle.std.specs.Prelude.{◌<◌, ◌∷◌, ◌≡◌, ◌≤◌, [], Err, IfErr, IfOk, IfSome, is_some, length, List, ltb, None, OnErr, OnOk, Option, option_map};
-ghost use Rattle.word_lists.specs.Words.{absent_of, Adds, before_first, ErasesFirstLines, fault, figures_number, figures_of, is_tab, line_absent, line_erased, line_refusal, line_stored, line_told, lines_absent, lines_erased, lines_in, lines_stored, list_told, Memory, number_at, number_with, OnKnown, own_line_number, position, stored_by, StoresFirstLines, TakesNext, Told, told_by, told_one, want_of};
+ghost use Rattle.std.specs.Prelude.{◌<◌, ◌∷◌, ◌≡◌, ◌≤◌, [], Err, IfErr, IfOk, IfSome, is_some};
+ghost use Rattle.std.specs.Prelude.{length, List, ltb, None, OnErr, OnOk, Option, option_map};
+ghost use Rattle.word_lists.specs.Words.{absent_of, Adds, before_first, ErasesFirstLines, fault};
+ghost use Rattle.word_lists.specs.Words.{figures_number, figures_of, is_tab, line_absent};
+ghost use Rattle.word_lists.specs.Words.{line_erased, line_refusal, line_stored, line_told};
+ghost use Rattle.word_lists.specs.Words.{lines_absent, lines_erased, lines_in, lines_stored};
+ghost use Rattle.word_lists.specs.Words.{list_told, Memory, number_at, number_with, OnKnown};
+ghost use Rattle.word_lists.specs.Words.{own_line_number, position, stored_by, StoresFirstLines};
+ghost use Rattle.word_lists.specs.Words.{TakesNext, Told, told_by, told_one, want_of};
 
 use crate::parts::body;
 use crate::read::read_word;

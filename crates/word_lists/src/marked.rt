@@ -1,7 +1,9 @@
 //! A text with its keywords marked, or replaced.
 
 ghost use Rattle.std.specs.Prelude.{◌≡◌, IfOk, length, ltb};
-ghost use Rattle.word_lists.specs.Words.{body_of, keywords_in, line_at, mark_text, marked_line, marked_token, replaced_line, replaced_token, replacement, WritesBytes};
+ghost use Rattle.word_lists.specs.Words.{body_of, keywords_in, line_at, mark_text, marked_line};
+ghost use Rattle.word_lists.specs.Words.{marked_token, replaced_line, replaced_token};
+ghost use Rattle.word_lists.specs.Words.{replacement, WritesBytes};
 
 use crate::cut::{Style, write_line_tokens};
 use crate::parts::{body, part};

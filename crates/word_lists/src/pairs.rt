@@ -1,7 +1,11 @@
 //! Two dictionaries: the entries of one stored in another, and those that another one lacks.
 
-ghost use Rattle.std.specs.Prelude.{◌<◌, ◌∷◌, ◌≡◌, [], Err, IfErr, IfOk, length, ltb, MatchOption, OnErr, OnOk};
-ghost use Rattle.word_lists.specs.Words.{after_put, all_stored, BreaksOff, entries_missing, has_failed, holds_entry, IsWant, LinesOrFails, signed_line, signed_lines, StoresFirst, Writes, WritesBytes, WritesUpTo};
+ghost use Rattle.std.specs.Prelude.{◌<◌, ◌∷◌, ◌≡◌, [], Err, IfErr, IfOk, length, ltb};
+ghost use Rattle.std.specs.Prelude.{MatchOption, OnErr, OnOk};
+ghost use Rattle.word_lists.specs.Words.{after_put, all_stored, BreaksOff, entries_missing};
+ghost use Rattle.word_lists.specs.Words.{has_failed, holds_entry, IsWant, LinesOrFails};
+ghost use Rattle.word_lists.specs.Words.{signed_line, signed_lines, StoresFirst, Writes};
+ghost use Rattle.word_lists.specs.Words.{WritesBytes, WritesUpTo};
 
 use crate::lines::{StoreError, store_error};
 use crate::lists::next_entry;

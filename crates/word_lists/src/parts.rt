@@ -1,7 +1,9 @@
 //! Parts of a text, and its lines.
 
 ghost use Rattle.std.specs.Prelude.{◌+◌, ◌≡◌, ◌≤◌, ◌<◌, drop, get_or, IfOk, length, map, take};
-ghost use Rattle.word_lists.specs.Words.{body_of, characters, characters_begun, continues_character, drop_through, ending_of, ends_with, lines_in, take_through, text_part, without_last};
+ghost use Rattle.word_lists.specs.Words.{body_of, characters, characters_begun};
+ghost use Rattle.word_lists.specs.Words.{continues_character, drop_through, ending_of, ends_with};
+ghost use Rattle.word_lists.specs.Words.{lines_in, take_through, text_part, without_last};
 
 use memchr::memchr;
 use std::alloc::{AllocError, Allocator};

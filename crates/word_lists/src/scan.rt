@@ -1,7 +1,10 @@
 //! The words that occur in a text, a line each.
 
-ghost use Rattle.std.specs.Prelude.{◌++◌, ◌+◌, ◌∷◌, ◌≡◌, ◌≤◌, [], IfOk, length, List, ltb, MatchOption, take};
-ghost use Rattle.word_lists.specs.Words.{body_of, characters, entry_line, keyword_lines, keywords_in, match_lines, Spot, spot_line, spot_lines, spots_from, tab_field, word_text, WritesBytes};
+ghost use Rattle.std.specs.Prelude.{◌++◌, ◌+◌, ◌∷◌, ◌≡◌, ◌≤◌, [], IfOk, length, List};
+ghost use Rattle.std.specs.Prelude.{ltb, MatchOption, take};
+ghost use Rattle.word_lists.specs.Words.{body_of, characters, entry_line, keyword_lines};
+ghost use Rattle.word_lists.specs.Words.{keywords_in, match_lines, Spot, spot_line, spot_lines};
+ghost use Rattle.word_lists.specs.Words.{spots_from, tab_field, word_text, WritesBytes};
 
 use crate::parts::{body, characters_before, part};
 use crate::word::{ROOM, finds_room, put_entry, put_field, write_entry};

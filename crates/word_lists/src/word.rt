@@ -4,7 +4,8 @@
 //! before the bytes from a position on, and its own position is returned.
 
 ghost use Rattle.std.specs.Prelude.{◌≡◌, ◌≤◌, ◌++◌, ◌+◌, ◌∷◌, ◌<◌, decimal, drop, IsTrue, length};
-ghost use Rattle.word_lists.specs.Words.{byte_text, entry_line, escape, is_plain, is_utf8, signed_decimal, tab_field, word_text, WritesBytes};
+ghost use Rattle.word_lists.specs.Words.{byte_text, entry_line, escape, is_plain, is_utf8};
+ghost use Rattle.word_lists.specs.Words.{signed_decimal, tab_field, word_text, WritesBytes};
 
 use crate::write::{ListError, write_line, write_whole};
 use cedar_hex::encode_into;

@@ -1,7 +1,11 @@
 //! Numbers in the base fields of their own nodes: in a layout that keeps them there, the number of each node that owns no slot.
 
 ghost use Rattle.std.specs.Prelude.{◌<◌, ◌↔◌, ◌≡◌, ◌≢◌, is_some, IsTrue, List, None, OnOk, pos, ℕ};
-ghost use Rattle.cedar_edit.specs.Words.{AtBase, base_of, below, cells, EditsNode, fields, FieldSet, Forest, HasNode, IsAt, IsTable, KeepsOtherMarks, MakesIfFull, MayMakeBlock, node_at, OwnNumber, OwnsNothing, reduced_layout, root_of, SameFrame, size_of, TableHolds};
+ghost use Rattle.cedar_edit.specs.Words.{AtBase, base_of, below, cells, EditsNode, fields};
+ghost use Rattle.cedar_edit.specs.Words.{FieldSet, Forest, HasNode, IsAt, IsTable, KeepsOtherMarks};
+ghost use Rattle.cedar_edit.specs.Words.{MakesIfFull, MayMakeBlock, node_at, OwnNumber};
+ghost use Rattle.cedar_edit.specs.Words.{OwnsNothing, reduced_layout, root_of, SameFrame, size_of};
+ghost use Rattle.cedar_edit.specs.Words.{TableHolds};
 
 use crate::edit::number::set_number;
 use cedar_model::{Layout, Stored};

@@ -1,7 +1,11 @@
 //! A key erased, and nodes that are left with neither number nor child.
 
 ghost use Rattle.std.specs.Prelude.{◌<◌, ◌↔◌, ◌≡◌, is_some, IsTrue, List, None, true, ℕ};
-ghost use Rattle.cedar_edit.specs.Words.{capacity_of, cells, cut, edit_at, fields, Forest, HasNode, is_bare, IsAt, IsTable, IsWellFormed, KeepsMarks, KeepsOtherMarks, LosesLeaf, marks, MarksCut, node_at, number_at, root_of, SameFrame, SameModes, size_of, TableHolds, TellsBare, tree_after_trim, tree_of};
+ghost use Rattle.cedar_edit.specs.Words.{capacity_of, cells, cut, edit_at, fields, Forest, HasNode};
+ghost use Rattle.cedar_edit.specs.Words.{is_bare, IsAt, IsTable, IsWellFormed, KeepsMarks};
+ghost use Rattle.cedar_edit.specs.Words.{KeepsOtherMarks, LosesLeaf, marks, MarksCut, node_at};
+ghost use Rattle.cedar_edit.specs.Words.{number_at, root_of, SameFrame, SameModes, size_of};
+ghost use Rattle.cedar_edit.specs.Words.{TableHolds, TellsBare, tree_after_trim, tree_of};
 
 use crate::edit::leaf::remove_label;
 use crate::edit::number::drop_number;

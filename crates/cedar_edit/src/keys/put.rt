@@ -1,7 +1,11 @@
 //! A key's number put.
 
-ghost use Rattle.std.specs.Prelude.{◌+◌, ◌*◌, ◌<◌, ◌==◌, ◌≡◌, ◌≢◌, ◌≤◌, [], cond, drop, get_or, IfErr, IfOk, length, OnErr, OnOk, pos, take, true};
-ghost use Rattle.cedar_edit.specs.Words.{AtBase, below, cells, fields, HasWay, is_value, IsKey, IsWellFormed, joins, KeepsMarks, marks, NewMark, PutsInMarks, PutsKey, PutsMarks, size_of, StaysSmall, TakenBack, TakesNewNode, tree_of, Walked, WalksIn};
+ghost use Rattle.std.specs.Prelude.{◌+◌, ◌*◌, ◌<◌, ◌==◌, ◌≡◌, ◌≢◌, ◌≤◌, [], cond, drop, get_or};
+ghost use Rattle.std.specs.Prelude.{IfErr, IfOk, length, OnErr, OnOk, pos, take, true};
+ghost use Rattle.cedar_edit.specs.Words.{AtBase, below, cells, fields, HasWay, is_value, IsKey};
+ghost use Rattle.cedar_edit.specs.Words.{IsWellFormed, joins, KeepsMarks, marks, NewMark};
+ghost use Rattle.cedar_edit.specs.Words.{PutsInMarks, PutsKey, PutsMarks, size_of, StaysSmall};
+ghost use Rattle.cedar_edit.specs.Words.{TakenBack, TakesNewNode, tree_of, Walked, WalksIn};
 
 use crate::keys::erase::trim;
 use crate::keys::step::{extend_leaf, follow_or_add, put_number};

@@ -1,7 +1,11 @@
 //! One step of an update: to the child under a label, which is added if there is none, or to the number.
 
 ghost use Rattle.std.specs.Prelude.{◌<◌, ◌≡◌, ◌≢◌, ◌⊎◌, IfOk, IsTrue, OnOk, pos, Some, true, ℕ, ℤ};
-ghost use Rattle.cedar_edit.specs.Words.{AtBase, base_of, below, cells, EditsNode, fields, Forest, HasNode, Held, is_value, IsTable, LacksNumberSlot, MayMakeBlock, OwnNumber, OwnsNothing, Placed, PutsInBase, PutsInSlot, PutsMark, size_of, StepsTo, TableHolds, TakesFreeSlot, TakesNoBlock, TakesSingle, WantsSlot};
+ghost use Rattle.cedar_edit.specs.Words.{AtBase, base_of, below, cells, EditsNode, fields, Forest};
+ghost use Rattle.cedar_edit.specs.Words.{HasNode, Held, is_value, IsTable, LacksNumberSlot};
+ghost use Rattle.cedar_edit.specs.Words.{MayMakeBlock, OwnNumber, OwnsNothing, Placed, PutsInBase};
+ghost use Rattle.cedar_edit.specs.Words.{PutsInSlot, PutsMark, size_of, StepsTo, TableHolds};
+ghost use Rattle.cedar_edit.specs.Words.{TakesFreeSlot, TakesNoBlock, TakesSingle, WantsSlot};
 
 use crate::edit::leaf::{add_label, add_only, add_reserved};
 use crate::edit::number::{set_number, set_only, set_reserved};

@@ -1,8 +1,14 @@
 //! A number that is in the way of a new label: it moves from its node's own base field into a slot, and back if the
 //! label is refused.
 
-ghost use Rattle.std.specs.Prelude.{◌<◌, ◌≡◌, IfErr, IfOk, is_some, length, List, MatchOption, None, OnErr, OnOk, pos, Some, take, true, ℕ};
-ghost use Rattle.cedar_edit.specs.Words.{below, cells, fields, Forest, HasNode, HasWay, IsAt, IsInWay, IsKey, IsOwnAt, IsWellFormed, KeepsMarks, KeepsOtherMarks, LacksLoneNumber, MakesAtMost, MakesIfFull, MayRefuse, MovesIn, MovesPrefixOut, number_at, OwnsNumberAlone, reduced_layout, SameFrame, SameModes, size_of, tree_of};
+ghost use Rattle.std.specs.Prelude.{◌<◌, ◌≡◌, IfErr, IfOk, is_some, length, List, MatchOption};
+ghost use Rattle.std.specs.Prelude.{None, OnErr, OnOk, pos, Some, take, true, ℕ};
+ghost use Rattle.cedar_edit.specs.Words.{below, cells, fields, Forest, HasNode, HasWay, IsAt};
+ghost use Rattle.cedar_edit.specs.Words.{IsInWay, IsKey, IsOwnAt, IsWellFormed, KeepsMarks};
+ghost use Rattle.cedar_edit.specs.Words.{KeepsOtherMarks, LacksLoneNumber, MakesAtMost};
+ghost use Rattle.cedar_edit.specs.Words.{MakesIfFull, MayRefuse, MovesIn, MovesPrefixOut};
+ghost use Rattle.cedar_edit.specs.Words.{number_at, OwnsNumberAlone, reduced_layout, SameFrame};
+ghost use Rattle.cedar_edit.specs.Words.{SameModes, size_of, tree_of};
 
 use crate::edit::number::drop_number;
 use crate::edit::own::move_number;

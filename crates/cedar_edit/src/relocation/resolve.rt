@@ -2,7 +2,10 @@
 //! label is kept back.
 
 ghost use Rattle.std.specs.Prelude.{◌<◌, ◌≡◌, ◌≢◌, ◌≤◌, bit_xor, IfOk, length, List, OnOk, pos, ℕ};
-ghost use Rattle.cedar_edit.specs.Words.{Among, below, cells, ChainsRest, fields, IsNode, IsTable, MayMakeBlock, MovesForLabel, OwnsLabels, Reserves, SetReserved, size_of, StandsBelow, TellsLonger, WantsSlot, with_label};
+ghost use Rattle.cedar_edit.specs.Words.{Among, below, cells, ChainsRest, fields, IsNode, IsTable};
+ghost use Rattle.cedar_edit.specs.Words.{MayMakeBlock, MovesForLabel, OwnsLabels, Reserves};
+ghost use Rattle.cedar_edit.specs.Words.{SetReserved, size_of, StandsBelow, TellsLonger, WantsSlot};
+ghost use Rattle.cedar_edit.specs.Words.{with_label};
 
 use crate::relocation::moving::{goes_before, relocate_around, relocate_with};
 use arrayvec::ArrayVec;

@@ -1,7 +1,10 @@
 //! Tests of whether a table from a file has its slots, rings, blocks and lists as they must be.
 
-ghost use Rattle.std.specs.Prelude.{◌*◌, ◌+◌, ◌-◌, ◌<◌, ◌≡◌, ◌≤ℤ◌, ◌≤◌, length, List, OkIff, pos, ℕ};
-ghost use Rattle.cedar_file.specs.Words.{BlankBlocks, BlankSlots, blocks_of, FreeBlock, HasFree, IsPowerOfTwo, places_of, reject_at, Rejects, Shaped, Sound};
+ghost use Rattle.std.specs.Prelude.{◌*◌, ◌+◌, ◌-◌, ◌<◌, ◌≡◌, ◌≤ℤ◌, ◌≤◌, length};
+ghost use Rattle.std.specs.Prelude.{List, OkIff, pos, ℕ};
+ghost use Rattle.cedar_file.specs.Words.{BlankBlocks, BlankSlots, blocks_of, FreeBlock};
+ghost use Rattle.cedar_file.specs.Words.{HasFree, IsPowerOfTwo, places_of, reject_at};
+ghost use Rattle.cedar_file.specs.Words.{Rejects, Shaped, Sound};
 
 use crate::check::lists::{check_lists, check_ranges, read_block};
 use crate::check::rings::{check_ring, count_free, read_free, read_info, read_node};

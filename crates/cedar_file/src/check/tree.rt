@@ -1,7 +1,12 @@
 //! Tests of whether the held slots of a table represent a tree.
 
-ghost use Rattle.std.specs.Prelude.{◌*◌, ◌+◌, ◌/◌, ◌<◌, ◌^◌, ◌↔◌, ◌≡◌, ◌≢◌, ◌≤◌, count_by, IfOk, IsTrue, MatchOption, OnErr, OnOk, pos, ℕ};
-ghost use Rattle.cedar_file.specs.Words.{AtBase, base_in, base_of, block_at, cells, ComesBackIn, fields, GoesDown, GoesOn, GoesUp, HasRoom, is_held, is_value, IsTable, IsWellFormed, LooksLikeRoot, MeetsNode, OwnNumber, range_with_len, reading, size_of, StepsDown, StepsUp, walk_start};
+ghost use Rattle.std.specs.Prelude.{◌*◌, ◌+◌, ◌/◌, ◌<◌, ◌^◌, ◌↔◌, ◌≡◌, ◌≢◌, ◌≤◌, count_by, IfOk};
+ghost use Rattle.std.specs.Prelude.{IsTrue, MatchOption, OnErr, OnOk, pos, ℕ};
+ghost use Rattle.cedar_file.specs.Words.{AtBase, base_in, base_of, block_at, cells, ComesBackIn};
+ghost use Rattle.cedar_file.specs.Words.{fields, GoesDown, GoesOn, GoesUp, HasRoom, is_held};
+ghost use Rattle.cedar_file.specs.Words.{is_value, IsTable, IsWellFormed, LooksLikeRoot, MeetsNode};
+ghost use Rattle.cedar_file.specs.Words.{OwnNumber, range_with_len, reading, size_of, StepsDown};
+ghost use Rattle.cedar_file.specs.Words.{StepsUp, walk_start};
 
 use cedar_slots::{BLOCK_SIZE, BlockRecord, Corrupt, NInfoRecord, NodeRecord, Ticks};
 use cedar_table::{Layout, Stored, Table};

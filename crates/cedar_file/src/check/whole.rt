@@ -1,7 +1,8 @@
 //! Tests of whether a table from a file has its slots, rings, blocks and lists as they must be, and represents a tree.
 
 ghost use Rattle.std.specs.Prelude.{◌*◌, ◌+◌, ◌≤ℤ◌, ◌≤◌, length, OkIff, pos};
-ghost use Rattle.cedar_file.specs.Words.{capacity_of, fields, IsPowerOfTwo, IsSlotLimit, IsTable, IsWellFormed};
+ghost use Rattle.cedar_file.specs.Words.{capacity_of, fields, IsPowerOfTwo, IsSlotLimit};
+ghost use Rattle.cedar_file.specs.Words.{IsTable, IsWellFormed};
 
 use crate::check::places::check_sound;
 use crate::check::tree::check_tree;

@@ -1,5 +1,6 @@
 -- An edit of one node of a tree, and of its own slots in a table.
-use Rattle.std.specs.Prelude.{◌≡◌, ℕ, Bool, true, ℤ, ◌<◌, List, [], ◌∷◌, pos, Option, None, ◌⊎◌, cond, nat_eq, nat_lt}
+use Rattle.std.specs.Prelude.{◌≡◌, ℕ, Bool, true, ℤ, ◌<◌, List, [], ◌∷◌, pos, Option}
+use Rattle.std.specs.Prelude.{None, ◌⊎◌, cond, nat_eq, nat_lt}
 use Rattle.cedar_tree.specs.Tree.{Forest, IsAscending, none, child}
 use Rattle.cedar_model.specs.declared.layout.Stored.TheVariants.{AtBase, OwnNumber}
 use Rattle.cedar_model.specs.Table.Cells.{Cells, Held}

@@ -1,5 +1,6 @@
 -- The keys whose numbers are in slots of their own.
-use Rattle.std.specs.Prelude.{◌≡◌, ◌↔◌, ◌⊎◌, ℕ, ◌<◌, Bool, true, false, cond, List, length, take, Option, None, Some, is_some}
+use Rattle.std.specs.Prelude.{◌≡◌, ◌↔◌, ◌⊎◌, ℕ, ◌<◌, Bool, true, false, cond, List, length}
+use Rattle.std.specs.Prelude.{take, Option, None, Some, is_some}
 use Rattle.cedar_tree.specs.Tree.{Forest, none, child, has_label, number_at, Tree}
 use Rattle.cedar_tree.specs.Queries.{IsFront, node_at}
 use Rattle.cedar_model.specs.declared.layout.Stored.{Stored}

@@ -1,5 +1,6 @@
 -- What holds of a table as a whole: its slots, blocks and lists, and the tree that it represents.
-use Rattle.std.specs.Prelude.{◌≡◌, ℕ, Bool, true, ◌&&◌, int_le, ℤ, pos, negsuc, List, [], ◌∷◌, ◌++◌, length, cond}
+use Rattle.std.specs.Prelude.{◌≡◌, ℕ, Bool, true, ◌&&◌, int_le, ℤ, pos, negsuc, List}
+use Rattle.std.specs.Prelude.{[], ◌∷◌, ◌++◌, length, cond}
 use Rattle.cedar_tree.specs.Tree.{Forest, none, child, Tree, IsSoundBelow, IsAscending, AllNumbers}
 use Rattle.cedar_tree.specs.Queries.{walk}
 use Rattle.cedar_model.specs.Table.Cells.{Cells, cells_of}

@@ -1,5 +1,6 @@
 -- One table as another with its slots renamed.
-use Rattle.std.specs.Prelude.{◌≡◌, ℕ, ◌<◌, ◌≤◌, List, length, take, slice_index_or, pos, bit_xor, cond, nat_eq}
+use Rattle.std.specs.Prelude.{◌≡◌, ℕ, ◌<◌, ◌≤◌, List, length, take, slice_index_or}
+use Rattle.std.specs.Prelude.{pos, bit_xor, cond, nat_eq}
 use Rattle.cedar_model.specs.declared.layout.Stored.TheVariants.{AtBase}
 use Rattle.cedar_model.specs.Table.Cells.{Cells, Held, IsPlace}
 use Rattle.cedar_model.specs.Meaning.Family.{Among, base_of, below, Family, Head, owned_slots, top}

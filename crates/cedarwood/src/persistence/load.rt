@@ -1,7 +1,8 @@
 //! How a dictionary is loaded: from a watched reader, or from bytes in memory.
 
 ghost use Rattle.std.specs.Prelude.{◌*◌, ◌+◌};
-ghost use Rattle.cedarwood.specs.Words.{CountsWithin, default_load_limit, IsLimit, layout_byte, LoadsBy, need, TellsBreaks};
+ghost use Rattle.cedarwood.specs.Words.{CountsWithin, default_load_limit, IsLimit, layout_byte};
+ghost use Rattle.cedarwood.specs.Words.{LoadsBy, need, TellsBreaks};
 
 use crate::counted::load_uncounted;
 use crate::{CedarPersistenceError, DEFAULT_LOAD_MEMORY_LIMIT, Layout, Source, Ticks, Trie};

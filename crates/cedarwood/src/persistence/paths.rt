@@ -1,6 +1,9 @@
 //! Files by their paths, through a buffer.
 
-ghost use Rattle.cedarwood.specs.Words.{default_load_limit, FailsToWrite, IfErr, IfOk, IsLimit, IsSavedAt, IsTableFile, IsUnsavedAt, IsWellFormed, LacksByPath, layout_byte, LoadsOpened, OnOk, PassesAgain, table_bytes};
+ghost use Rattle.cedarwood.specs.Words.{default_load_limit, FailsToWrite, IfErr, IfOk, IsLimit};
+ghost use Rattle.cedarwood.specs.Words.{IsSavedAt, IsTableFile, IsUnsavedAt, IsWellFormed};
+ghost use Rattle.cedarwood.specs.Words.{LacksByPath, layout_byte, LoadsOpened, OnOk, PassesAgain};
+ghost use Rattle.cedarwood.specs.Words.{table_bytes};
 
 use crate::persistence::replace::no_room;
 use crate::{

@@ -4,7 +4,9 @@ ghost use Rattle.std.specs.Prelude.{◌≡◌, ◌++◌, IfErr, IfOk, None, OnOk
 ghost use Rattle.cedar_disk.specs.PathFiles.{path_calls};
 ghost use Rattle.cedar_disk.specs.SpecialFiles.{sent_calls, special_told};
 ghost use Rattle.cedar_disk.specs.Words.{IsPlaced, told_after};
-ghost use Rattle.cedarwood.specs.Words.{AllocationFailed, Appends, FailsToWrite, IsSavedAt, IsTableFile, IsUnsavedAt, IsVersion, PassesAgain, table_bytes};
+ghost use Rattle.cedarwood.specs.Words.{AllocationFailed, Appends, FailsToWrite, IsSavedAt};
+ghost use Rattle.cedarwood.specs.Words.{IsTableFile, IsUnsavedAt, IsVersion, PassesAgain};
+ghost use Rattle.cedarwood.specs.Words.{table_bytes};
 
 use crate::persistence::unplaced::Unplaced;
 use crate::{CedarPersistenceError, Layout, SaveFailed, Saved, Trie, Watched};

@@ -1,7 +1,8 @@
 //! How a dictionary is saved.
 
 ghost use Rattle.std.specs.Prelude.{◌≡◌, IfErr, OnOk, true};
-ghost use Rattle.cedarwood.specs.Words.{Appends, device_of, has_failed, IsIo, IsTableFile, PassesAgain, table_bytes};
+ghost use Rattle.cedarwood.specs.Words.{Appends, device_of, has_failed, IsIo, IsTableFile};
+ghost use Rattle.cedarwood.specs.Words.{PassesAgain, table_bytes};
 
 use crate::{CedarPersistenceError, Layout, Trie, Watched};
 use cedar_file::write_table;

@@ -1,7 +1,10 @@
 //! All keys and their values.
 
-ghost use Rattle.std.specs.Prelude.{◌<◌, ◌↔◌, ◌∷◌, ◌≡◌, [], IfOk, IfSome, IsTrue, length, List, MatchOption, MatchResult, Some, string_bytes};
-ghost use Rattle.cedarwood.specs.Words.{entries_from, Entry, GoesToCopied, GoesToEntry, IsEntriesPlace, IsEntryError, IsWellFormed, IsWithinCount, item_count, Memory, tree_of, UpTo, walk};
+ghost use Rattle.std.specs.Prelude.{◌<◌, ◌↔◌, ◌∷◌, ◌≡◌, [], IfOk, IfSome, IsTrue, length, List};
+ghost use Rattle.std.specs.Prelude.{MatchOption, MatchResult, Some, string_bytes};
+ghost use Rattle.cedarwood.specs.Words.{entries_from, Entry, GoesToCopied, GoesToEntry};
+ghost use Rattle.cedarwood.specs.Words.{IsEntriesPlace, IsEntryError, IsWellFormed, IsWithinCount};
+ghost use Rattle.cedarwood.specs.Words.{item_count, Memory, tree_of, UpTo, walk};
 
 use crate::CedarError;
 use crate::queries::walked::Walked;

@@ -1,7 +1,13 @@
 //! The entries of a range of keys: those that begin with a prefix, those from a key on, and those between two keys.
 
-ghost use Rattle.std.specs.Prelude.{◌++◌, ◌+◌, ◌<◌, ◌↔◌, ◌∷◌, ◌≡◌, ◌≤◌, [], false, IfErr, IfOk, IfSome, IsTrue, length, List, MatchOption, MatchResult, OnErr, option_map, Some, true, vec_capacity};
-ghost use Rattle.cedarwood.specs.Words.{entries_between, entries_left_before, entries_since, entries_with, Entry, GivesBetween, GivesRange, is_lt, IsEnd, IsNumberedBelow, IsRangePlace, IsWellFormed, IsWithinCount, item_count, KeyOutgrows, Memory, nat_cmp, Numbered, path_to, slice_cmp, tree_of, UpTo};
+ghost use Rattle.std.specs.Prelude.{◌++◌, ◌+◌, ◌<◌, ◌↔◌, ◌∷◌, ◌≡◌, ◌≤◌, [], false, IfErr, IfOk};
+ghost use Rattle.std.specs.Prelude.{IfSome, IsTrue, length, List, MatchOption, MatchResult, OnErr};
+ghost use Rattle.std.specs.Prelude.{option_map, Some, true, vec_capacity};
+ghost use Rattle.cedarwood.specs.Words.{entries_between, entries_left_before, entries_since};
+ghost use Rattle.cedarwood.specs.Words.{entries_with, Entry, GivesBetween, GivesRange, is_lt};
+ghost use Rattle.cedarwood.specs.Words.{IsEnd, IsNumberedBelow, IsRangePlace, IsWellFormed};
+ghost use Rattle.cedarwood.specs.Words.{IsWithinCount, item_count, KeyOutgrows, Memory, nat_cmp};
+ghost use Rattle.cedarwood.specs.Words.{Numbered, path_to, slice_cmp, tree_of, UpTo};
 
 use crate::queries::walked::Walked;
 use crate::{CedarError, Layout, Trie};
