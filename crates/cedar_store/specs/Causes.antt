@@ -36,7 +36,7 @@ OpenCause file before now (error.Device e) = e ≡ Failed → before < now
 OpenCause file before now (error.Refused e) = (e ≡ cedar.Memory) ⊎ (IsSome (file_payloads file) × IsShortage e)
 OpenCause file before now e = LoadCause file e
 
--- why it wasn't read: there was no memory for its bytes, or the disk failed, which is reported as `Failed` whatever the device told
+-- why it wasn't read: there was no memory for its bytes, or the disk failed, which is reported as `Failed` whatever the device returned
 abbrev pub ReadCause : ℕ → ℕ → DurableError → Type 0
 ReadCause before now (error.Device e) = (e ≡ Failed) × (before < now)
 ReadCause before now (error.Refused e) = e ≡ cedar.Memory

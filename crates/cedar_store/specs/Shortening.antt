@@ -21,7 +21,7 @@ abbrev pub IsShortEnough : {T A D : Type 0} → (T → State) → Store T A D �
 IsShortEnough state old new =
     (new.last_compaction ≡ old.last_compaction) × (is_beyond old.compaction (compacted_length (walk (state new.words).tree)) new.journal.end ≡ false)
 
--- the file has a record for each entry and nothing else, which only a rule other than `Never` does, and `last_compaction` tells it
+-- the file has a record for each entry and nothing else, which only a rule other than `Never` does, and `last_compaction` reports it
 abbrev pub IsShortened : {T A D : Type 0} → (D → List ℕ) → (T → State) → Store T A D → Store T A D → Type 0
 IsShortened seen state old new =
     (old.compaction ≡ Never → ⊥) × (new.last_compaction ≡ Some (Ok tt)) × (length (seen new.journal.device) ≡ compacted_length (walk (state new.words).tree))
@@ -31,7 +31,7 @@ abbrev pub KeptCause : ℕ → ℕ → CompactError → Type 0
 KeptCause before now Failed = ⊥
 KeptCause before now e = CompactCause before now e
 
--- the file was kept as it was, and `last_compaction` tells why
+-- the file was kept as it was, and `last_compaction` has the reason
 abbrev pub IsKeptLong : {T A D : Type 0} → (D → ℕ) → Store T A D → Store T A D → Type 0
 IsKeptLong faults old new =
     (e : CompactError) × (new.last_compaction ≡ Some (Err e)) × KeptCause (faults old.journal.device) (faults new.journal.device) e

@@ -275,11 +275,11 @@ impl<T: Words, A: Allocator + Copy, D: ReplaceDevice> Store<T, A, D> {
 
         //= An acknowledged change looks after the length of its file, by the rule. If the file isn't too long for what it had at the last
         //  look, nothing is done. Otherwise it is looked at: it isn't too long for its entries, or it was made short, or it was kept as it
-        //  was, for lack of memory, for a record that would be too long, or by the device; then `last_compaction` tells why. [by
+        //  was, for lack of memory, for a record that would be too long, or by the device; then `last_compaction` has the reason. [by
         //  IsLookedAfter; also insert, update_bytes, update, erase_bytes, erase, apply_batch]
         ensures looked_after { OnOk result (IsLookedAfter D.seen D.faults T.state self.old self.new) }
 
-        //= A change that fails has looked at nothing and told of no compaction, unless the device failed in one, which is reported. [by
+        //= A change that fails has looked at nothing and reports no compaction, unless the device failed in one. [by
         //  IsLookedAfterError; also insert, update_bytes, update, erase_bytes, erase, apply_batch]
         ensures told { OnErr result (IsLookedAfterError self.old self.new) }
 
