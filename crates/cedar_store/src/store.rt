@@ -279,7 +279,7 @@ impl<T: Words, A: Allocator + Copy, D: ReplaceDevice> Store<T, A, D> {
         //  IsLookedAfter; also insert, update_bytes, update, erase_bytes, erase, apply_batch]
         ensures looked_after { OnOk result (IsLookedAfter D.seen D.faults T.state self.old self.new) }
 
-        //= A change that fails has looked at nothing and reports no compaction, unless the device failed in one. [by
+        //= A change that fails has looked at nothing and reports no compaction, unless the device failed in one: then it reports that. [by
         //  IsLookedAfterError; also insert, update_bytes, update, erase_bytes, erase, apply_batch]
         ensures told { OnErr result (IsLookedAfterError self.old self.new) }
 
