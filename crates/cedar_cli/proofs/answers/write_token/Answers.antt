@@ -1,7 +1,7 @@
 use Rattle.std.proofs.Common.{rules, ◌++◌}
 use Rattle.cedarwood.specs.WatchedDevice.{device_of}
 use Rattle.cedar_cli.specs.Script.{colon_field, number_text}
-use Rattle.text_lines.proofs.Bytes.{front_after, front_more, on_err, then_err}
+use Rattle.text_lines.proofs.Bytes.{front_after, front_more, on_err, then_err, then_ok}
 use Rattle.cedar_cli.proofs.answers.write_token.Goals as goal
 
 pub returns-in_err-write_field : goal.returns-in_err-write_field
@@ -30,7 +30,14 @@ returns-in_err-write_field-2 g c = record {
 
 pub returns : goal.returns
 returns g c = record {
-  ok = search rules;
+  ok =
+      let t = c.args.token in
+      let a = g.W.Write.contents (device_of c.args.writer.now) in
+      let b = g.W.Write.contents (device_of c.write_field.new.writer) in
+      let d = g.W.Write.contents (device_of c.write_field-2.new.writer) in
+      let e = g.W.Write.contents (device_of c.write_value.new.writer) in
+      then_ok c.write_value.result a b e (colon_field t.0) (colon_field t.1 ++ number_text t.2) c.in_ok-write_field.ensures.ok
+      (then_ok c.write_value.result b d e (colon_field t.1) (number_text t.2) c.in_ok-write_field-2.ensures.ok c.write_value.ensures.ok);
   err =
       let t = c.args.token in
       let a = g.W.Write.contents (device_of c.args.writer.now) in

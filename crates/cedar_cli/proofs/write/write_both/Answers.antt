@@ -1,6 +1,6 @@
 use Rattle.std.proofs.Common.{rules}
 use Rattle.cedarwood.specs.WatchedDevice.{device_of}
-use Rattle.text_lines.proofs.Bytes.{front_more, on_err, then_err}
+use Rattle.text_lines.proofs.Bytes.{front_more, on_err, then_err, then_ok}
 use Rattle.cedar_cli.proofs.write.write_both.Goals as goal
 
 pub returns-in_err-write_whole : goal.returns-in_err-write_whole
@@ -14,7 +14,11 @@ returns-in_err-write_whole g c = record {
 
 pub returns : goal.returns
 returns g c = record {
-  ok = search rules;
+  ok =
+      let held = g.W.Write.contents (device_of c.args.writer.now) in
+      let begun = g.W.Write.contents (device_of c.write_whole.new.writer) in
+      let holds = g.W.Write.contents (device_of c.write_whole-2.new.writer) in
+      then_ok c.write_whole-2.result held begun holds c.args.first.now c.args.second.now c.in_ok-write_whole.ensures.ok c.write_whole-2.ensures.ok;
   err =
       let held = g.W.Write.contents (device_of c.args.writer.now) in
       let begun = g.W.Write.contents (device_of c.write_whole.new.writer) in

@@ -1,6 +1,6 @@
 use Rattle.std.proofs.Common.{rules, ◌++◌, ◌∷◌, []}
 use Rattle.cedarwood.specs.WatchedDevice.{device_of}
-use Rattle.text_lines.proofs.Bytes.{front_more, front_after, then_err, on_err}
+use Rattle.text_lines.proofs.Bytes.{front_more, front_after, then_err, on_err, then_ok}
 use Rattle.cedar_cli.proofs.write.write_line.Goals as goal
 
 pub returns-in_err-write_whole : goal.returns-in_err-write_whole
@@ -27,7 +27,13 @@ returns-in_err-write_whole-2 g c = record {
 
 pub returns : goal.returns
 returns g c = record {
-  ok = search rules;
+  ok =
+      let a = g.W.Write.contents (device_of c.args.writer.now) in
+      let b = g.W.Write.contents (device_of c.write_whole.new.writer) in
+      let d = g.W.Write.contents (device_of c.write_whole-2.new.writer) in
+      let e = g.W.Write.contents (device_of c.write_whole-3.new.writer) in
+      then_ok c.write_whole-3.result a b e c.args.first.now (c.args.second.now ++ 10 ∷ []) c.in_ok-write_whole.ensures.ok
+      (then_ok c.write_whole-3.result b d e c.args.second.now (10 ∷ []) c.in_ok-write_whole-2.ensures.ok c.write_whole-3.ensures.ok);
   err =
       let a = g.W.Write.contents (device_of c.args.writer.now) in
       let b = g.W.Write.contents (device_of c.write_whole.new.writer) in

@@ -2,12 +2,13 @@ use Rattle.std.proofs.Common.{rules, w32, to_z, of_z, FitsSigned, ℕ, ◌≡◌
 use Rattle.std.proofs.lemmas.Int.{to_z-of_z}
 use Rattle.cedarwood.specs.Queries.{Entry}
 use Rattle.cedarwood.specs.WatchedDevice.{device_of}
-use Rattle.std.specs.Prelude.{OnErr}
+use Rattle.std.specs.Prelude.{OnErr, OnOk}
 use Rattle.text_lines.specs.Written.{WritesFront}
 use Rattle.word_lists.specs.Lines.{entry_line}
 use Rattle.word_lists.specs.Texts.{characters, tab_field, text_part}
-use Rattle.text_lines.proofs.Bytes.{front_after, front_more, on_err, then_err}
-use Rattle.word_lists.proofs.Bytes.{front_as, then_err_as}
+use Rattle.text_lines.proofs.Bytes.{front_after, front_more, on_err, then_err, then_ok}
+use Rattle.word_lists.proofs.Bytes.{front_as, then_err_as, then_ok_as}
+use Rattle.std.specs.Io.KnownBytes.{Appends}
 use Rattle.word_lists.proofs.scan.write_spot.Goals as goal
 
 pub returns-in_err-write_field : goal.returns-in_err-write_field
@@ -37,7 +38,16 @@ returns-in_err-write_field-2 g c = record {
 
 pub returns-then-finds_room : goal.returns-then-finds_room
 returns-then-finds_room g c = record {
-  ok = search rules;
+  ok =
+      let held = g.W.Write.contents (device_of c.args.writer.now) in
+      let holds = g.W.Write.contents (device_of c.write_short.new.writer) in
+      let column = 1 + characters (take c.args.spot.0 c.args.text.now) in
+      let same : c.column_of-column.result ≡ column = c.column_of-column.ensures ∙ ap (λ k. 1 + k) c.requires.before in
+      let fits : FitsSigned w32 c.args.spot.2 = search rules in
+      let entry : Entry = (c.part-word.result.now, to_z w32 (of_z w32 c.args.spot.2)) in
+      let told : Entry = (text_part c.args.text.now c.args.spot.0 c.args.spot.1, c.args.spot.2) in
+      subst (λ (p : ℕ × Entry). OnOk c.write_short.result (Appends held holds (tab_field c.args.line ++ (tab_field p.0 ++ entry_line p.1))))
+      (λ k. (same k, (c.part-word.ensures k, to_z-of_z w32 c.args.spot.2 fits k))) c.write_short.ensures.ok;
   err =
       let held = g.W.Write.contents (device_of c.args.writer.now) in
       let holds = g.W.Write.contents (device_of c.write_short.new.writer) in
@@ -53,7 +63,19 @@ returns-then-finds_room g c = record {
 
 pub returns : goal.returns
 returns g c = record {
-  ok = search rules;
+  ok =
+      let held = g.W.Write.contents (device_of c.args.writer.now) in
+      let begun = g.W.Write.contents (device_of c.write_field.new.writer) in
+      let more = g.W.Write.contents (device_of c.write_field-2.new.writer) in
+      let holds = g.W.Write.contents (device_of c.write_entry.new.writer) in
+      let column = 1 + characters (take c.args.spot.0 c.args.text.now) in
+      let same : tab_field c.column_of-column.result ≡ tab_field column = ap tab_field (c.column_of-column.ensures ∙ ap (λ k. 1 + k) c.requires.before) in
+      let fits : FitsSigned w32 c.args.spot.2 = search rules in
+      let entry : Entry = (c.part-word.result.now, to_z w32 (of_z w32 c.args.spot.2)) in
+      let told : Entry = (text_part c.args.text.now c.args.spot.0 c.args.spot.1, c.args.spot.2) in
+      let line : entry_line entry ≡ entry_line told = ap entry_line (λ k. (c.part-word.ensures k, to_z-of_z w32 c.args.spot.2 fits k)) in
+      then_ok c.write_entry.result held begun holds (tab_field c.args.line) (tab_field column ++ entry_line told) c.in_ok-write_field.ensures.ok
+      (then_ok_as c.write_entry.result begun more holds (tab_field c.column_of-column.result) (tab_field column) (entry_line entry) (entry_line told) same line c.in_ok-write_field-2.ensures.ok c.write_entry.ensures.ok);
   err =
       let held = g.W.Write.contents (device_of c.args.writer.now) in
       let begun = g.W.Write.contents (device_of c.write_field.new.writer) in
