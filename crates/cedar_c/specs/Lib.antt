@@ -17,5 +17,4 @@ pub mod Scans
 pub mod Shrinks
 pub mod Status
 pub mod Stores
-pub mod Updates
 pub mod Words
