@@ -32,7 +32,7 @@ fn find_base<L: Layout, const SLOTS: usize, A: Allocator>(
     ensures root_check { (cells table.new).check 0 ≡ (cells table.old).check 0 }
     ensures settings { SameSettings (fields table.old) (fields table.new) }
 {
-    let base = table.place_for(wanted)?;
+    let base = table.place_for(wanted, usize::MAX)?;
     table.set_base(node, base);
     Ok(base)
 }

@@ -4,5 +4,6 @@ pub mod Padded
 pub mod Places
 pub mod Ring
 pub mod Slots
+pub mod Tried
 pub mod Views
 pub mod Words

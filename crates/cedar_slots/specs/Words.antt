@@ -13,6 +13,7 @@ pub use Rattle.cedar_slots.specs.Ring.{occurs}
 pub use Rattle.cedar_slots.specs.Slots.{AllFree, base_at, blank_info, check_at, given_after}
 pub use Rattle.cedar_slots.specs.Slots.{given_alone, is_free, node_record_at}
 pub use Rattle.cedar_slots.specs.Slots.{nodes_after_link, nodes_after_take, SlotLink}
+pub use Rattle.cedar_slots.specs.Tried.{TriesAtMost}
 pub use Rattle.cedar_slots.specs.Views.{blocks_of, places_of, slots_of}
 pub use Rattle.cedar_slots.specs.declared.blocks.BlockType.{BlockType}
 pub use Rattle.std.specs.Int.{int_max}

@@ -49,7 +49,7 @@ impl<A: Allocator> Places<A> {
     ghost use Rattle.cedar_slots.specs.Words.{MayRefuse, node_record_at, NoneFree, places_of};
     ghost use Rattle.cedar_slots.specs.Words.{range_with_len, reject_at, Rejects, room_for_one};
     ghost use Rattle.cedar_slots.specs.Words.{SameSlots, Shaped, slots_of, Sound, TakesSlot};
-    ghost use Rattle.cedar_slots.specs.Words.{Within};
+    ghost use Rattle.cedar_slots.specs.Words.{TriesAtMost, Within};
 
     /// One block, in which the root alone is held.
     pub fn new(alloc: A, root: NodeRecord, max_trial: i32) -> Result<Places<A>, AllocError>
@@ -306,6 +306,9 @@ impl<A: Allocator> Places<A> {
         //= The number of blocks then doubles exactly if all were in use. [by capacity]
         ensures added { IfOk result (λ block. AddsBlock (places_of self.old) (places_of self.new) block) }
 
+        //= It changes what is counted of no other block.
+        ensures others { IfOk result (λ block. (b : ℕ) → (b ≡ block → ⊥) → counts_at self.new.blocks.records.items b ≡ counts_at self.old.blocks.records.items b) }
+
         //= It fails for lack of memory only if all blocks are in use and the limit isn't reached, for lack of slots only if as many as the
         //  limit allows are in use: so not for lack of memory while blocks are spare.
         ensures refused { IfErr result (λ error. MayRefuse (places_of self.old) slots error) }
@@ -356,6 +359,7 @@ impl<A: Allocator> Places<A> {
         requires place { IsFreePlace (places_of self.old) slot }
         ensures sound { Sound (places_of self.new) }
         ensures same { SameSlots (places_of self.old) (places_of self.new) }
+        ensures others { (b : ℕ) → (b ≡ slot / 256 → ⊥) → counts_at self.new.blocks.records.items b ≡ counts_at self.old.blocks.records.items b }
     {
         let block = slot / BLOCK_SIZE;
         let counts = self.blocks.counts(block);
@@ -428,14 +432,15 @@ impl<A: Allocator> Places<A> {
     }
 
     /// A base from which all labels have free slots, in an open block, as far as `reject` and
-    /// `max_trial` allow a search.
-    fn search(&mut self, labels: &[u8]) -> Option<usize>
+    /// `max_trial` allow a search. It tries `search_limit` blocks at most.
+    fn search(&mut self, labels: &[u8], search_limit: usize) -> Option<usize>
         requires sound { Sound (places_of self.old) }
         requires some { 0 < length labels.now }
         requires few { length labels.now ≤ 256 }
         ensures sound { Sound (places_of self.new) }
         ensures same { SameSlots (places_of self.old) (places_of self.new) }
         ensures found { IfSome result (λ base. IsBase (places_of self.new) base labels.now) }
+        ensures tried { TriesAtMost search_limit (blocks_of self.old.blocks) (blocks_of self.new.blocks) }
     {
         let head = self.blocks.first(BlockType::Open);
         if head == 0 {
@@ -443,7 +448,7 @@ impl<A: Allocator> Places<A> {
         }
         let last = self.blocks.previous(head);
         let mut block = head;
-        for _ in 0..self.blocks.active {
+        for turn in 0..self.blocks.active.min(search_limit) {
             if let Some(slot) = self.start_in(block, labels) {
                 self.begin_at(slot);
                 return Some(slot ^ usize::from(labels[0]));
@@ -459,8 +464,14 @@ impl<A: Allocator> Places<A> {
     }
 
     /// A base from which all labels have free slots, outside block 0: in an open block that fits
-    /// them all, as far as rejections and trials allow a search, else in a new one. No clause says which.
-    pub fn find_places(&mut self, labels: &[u8], slots: usize) -> Result<usize, Shortage>
+    /// them all, as far as rejections and trials allow a search, else in a new one. A search tries `search_limit`
+    /// open blocks at most. No clause says which base it is.
+    pub fn find_places(
+        &mut self,
+        labels: &[u8],
+        slots: usize,
+        search_limit: usize,
+    ) -> Result<usize, Shortage>
         requires sound { Sound (places_of self.old) }
         requires some { 0 < length labels.now }
         requires few { length labels.now ≤ 256 }
@@ -479,8 +490,11 @@ impl<A: Allocator> Places<A> {
         //= It fails as `add_block` does.
         ensures refused { IfErr result (λ error. MayRefuse (places_of self.old) slots error) }
         ensures err { OnErr result (SameSlots (places_of self.old) (places_of self.new)) }
+
+        //= It changes what is counted of `search_limit` open blocks at most, beside the block that it makes.
+        ensures tried { TriesAtMost (search_limit + 1) (blocks_of self.old.blocks) (blocks_of self.new.blocks) }
     {
-        if let Some(base) = self.search(labels) {
+        if let Some(base) = self.search(labels, search_limit) {
             return Ok(base);
         }
         let block = self.add_block(slots)?;

@@ -200,8 +200,9 @@ impl<L: Layout, const SLOTS: usize, A: Allocator> Table<L, SLOTS, A> {
     }
 
     /// Returns a base outside block 0 from which each label's slot is free: in an open block, as far as rejections and trials
-    /// allow a search, otherwise in a new block. What a search learns about blocks is kept, even if it is refused.
-    pub fn find_places(&mut self, labels: &[u8]) -> Result<usize, Shortage>
+    /// allow a search, otherwise in a new block. What a search learns about blocks is kept, even if it is refused. It tries
+    /// `search_limit` open blocks at most.
+    pub fn find_places(&mut self, labels: &[u8], search_limit: usize) -> Result<usize, Shortage>
         requires sound { IsTable SLOTS (fields self.old).places }
         requires some { 0 < length labels.now }
         requires few { length labels.now ≤ 256 }
@@ -215,13 +216,13 @@ impl<L: Layout, const SLOTS: usize, A: Allocator> Table<L, SLOTS, A> {
         //= After a refusal of `find_places` or `place_for` all slots are as they were. [also place_for.unchanged]
         ensures same { OnErr result (SameSlots (fields self.old).places (fields self.new).places) }
     {
-        self.places.find_places(labels, SLOTS)
+        self.places.find_places(labels, SLOTS, search_limit)
     }
 
     /// Returns a base from which there is room for all labels. A single label goes where the first free slot is. The move
-    /// of a set makes a block here or not at all.
+    /// of a set makes a block here or not at all. A search for several tries `search_limit` open blocks at most.
     #[inline(always)]
-    pub fn place_for(&mut self, labels: &[u8]) -> Result<usize, Shortage>
+    pub fn place_for(&mut self, labels: &[u8], search_limit: usize) -> Result<usize, Shortage>
         requires sound { IsTable SLOTS (fields self.old).places }
         requires some { 0 < length labels.now }
         requires few { length labels.now ≤ 256 }
@@ -248,7 +249,7 @@ impl<L: Layout, const SLOTS: usize, A: Allocator> Table<L, SLOTS, A> {
             let slot = self.find_place()?;
             return Ok(slot ^ usize::from(labels[0]));
         }
-        self.find_places(labels)
+        self.find_places(labels, search_limit)
     }
 
     /// Returns how many slots are in use, including free ones.

@@ -87,12 +87,13 @@ answers_of s t (k ∷ ks) answers h =
     ∙ ap (λ (x : Bool). x ∷ h.2) (held_as h.1 (number_at s.state.tree k) h.4.answer)
     ∙ ap (λ (x : List Bool). is_some (number_at s.state.tree k) ∷ x) (answers_of h.0 t ks h.2 h.5 ∙ ap (λ (x : State). held_in_turn x ks) h.4.state)
 
-pub sizes_of : (s t : Dictionary) (ks : List (List ℕ)) (answers : List Bool) → IsErasures s t ks answers → (t.size ≡ s.size) × (t.capacity ≡ s.capacity) × (t.max_trial ≡ s.max_trial)
-sizes_of s t [] answers h = (ap (λ (d : Dictionary). d.size) h.1, ap (λ (d : Dictionary). d.capacity) h.1, ap (λ (d : Dictionary). d.max_trial) h.1)
+pub sizes_of : (s t : Dictionary) (ks : List (List ℕ)) (answers : List Bool) → IsErasures s t ks answers → (t.size ≡ s.size) × (t.capacity ≡ s.capacity) × (t.max_trial ≡ s.max_trial) × (t.search_limit ≡ s.search_limit)
+sizes_of s t [] answers h =
+    (ap (λ (d : Dictionary). d.size) h.1, ap (λ (d : Dictionary). d.capacity) h.1, ap (λ (d : Dictionary). d.max_trial) h.1, ap (λ (d : Dictionary). d.search_limit) h.1)
 sizes_of s t (k ∷ ks) answers h =
     let later = sizes_of h.0 t ks h.2 h.5 in
     let first = h.4 in
-    (later.0 ∙ first.size.0, later.1 ∙ first.size.1, later.2 ∙ first.max_trial)
+    (later.0 ∙ first.size.0, later.1 ∙ first.size.1, later.2 ∙ first.max_trial, later.3 ∙ first.search_limit)
 
 -- ---- erasures, a key at a time
 

@@ -41,8 +41,8 @@ blocks_stay (suc n) a c =
     let later : cond (a == c) (2 * c) c ≤ blocks_after n (a + 1) (cond (a == c) (2 * c) c) = blocks_stay n (a + 1) (cond (a == c) (2 * c) c) in
     omega arith
 
-pub grows : (n : ℕ) (T T' : Fields) → MakesBlocks n T T' → Grows n (dictionary_of T) (dictionary_of T')
-grows n T T' made = record {
+pub grows : (n limit : ℕ) (T T' : Fields) → MakesBlocks n T T' → Grows n (dictionary_of limit T) (dictionary_of limit T')
+grows n limit T T' made = record {
   size = omega (arith, made.active);
   capacity = ap (λ b. 256 * b) made.capacity ∙ sym (capacity_by_blocks n T.places.blocks.active (length T.places.blocks.records));
 }

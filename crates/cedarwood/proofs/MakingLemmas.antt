@@ -11,21 +11,26 @@ use Rattle.cedarwood.specs.Dictionary.{Dictionary}
 use Rattle.cedarwood.specs.Making.{IsNew, IsSorted, IsSortedBuild}
 use Rattle.cedarwood.specs.SortedInput.{fault_from}
 use Rattle.cedarwood.specs.Told.{error_of_shortage}
+use Rattle.cedarwood.specs.Unsorted.{IsUnsortedBuild}
 use Rattle.cedarwood.proofs.SortedInputLemmas.{faultless}
 
-module _ (one two : CedarBuilder) (ordered : one.ordered ≡ two.ordered) (max_trial : one.max_trial ≡ two.max_trial) where
+module _ (one two : CedarBuilder) (ordered : one.ordered ≡ two.ordered) (max_trial : one.max_trial ≡ two.max_trial) (search_limit : one.search_limit ≡ two.search_limit) where
   pub new_alike : (made : Result Dictionary CedarError) → IsNew one made → IsNew two made
-  new_alike (Ok d) is = record { tree = is.tree; unmarked = is.unmarked; ordered = is.ordered ∙ ordered; max_trial = is.max_trial ∙ max_trial; size = is.size }
+  new_alike (Ok d) is = record { tree = is.tree; unmarked = is.unmarked; ordered = is.ordered ∙ ordered; max_trial = is.max_trial ∙ max_trial; search_limit = is.search_limit ∙ search_limit; size = is.size }
   new_alike (Err e) is = is
 
   sorted_alike : (layout : LayoutKind) (pairs : List Entry) (made : Result Dictionary CedarError) → IfOk made (IsSorted layout one pairs) → IfOk made (IsSorted layout two pairs)
   sorted_alike layout pairs (Ok d) is =
-      record { tree = is.tree; marks = is.marks; ordered = is.ordered ∙ ordered; max_trial = is.max_trial ∙ max_trial; size = is.size; packed = is.packed }
+      record { tree = is.tree; marks = is.marks; ordered = is.ordered ∙ ordered; max_trial = is.max_trial ∙ max_trial; search_limit = is.search_limit ∙ search_limit; size = is.size; packed = is.packed }
   sorted_alike layout pairs (Err e) is = is
 
   pub built_alike : (layout : LayoutKind) (slots : ℕ) (pairs : List Entry) (made : Result Dictionary CedarError) → IsSortedBuild layout slots one pairs made
       → IsSortedBuild layout slots two pairs made
   built_alike layout slots pairs made is = record { faulty = is.faulty; sorted = sorted_alike layout pairs made is.sorted; refused = is.refused }
+
+  pub unsorted_alike : (layout : LayoutKind) (slots : ℕ) (pairs : List Entry) (made : Result Dictionary CedarError) → IsUnsortedBuild layout slots one pairs made
+      → IsUnsortedBuild layout slots two pairs made
+  unsorted_alike layout slots pairs made is = record { faulty = is.faulty; stored = sorted_alike layout pairs made is.stored; refused = is.refused }
 
 -- what a table lacked is reported as itself
 lacked : (e : Shortage) (P : Type 0) → (e ≡ shortage.Memory) ⊎ ((e ≡ shortage.SlotLimit) × P) → (error_of_shortage e ≡ Memory) ⊎ ((error_of_shortage e ≡ SlotLimit) × P)

@@ -101,4 +101,5 @@ fault_updates layout slots d key v e why = record {
   one_byte = λ b is absent fine. no_and_some (fault key v) e why fine;
   packs = tt;
   max_trial = refl;
+  search_limit = refl;
 }

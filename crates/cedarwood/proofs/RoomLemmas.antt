@@ -15,15 +15,15 @@ use Rattle.cedarwood.specs.Told.{error_of_shortage}
 use Rattle.cedarwood.proofs.GrowthLemmas.{capacity_by_blocks, dictionary_of}
 use Rattle.cedarwood.proofs.OutcomeLemmas.{told_outcome}
 
-module _ (slots n : ℕ) (T T' : Fields) (d : Dictionary) (same : dictionary_of T ≡ d) where
+module _ (slots n limit : ℕ) (T T' : Fields) (d : Dictionary) (same : dictionary_of limit T ≡ d) where
   pub capacity_then : length T'.places.blocks.records ≡ blocks_after n T.places.blocks.active (length T.places.blocks.records) → capacity_of T' ≡ capacity_after n d.size d.capacity
   capacity_then grown =
       ap (λ b. 256 * b) grown
       ∙ sym (capacity_by_blocks n T.places.blocks.active (length T.places.blocks.records))
       ∙ ap (λ (x : Dictionary). capacity_after n x.size x.capacity) same
 
-  pub all_kept : T' ≡ T → dictionary_of T' ≡ d
-  all_kept kept = ap dictionary_of kept ∙ same
+  pub all_kept : T' ≡ T → dictionary_of limit T' ≡ d
+  all_kept kept = ap (dictionary_of limit) kept ∙ same
 
   pub has_room : IsWellFormed slots T → 256 * n ≤ d.capacity - d.size → size_of T + 256 * n ≤ capacity_of T
   has_room well room =
@@ -33,7 +33,7 @@ module _ (slots n : ℕ) (T T' : Fields) (d : Dictionary) (same : dictionary_of 
   pub lacks : (e : Shortage) → table.LacksBlocks T slots n e → LacksRoom slots d n (error_of_shortage e)
   lacks e h = subst (λ (x : Dictionary). LacksRoom slots x n (error_of_shortage e)) same (by_error e h)
     where
-      by_error : (e : Shortage) → table.LacksBlocks T slots n e → LacksRoom slots (dictionary_of T) n (error_of_shortage e)
+      by_error : (e : Shortage) → table.LacksBlocks T slots n e → LacksRoom slots (dictionary_of limit T) n (error_of_shortage e)
       by_error shortage.Memory h = h
       by_error shortage.SlotLimit h = h
 

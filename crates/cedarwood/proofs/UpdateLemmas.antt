@@ -106,7 +106,7 @@ same_stored : (t : Tree) (ordered o : Bool) (old : State) (key : List ℕ) (v w 
     → ◌≡◌ {A = State} (record { tree = put t o key w; ordered = ordered }) (after_put old key v)
 same_stored t ordered o old key v w e f g h = cc
 
-module _ {X : Type 0} (slots : ℕ) (T T' : Fields) (d : Dictionary) (same : dictionary_of T ≡ d) (r : Result X Shortage) (key : List ℕ) where
+module _ {X : Type 0} (slots limit : ℕ) (T T' : Fields) (d : Dictionary) (same : dictionary_of limit T ≡ d) (r : Result X Shortage) (key : List ℕ) where
   same_tree : d.state.tree ≡ tree_of T
   same_tree = ap (λ (x : Dictionary). x.state.tree) (sym same)
 
@@ -136,8 +136,8 @@ module _ {X : Type 0} (slots : ℕ) (T T' : Fields) (d : Dictionary) (same : dic
   is_refused over =
       refusals r (number_at d.state.tree key) (λ held. (over (subst (λ t. is_some (number_at t key) ≡ true) same_tree held)).0)
 
-  pub grows_by : (n : ℕ) → MakesBlocks n T T' → Grows n d (dictionary_of T')
-  grows_by n made = subst (λ x. Grows n x (dictionary_of T')) same (grows n T T' made)
+  pub grows_by : (n : ℕ) → MakesBlocks n T T' → Grows n d (dictionary_of limit T')
+  grows_by n made = subst (λ x. Grows n x (dictionary_of limit T')) same (grows n limit T T' made)
 
   pub is_spare : (n : ℕ) → 256 * length T'.places.blocks.records ≤ slots → IfErr r (λ e. MayRefuse T'.places slots e) → OnErr r (n < length key) → MakesBlocks n T T'
       → 256 * length key ≤ d.capacity - d.size → IsOk r
@@ -145,23 +145,23 @@ module _ {X : Type 0} (slots : ℕ) (T T' : Fields) (d : Dictionary) (same : dic
       let room' : 256 * length key ≤ capacity_of T - size_of T = subst (λ (x : Dictionary). 256 * length key ≤ x.capacity - x.size) (sym same) room in
       enough n (length key) slots T T' r within h few made room'
 
-  pub over_held : (is_some (number_at (tree_of T) key) ≡ true → OnErr r ⊥ × MakesBlocks 0 T T') → IsSome (number_at d.state.tree key) → Grows 0 d (dictionary_of T')
+  pub over_held : (is_some (number_at (tree_of T) key) ≡ true → OnErr r ⊥ × MakesBlocks 0 T T') → IsSome (number_at d.state.tree key) → Grows 0 d (dictionary_of limit T')
   over_held over held = grows_by 0 (over (subst (λ t. IsSome (number_at t key)) same_tree held)).1
 
   pub at_one_byte : IsWellFormed slots T → (b : ℕ)
       → (has_label (tree_of T).children b ≡ false → (OnErr r ⊥ × MakesBlocks 0 T T') ⊎ (T.layout ≡ default_layout) × NoPlace (size_of T) (cells_in T))
       → has_label d.state.tree.children b ≡ false
-      → (IsOk r × Grows 0 d (dictionary_of T')) ⊎ (T.layout ≡ default_layout) × (d.size + first_bytes d.state.tree ≡ slots_of_tree d.state.tree + 255)
+      → (IsOk r × Grows 0 d (dictionary_of limit T')) ⊎ (T.layout ≡ default_layout) × (d.size + first_bytes d.state.tree ≡ slots_of_tree d.state.tree + 255)
   at_one_byte well b made absent = elim (made (subst (λ (t : Tree). has_label t.children b ≡ false) same_tree absent)) [
     | inl m ↦ inl (is_ok_of r m.0, grows_by 0 m.1)
     | inr full ↦ inr (full.0, subst (λ (x : Dictionary). x.size + first_bytes x.state.tree ≡ slots_of_tree x.state.tree + 255) same (full_blocks_counted slots T well full.0 full.1))
   ]
 
   -- how few slots stay free
-  pub packs_update : IsWellFormed slots T → IsWellFormed slots T' → PacksKey T T' key → PacksUpdate d (dictionary_of T') key
-  packs_update well well' packs = subst (λ (x : Dictionary). PacksUpdate x (dictionary_of T') key) same (by_case packs)
+  pub packs_update : IsWellFormed slots T → IsWellFormed slots T' → PacksKey T T' key → PacksUpdate d (dictionary_of limit T') key
+  packs_update well well' packs = subst (λ (x : Dictionary). PacksUpdate x (dictionary_of limit T') key) same (by_case packs)
     where
-      by_case : PacksKey T T' key → PacksUpdate (dictionary_of T) (dictionary_of T') key
+      by_case : PacksKey T T' key → PacksUpdate (dictionary_of limit T) (dictionary_of limit T') key
       by_case (inl (inl few)) = inl few
       by_case (inl (inr free)) = inr (inl (omega (arith, free (tree_of T').children well'.stands, count_is_marked slots T' well')))
       by_case (inr full) = inr (inr (omega (arith, full_held slots T (tree_of T).children well.table well.stands full.0, count_is_marked slots T well), full.1, full.2))

@@ -39,6 +39,7 @@ pub record IsErasure (before after : Dictionary) (key : List ℕ) (held : Bool) 
   pub marked : IsMarked after
   pub size : (after.size ≡ before.size) × (after.capacity ≡ before.capacity)
   pub max_trial : after.max_trial ≡ before.max_trial
+  pub search_limit : after.search_limit ≡ before.search_limit
 
 -- a key is held, and this is its node
 pub record IsFound (d : Dictionary) (key : List ℕ) (found : Found) : Type 0 where

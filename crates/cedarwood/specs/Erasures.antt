@@ -38,6 +38,7 @@ pub record IsErasedUnder (before after : Dictionary) (q : List ℕ) (n : ℕ) : 
   pub marked : IsMarked after
   pub size : (after.size ≡ before.size) × (after.capacity ≡ before.capacity)
   pub max_trial : after.max_trial ≡ before.max_trial
+  pub search_limit : after.search_limit ≡ before.search_limit
 
 -- no key is held any more; the slots in use, those there are and the settings are as they were
 pub record IsCleared (before after : Dictionary) : Type 0 where
@@ -46,3 +47,4 @@ pub record IsCleared (before after : Dictionary) : Type 0 where
   pub ordered : after.state.ordered ≡ before.state.ordered
   pub size : (after.size ≡ before.size) × (after.capacity ≡ before.capacity)
   pub max_trial : after.max_trial ≡ before.max_trial
+  pub search_limit : after.search_limit ≡ before.search_limit

@@ -10,12 +10,13 @@ use Rattle.cedar_model.specs.Table.Layouts.{LayoutKind}
 use Rattle.cedarwood.specs.declared.builder.CedarBuilder.{CedarBuilder}
 use Rattle.cedarwood.specs.declared.error.CedarError.{CedarError}
 use Rattle.cedarwood.specs.declared.error.CedarError.TheVariants.{Memory, SlotLimit}
-use Rattle.cedarwood.specs.Dictionary.{capacity_after, Dictionary, first_bytes, held_slots}
+use Rattle.cedarwood.specs.Dictionary.{capacity_after, Dictionary, first_bytes}
+use Rattle.cedarwood.specs.Dictionary.{held_slots, no_search_limit}
 use Rattle.cedarwood.specs.SortedInput.{fault_from}
 
--- labels ascend, and one failed search closes a block
+-- labels ascend, one failed search closes a block, and one search may try each block that there can be
 abbrev pub default_settings : CedarBuilder
-default_settings = record { ordered = true; max_trial = pos 1; tried = ≤ℤ_refl (pos 1) }
+default_settings = record { ordered = true; max_trial = pos 1; search_limit = no_search_limit; tried = ≤ℤ_refl (pos 1) }
 
 -- an empty dictionary with these settings, of one block
 pub record IsEmpty (settings : CedarBuilder) (d : Dictionary) : Type 0 where
@@ -23,6 +24,7 @@ pub record IsEmpty (settings : CedarBuilder) (d : Dictionary) : Type 0 where
   pub unmarked : d.marked ≡ empty_tree
   pub ordered : d.state.ordered ≡ settings.ordered
   pub max_trial : d.max_trial ≡ settings.max_trial
+  pub search_limit : d.search_limit ≡ settings.search_limit
   pub size : (d.size ≡ 256) × (d.capacity ≡ 256)
 
 -- a new one, or there was no memory for it
@@ -42,6 +44,7 @@ pub record IsSorted (layout : LayoutKind) (settings : CedarBuilder) (pairs : Lis
   pub marks : SortedMarks layout (asc pairs) d.marked
   pub ordered : d.state.ordered ≡ settings.ordered
   pub max_trial : d.max_trial ≡ settings.max_trial
+  pub search_limit : d.search_limit ≡ settings.search_limit
   pub size : (n : ℕ) × (n ≤ length (prefixes (asc pairs))) × (d.size ≡ 256 + 256 * n) × (d.capacity ≡ capacity_after n 256 256)
   -- at most 255 slots outside the first block are free, and 256 others for each node below the root that takes several
   pub packed : d.size + first_bytes (asc pairs) ≤ held_slots d + 510 + 256 * count_crowded (asc pairs)

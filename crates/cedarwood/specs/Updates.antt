@@ -48,3 +48,4 @@ pub record IsUpdate (layout : LayoutKind) (slots : ℕ) (before after : Dictiona
   -- one slot alone is taken wherever one is free outside the first block
   pub packs : OnOk result (PacksUpdate before after key)
   pub max_trial : after.max_trial ≡ before.max_trial
+  pub search_limit : after.search_limit ≡ before.search_limit

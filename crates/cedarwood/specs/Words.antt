@@ -40,7 +40,8 @@ pub use Rattle.cedarwood.specs.Cursors.{Cursor, cursor_code, cursor_entries, cur
 pub use Rattle.cedarwood.specs.Cursors.{IsAtEnd, IsCursorEnd, IsCursorPlace, IsShortOf}
 pub use Rattle.cedarwood.specs.Cursors.{place_before, WritesNextKey}
 pub use Rattle.cedarwood.specs.Dictionary.{AreSameFigures, capacity_after, Dictionary}
-pub use Rattle.cedarwood.specs.Dictionary.{dictionary_code, first_bytes, Grows, IsMarked, IsValid}
+pub use Rattle.cedarwood.specs.Dictionary.{dictionary_code, first_bytes, Grows, IsMarked}
+pub use Rattle.cedarwood.specs.Dictionary.{IsValid, no_search_limit}
 pub use Rattle.cedarwood.specs.Ends.{first_entry, last_entry}
 pub use Rattle.cedarwood.specs.Erasures.{all_erased, entries_without, erased_under, IsCleared}
 pub use Rattle.cedarwood.specs.Erasures.{IsErasedUnder, MarksCutUnder}
@@ -54,7 +55,7 @@ pub use Rattle.cedarwood.specs.Memory.{CedarFitsInMemory, ReducedFitsInMemory}
 pub use Rattle.cedarwood.specs.OnTable.{dictionary_of, IsOnTable}
 pub use Rattle.cedarwood.specs.RangeWalks.{entries_between, entries_left_before, GivesBetween}
 pub use Rattle.cedarwood.specs.RangeWalks.{GivesRange, IsEnd, IsRangePlace}
-pub use Rattle.cedarwood.specs.Room.{LacksRoom}
+pub use Rattle.cedarwood.specs.Room.{LacksRoom, SetsSearchLimit}
 pub use Rattle.cedarwood.specs.Saves.{IsSavedAt, IsUnsavedAt}
 pub use Rattle.cedarwood.specs.Saving.{FailsToWrite, PassesAgain}
 pub use Rattle.cedarwood.specs.Shown.{entry_error_text, error_text, refused_pair_text, shown_text}

@@ -48,8 +48,9 @@ impl<L: Layout, const SLOTS: usize, A: Allocator + Copy> Trie<L, SLOTS, A> {
         ensures stored { OnOk result (self.new.state ≡ all_stored self.old.state (entries_of pairs.now)) }
         ensures refused { IfErr result (λ refusal. self.new.state ≡ all_stored self.old.state (take refusal.index (entries_of pairs.now))) }
 
-        //= `max_trial` doesn't change.
+        //= `max_trial` and the search limit don't change. [with search_limit]
         ensures max_trial { self.new.max_trial ≡ self.old.max_trial }
+        ensures search_limit { self.new.search_limit ≡ self.old.search_limit }
     {
         for index in 0..pairs.len() {
             if index % LANES == 0 {
@@ -98,9 +99,10 @@ impl<L: Layout, const SLOTS: usize, A: Allocator + Copy> Trie<L, SLOTS, A> {
         ensures answers { answers.new ≡ held_in_turn self.old.state (take (length answers.old) (keys_of keys.now)) ++ drop (length keys.now) answers.old }
         ensures after { self.new.state ≡ keys_erased self.old.state (take (length answers.old) (keys_of keys.now)) }
 
-        //= It doesn't change the slots in use, the slots that there are, and `max_trial`. [with max_trial]
+        //= It doesn't change the slots in use, the slots that there are, `max_trial`, and the search limit. [with max_trial, search_limit]
         ensures size { (self.new.size ≡ self.old.size) × (self.new.capacity ≡ self.old.capacity) }
         ensures max_trial { self.new.max_trial ≡ self.old.max_trial }
+        ensures search_limit { self.new.search_limit ≡ self.old.search_limit }
     {
         let count = keys.len().min(answers.len());
         // Nothing that an erasure does makes slots.

@@ -37,8 +37,9 @@ impl<L: Layout, const SLOTS: usize, A: Allocator + Copy> Trie<L, SLOTS, A> {
         ensures stored { OnOk result (self.new.state ≡ all_stored self.old.state (entries_of pairs.now)) }
         ensures refused { first_fault (entries_of pairs.now) ≡ None → IfErr result (IsRefusedBuild SLOTS self.old self.new (entries_of pairs.now)) }
 
-        //= `max_trial` doesn't change. [also build]
+        //= `max_trial` and the search limit don't change. [with search_limit; also build]
         ensures max_trial { self.new.max_trial ≡ self.old.max_trial }
+        ensures search_limit { self.new.search_limit ≡ self.old.search_limit }
     {
         self.store_all(pairs)
     }
@@ -59,6 +60,7 @@ impl<L: Layout, const SLOTS: usize, A: Allocator + Copy> Trie<L, SLOTS, A> {
         ensures stored { OnOk result (self.new.state ≡ all_stored self.old.state (entries_of pairs.now)) }
         ensures refused { first_fault (entries_of pairs.now) ≡ None → IfErr result (IsRefusedBuild SLOTS self.old self.new (entries_of pairs.now)) }
         ensures max_trial { self.new.max_trial ≡ self.old.max_trial }
+        ensures search_limit { self.new.search_limit ≡ self.old.search_limit }
     {
         self.store_all(pairs)
     }

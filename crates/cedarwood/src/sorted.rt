@@ -141,6 +141,7 @@ impl<L: Layout, const SLOTS: usize, A: Allocator + Copy> Trie<L, SLOTS, A> {
         check_sorted(pairs)?;
         Ok(Trie {
             table: build_sorted(alloc, builder.ordered, builder.max_trial, pairs)?,
+            search_limit: builder.search_limit,
         })
     }
 }

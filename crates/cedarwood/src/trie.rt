@@ -5,9 +5,9 @@ ghost use Rattle.std.specs.Prelude.{IsTrue, length, None, pos, true};
 ghost use Rattle.cedarwood.specs.Words.{after_erase, CedarFitsInMemory, default_layout};
 ghost use Rattle.cedarwood.specs.Words.{default_settings, entries_of, exact, IsLimit, IsMarked};
 ghost use Rattle.cedarwood.specs.Words.{IsNew, IsOnTable, IsRenewed, IsSortedBuild, IsSound};
-ghost use Rattle.cedarwood.specs.Words.{IsUpdate, IsValid, marks, MarksCut, most_slots, number_at};
-ghost use Rattle.cedarwood.specs.Words.{prefixes, reduced_layout, ReducedFitsInMemory};
-ghost use Rattle.cedarwood.specs.Words.{slots_of_tree, value_fault, walk};
+ghost use Rattle.cedarwood.specs.Words.{IsUpdate, IsValid, marks, MarksCut, most_slots};
+ghost use Rattle.cedarwood.specs.Words.{no_search_limit, number_at, prefixes, reduced_layout};
+ghost use Rattle.cedarwood.specs.Words.{ReducedFitsInMemory, slots_of_tree, value_fault, walk};
 
 use crate::builder::CedarBuilder;
 use crate::counted::search_uncounted;
@@ -22,11 +22,13 @@ use std::sync::ledger::{Blank, Ledger};
 /// power of two from 256 to 2^30).
 ///
 /// A contract sees its state, the labelled tree that its results come from and whether the labels of each node ascend; the tree with only
-/// those numbers that have slots of their own; how many failed searches close a block; how many slots are in use, and how many there are;
-/// and the table, which is what a file has of it.
+/// those numbers that have slots of their own; how many failed searches close a block, and how many blocks one search tries at most; how
+/// many slots are in use, and how many there are; and the table, which is what a file has of it.
 #[derive(Drop)]
 pub struct Trie<L: Layout, const SLOTS: usize, A: Allocator> {
     pub(crate) table: Table<L, SLOTS, A>,
+    /// How many open blocks one search for places tries at most. It isn't saved.
+    pub(crate) search_limit: usize,
 }
 
 /// The default dictionary: a value takes a slot of its own, and there may be 2^30 slots.
@@ -49,6 +51,7 @@ impl<L: Layout, const SLOTS: usize, A: Allocator> Model for Trie<L, SLOTS, A> {
       state = record { tree = tree_of (fields t.table); ordered = (fields t.table).ordered };
       marked = marks (fields t.table);
       max_trial = (fields t.table).places.blocks.max_trial;
+      search_limit = t.search_limit;
       size = size_of (fields t.table);
       capacity = capacity_of (fields t.table);
       table = fields t.table;
@@ -99,7 +102,7 @@ impl<A: Allocator + Copy> Trie<DefaultLayout, MOST_SLOTS, A> {
         //  CedarBuilder::from_sorted_bytes_reduced, CedarBuilder::from_sorted_reduced; by tree, asc]
         //= Its settings are the builder's. It makes at most one block for each distinct nonempty prefix, beside the first. [also
         //  from_sorted, from_sorted_bytes_with, from_sorted_with, CedarBuilder::from_sorted_bytes, CedarBuilder::from_sorted,
-        //  CedarBuilder::from_sorted_bytes_reduced, CedarBuilder::from_sorted_reduced; by ordered, max_trial, size]
+        //  CedarBuilder::from_sorted_bytes_reduced, CedarBuilder::from_sorted_reduced; by ordered, max_trial, search_limit, size]
         //= At most 255 slots outside the first block are free, and 256 others for each node below the root that takes several slots: for
         //  several labels, or for a number and a label. [also
         //  from_sorted, from_sorted_bytes_with, from_sorted_with, CedarBuilder::from_sorted_bytes, CedarBuilder::from_sorted,
@@ -140,6 +143,7 @@ impl<A: Allocator + Copy> Trie<DefaultLayout, MOST_SLOTS, A> {
     pub fn builder() -> CedarBuilder
         ensures ordered { result.ordered ≡ true }
         ensures max_trial { result.max_trial ≡ pos 1 }
+        ensures search_limit { result.search_limit ≡ no_search_limit }
     {
         CedarBuilder::new()
     }
@@ -203,6 +207,7 @@ impl<A: Allocator + Copy> Trie<ReducedLayout, MOST_SLOTS, A> {
     pub fn builder() -> CedarBuilder
         ensures ordered { result.ordered ≡ true }
         ensures max_trial { result.max_trial ≡ pos 1 }
+        ensures search_limit { result.search_limit ≡ no_search_limit }
     {
         CedarBuilder::default()
     }
@@ -224,6 +229,7 @@ impl<L: Layout, const SLOTS: usize, A: Allocator + Copy> Trie<L, SLOTS, A> {
     {
         Ok(Trie {
             table: Table::new(alloc, builder.ordered, builder.max_trial)?,
+            search_limit: builder.search_limit,
         })
     }
 
@@ -323,7 +329,8 @@ impl<L: Layout, const SLOTS: usize, A: Allocator + Copy> Trie<L, SLOTS, A> {
         //= One slot alone is taken wherever one is free outside the first block. So an update makes at most one block if another key has
         //  the first byte, and none otherwise; unless at most 255 slots outside the first block are free then, or none was before. [also
         //  update; by packs, PacksUpdate]
-        //= `max_trial` doesn't change. [also update, erase_bytes.max_trial, erase.max_trial; by max_trial]
+        //= `max_trial` and the search limit don't change. [also update, erase_bytes.max_trial.search_limit, erase.max_trial.search_limit; by
+        //  max_trial, search_limit]
         //= In the reduced layout an update of a new key marks its held proper prefixes, and the key if it is a prefix of a held one. What
         //  was marked stays marked. An update of a held key doesn't change the marks. [also update; by marks, MarksPut]
         //= A refused update doesn't change the marks, and so not the held slots. [also update; by marks_stay, err]
@@ -366,6 +373,7 @@ impl<L: Layout, const SLOTS: usize, A: Allocator + Copy> Trie<L, SLOTS, A> {
         ensures marked { IsMarked self.new }
         ensures size { (self.new.size ≡ self.old.size) × (self.new.capacity ≡ self.old.capacity) }
         ensures max_trial { self.new.max_trial ≡ self.old.max_trial }
+        ensures search_limit { self.new.search_limit ≡ self.old.search_limit }
     {
         erase(&mut self.table, key)
     }
@@ -384,6 +392,7 @@ impl<L: Layout, const SLOTS: usize, A: Allocator + Copy> Trie<L, SLOTS, A> {
         ensures marked { IsMarked self.new }
         ensures size { (self.new.size ≡ self.old.size) × (self.new.capacity ≡ self.old.capacity) }
         ensures max_trial { self.new.max_trial ≡ self.old.max_trial }
+        ensures search_limit { self.new.search_limit ≡ self.old.search_limit }
     {
         self.erase_bytes(key.as_bytes())
     }
@@ -525,6 +534,21 @@ impl<L: Layout, const SLOTS: usize, A: Allocator + Copy> Trie<L, SLOTS, A> {
         ensures { result ≡ (self.now.capacity - self.now.size) / 256 }
     {
         self.table.spare_blocks()
+    }
+
+    /// Returns how many blocks of slots one search for places tries at most.
+    ///
+    /// ```
+    /// assert_eq!(rt; cedar.search_limit(), usize::MAX);
+    /// cedar.set_search_limit(64);
+    /// assert_eq!(rt; cedar.search_limit(), 64);
+    /// ```
+    #[must_use]
+    pub fn search_limit(&self) -> usize
+        //= `search_limit` returns how many blocks one search tries at most: what was set last.
+        ensures { result ≡ self.now.search_limit }
+    {
+        self.search_limit
     }
 
     /// Says that its table is well-formed, and that the state, the marks, the settings and the sizes that a contract sees of it are

@@ -47,6 +47,7 @@ fn add_rest<L: Layout, const SLOTS: usize, A: Allocator>(
     key: &[u8],
     front: usize,
     known: usize,
+    search_limit: usize,
 ) -> Result<usize, Shortage>
     requires well_formed { IsWellFormed SLOTS (fields table.old) }
     requires key { IsKey key.now }
@@ -59,7 +60,7 @@ fn add_rest<L: Layout, const SLOTS: usize, A: Allocator>(
     ensures packs { OnOk result (StaysSmall (size_of (fields table.old) + 256 * cond (known == 0) 0 1) (fields table.new)) }
     ensures refused { IfErr result (TakenBack SLOTS (fields table.old) (fields table.new) key.now) }
 {
-    let mut node = match follow_or_add(table, front, key[known]) {
+    let mut node = match follow_or_add(table, front, key[known], search_limit) {
         Ok(child) => child,
         Err(error) => {
             trim(table, front);
@@ -84,6 +85,7 @@ fn add_rest<L: Layout, const SLOTS: usize, A: Allocator>(
 fn walk_in<L: Layout, const SLOTS: usize, A: Allocator>(
     table: &mut Table<L, SLOTS, A>,
     key: &[u8],
+    search_limit: usize,
 ) -> Result<usize, Shortage>
     requires well_formed { IsWellFormed SLOTS (fields table.old) }
     requires key { IsKey key.now }
@@ -96,7 +98,7 @@ fn walk_in<L: Layout, const SLOTS: usize, A: Allocator>(
     if length == key.len() {
         return Ok(front);
     }
-    add_rest(table, key, front, length)
+    add_rest(table, key, front, length, search_limit)
 }
 
 /// Puts the number `value` at a key, none of whose proper prefixes keeps its number in its node's own base field. Returns the
@@ -105,6 +107,7 @@ fn put_along<L: Layout, const SLOTS: usize, A: Allocator>(
     table: &mut Table<L, SLOTS, A>,
     key: &[u8],
     value: i32,
+    search_limit: usize,
 ) -> Result<Option<i32>, Shortage>
     requires well_formed { IsWellFormed SLOTS (fields table.old) }
     requires key { IsKey key.now }
@@ -116,10 +119,10 @@ fn put_along<L: Layout, const SLOTS: usize, A: Allocator>(
     ensures new_mark { OnOk result (NewMark (fields table.old) (fields table.new) key.now) }
     ensures lacking { TakesNewNode (fields table.old) (fields table.new) key.now result }
 {
-    let end = walk_in(table, key)?;
+    let end = walk_in(table, key, search_limit)?;
     let held = table.number_of(end);
     let is_new = held.is_none();
-    if let Err(error) = put_number(table, end, value) {
+    if let Err(error) = put_number(table, end, value, search_limit) {
         trim(table, end);
         return Err(error);
     }
@@ -137,6 +140,7 @@ pub fn update<L: Layout, const SLOTS: usize, A: Allocator>(
     table: &mut Table<L, SLOTS, A>,
     key: &[u8],
     value: i32,
+    search_limit: usize,
 ) -> Result<Option<i32>, Shortage>
     requires well_formed { IsWellFormed SLOTS (fields table.old) }
     requires key { IsKey key.now }
@@ -172,7 +176,7 @@ pub fn update<L: Layout, const SLOTS: usize, A: Allocator>(
     ensures marks_put { OnOk result (PutsInMarks (fields table.old) (fields table.new) key.now) }
 {
     let moved = make_way(table, key)?;
-    match put_along(table, key, value) {
+    match put_along(table, key, value, search_limit) {
         Ok(held) => Ok(held),
         Err(error) => {
             close_way(table, key, moved);

@@ -1,9 +1,10 @@
 //! Files by their paths, through a buffer.
 
+ghost use Rattle.std.specs.Prelude.{◌≡◌};
 ghost use Rattle.cedarwood.specs.Words.{default_load_limit, FailsToWrite, IfErr, IfOk, IsLimit};
 ghost use Rattle.cedarwood.specs.Words.{IsSavedAt, IsTableFile, IsUnsavedAt, IsWellFormed};
-ghost use Rattle.cedarwood.specs.Words.{LacksByPath, layout_byte, LoadsOpened, OnOk, PassesAgain};
-ghost use Rattle.cedarwood.specs.Words.{table_bytes};
+ghost use Rattle.cedarwood.specs.Words.{LacksByPath, layout_byte, LoadsOpened, no_search_limit};
+ghost use Rattle.cedarwood.specs.Words.{OnOk, PassesAgain, table_bytes};
 
 use crate::persistence::replace::no_room;
 use crate::{
@@ -151,6 +152,7 @@ impl<L: Layout, const SLOTS: usize, A: Allocator + Copy> Trie<L, SLOTS, A> {
         //= In a load by path, lack of memory is of the buffer's 8192 bytes, or of one of the four lists of a header that has passed, under
         //  the limit that the load was given. [also load_from_path; by LacksByPath]
         ensures lacks { IfErr result (LacksByPath (layout_byte L.kind) SLOTS memory_limit) }
+        ensures unbounded { IfOk result (λ trie. trie.search_limit ≡ no_search_limit) }
     {
         let file = File::open(files, path)?;
         Self::load_opened(alloc, file, memory_limit)
@@ -168,6 +170,7 @@ impl<L: Layout, const SLOTS: usize, A: Allocator + Copy> Trie<L, SLOTS, A> {
         //  only with just the file's bytes, as far as they are known, and these decide the result; or there was no memory for the buffer.
         //  No contract of the system's files says which bytes these are. [by LoadsOpened]
         ensures loads { LoadsOpened (λ trie. trie.table) L.kind SLOTS memory_limit (R.remaining file) result }
+        ensures unbounded { IfOk result (λ trie. trie.search_limit ≡ no_search_limit) }
     {
         let Ok(buffered) = BufReader::new(alloc, file) else {
             return Err(no_room());
@@ -193,6 +196,7 @@ impl<L: Layout, const SLOTS: usize, A: Allocator + Copy> Trie<L, SLOTS, A> {
         requires limit { IsLimit SLOTS }
         ensures formed { IfOk result (λ trie. IsWellFormed SLOTS trie.table) }
         ensures lacks { IfErr result (LacksByPath (layout_byte L.kind) SLOTS default_load_limit) }
+        ensures unbounded { IfOk result (λ trie. trie.search_limit ≡ no_search_limit) }
     {
         Self::load_from_path_with_limit(alloc, files, path, DEFAULT_LOAD_MEMORY_LIMIT)
     }

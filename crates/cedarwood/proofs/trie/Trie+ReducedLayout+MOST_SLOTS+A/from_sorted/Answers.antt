@@ -7,4 +7,4 @@ use Rattle.cedarwood.proofs.trie.Trie+ReducedLayout+MOST_SLOTS+A.from_sorted.Goa
 pub returns-clause-built : goal.returns-clause-built
 returns-clause-built g c =
     let s = c.builder in
-    built_alike s.result default_settings s.ensures.ordered s.ensures.max_trial reduced_layout 1073741824 (entries_of c.args.pairs.now) c.from_sorted_reduced.result c.from_sorted_reduced.ensures.built
+    built_alike s.result default_settings s.ensures.ordered s.ensures.max_trial s.ensures.search_limit reduced_layout 1073741824 (entries_of c.args.pairs.now) c.from_sorted_reduced.result c.from_sorted_reduced.ensures.built

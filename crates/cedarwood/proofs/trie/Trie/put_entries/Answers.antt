@@ -13,7 +13,7 @@ loop-left-init g c =
     let places = c.args.places.now in
     record {
       within = omega arith;
-      back = subst (λ (ps : List Numbered). IsPutBack g.L.Layout.kind c.args.self.now.state.ordered c.args.self.now.max_trial (map (entry_of T) ps) c.args.self.now) (sym (drop_all (length places) places (omega arith))) c.requires.empty;
+      back = subst (λ (ps : List Numbered). IsPutBack g.L.Layout.kind c.args.self.now.state.ordered c.args.self.now.max_trial c.args.self.now.search_limit (map (entry_of T) ps) c.args.self.now) (sym (drop_all (length places) places (omega arith))) c.requires.empty;
     }
 
 -- what follows the places
@@ -38,7 +38,7 @@ loop-left-preserved g c =
     let fine = place_fault g.T.Walked.slots T c.requires.well_formed (get_or places i blank) (all_at (IsEntryPlace T) places i blank inside c.requires.places.each) in
     record {
       within = omega (arith, c.loop-left.invariant.within);
-      back = turn_put g.L.Layout.kind g.row.SLOTS c.args.self.now.state.ordered c.args.self.now.max_trial T places left i blank c.loop-left.self c.put_entry.new.trie next inside fine c.loop-left.invariant.back
+      back = turn_put g.L.Layout.kind g.row.SLOTS c.args.self.now.state.ordered c.args.self.now.max_trial c.args.self.now.search_limit T places left i blank c.loop-left.self c.put_entry.new.trie next inside fine c.loop-left.invariant.back
           c.put_entry.result c.put_entry.ensures c.in_ok-put_entry.was;
     }
 
@@ -52,7 +52,7 @@ returns-in_err-put_entry g c =
     let inside : i < length places = omega (arith, c.loop-left.invariant.within, c.loop-left-test.true) in
     let fine = place_fault g.T.Walked.slots T c.requires.well_formed (get_or places i blank) (all_at (IsEntryPlace T) places i blank inside c.requires.places.each) in
     let error = c.in_err-put_entry.field-0.0 in
-    let why = turn_refused g.L.Layout.kind g.row.SLOTS c.args.self.now.state.ordered c.args.self.now.max_trial T places left i blank c.loop-left.self c.put_entry.new.trie next inside fine c.loop-left.invariant.back
+    let why = turn_refused g.L.Layout.kind g.row.SLOTS c.args.self.now.state.ordered c.args.self.now.max_trial c.args.self.now.search_limit T places left i blank c.loop-left.self c.put_entry.new.trie next inside fine c.loop-left.invariant.back
     c.put_entry.result c.put_entry.ensures error c.in_err-put_entry.was in
     let p = err_from_is_err_and c.from_residual.result c.from_residual.ensures.1 in
     lacking _ (LacksPlaces g.row.SLOTS (map (entry_of T) places)) c.from_residual.result error (p.1 ∙ ap Err p.2) why
@@ -60,4 +60,4 @@ returns-in_err-put_entry g c =
 pub returns : goal.returns
 returns g c =
     let T = g.T.Walked.shown c.args.from.now in
-    subst (λ n. IsPutBack g.L.Layout.kind c.args.self.now.state.ordered c.args.self.now.max_trial (map (entry_of T) (drop n c.args.places.now)) c.loop-left.self) c.loop-left-test.false c.loop-left.invariant.back
+    subst (λ n. IsPutBack g.L.Layout.kind c.args.self.now.state.ordered c.args.self.now.max_trial c.args.self.now.search_limit (map (entry_of T) (drop n c.args.places.now)) c.loop-left.self) c.loop-left-test.false c.loop-left.invariant.back
