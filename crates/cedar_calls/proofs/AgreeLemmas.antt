@@ -70,6 +70,7 @@ change_alike s (change.Renew x) (change.Renew y) h = (refl, ap (λ o. state_with
 change_alike s (change.Build p) (change.Build q) h = (ap (λ es. unless_fault (first_fault es) done) h, ap (λ es. kept_at_fault (first_fault es) s (all_stored s es)) h)
 change_alike s (change.UpdateBatch p) (change.UpdateBatch q) h = (ap (batch_says 0) h, ap (λ es. all_stored s (faultless_front es)) h)
 change_alike s (change.Reserve n) (change.Reserve m) h = (refl, refl)
+change_alike s (change.SetSearchLimit n) (change.SetSearchLimit m) h = (refl, refl)
 change_alike s c d h = absurd h
 
 reply_alike : (b : Bool) (s : State) (q r : Question) → IsSameQuestion q r → reply_says b s q ≡ reply_says b s r

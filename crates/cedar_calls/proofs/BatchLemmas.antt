@@ -32,4 +32,4 @@ all_filled f keys n before after held count room size h =
 
 -- nothing changes if there is no memory to say what was held
 pub none_erased : {A : Type 0} (d : Dictionary) (keys : List (List ℕ)) → 0 < length keys → IsErasedBatch {A = A} d d keys (Err Memory)
-none_erased d keys some = record { erasures = tt; held = tt; state = tt; size = (refl, refl); max_trial = refl; refused = (refl, refl, some) }
+none_erased d keys some = record { erasures = tt; held = tt; state = tt; size = (refl, refl); max_trial = refl; search_limit = refl; refused = (refl, refl, some) }

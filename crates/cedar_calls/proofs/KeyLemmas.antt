@@ -101,6 +101,7 @@ key_goes s change.Clear q sound = number_at-empty q
 key_goes s change.Shrink q sound = refl
 key_goes s (change.Renew settings) q sound = number_at-empty q
 key_goes s (change.Reserve n) q sound = refl
+key_goes s (change.SetSearchLimit n) q sound = refl
 key_goes s (change.UpdateBatch pairs) q sound = all_go s (faultless_front (entries_of pairs.now)) q
 key_goes s (change.Build pairs) q sound = at_fault (first_fault (entries_of pairs.now)) s (all_stored s (entries_of pairs.now)) q (last_at q (number_at s.tree q) (entries_of pairs.now)) (all_go s (entries_of pairs.now) q)
 

@@ -73,6 +73,7 @@ module _ (key : List ℕ) where
   held_goes layout slots d e (change.UpdateBatch pairs) (changed.UpdatedBatch (Err x)) sound h =
       (h.updates.within, ap (λ s. number_at s.tree key) h.refused ∙ all_go d.state (take x.index (entries_of pairs.now)) key)
   held_goes layout slots d e (change.Reserve n) (changed.Reserved x) sound h = ap (λ s. number_at s.tree key) h.state
+  held_goes layout slots d e (change.SetSearchLimit n) changed.SearchLimitSet sound h = ap number_in h
   held_goes layout slots d e c a sound h = absurd h
 
   -- ---- a further dictionary

@@ -22,7 +22,7 @@ use Rattle.cedar_calls.specs.Replies.{IsReply}
 use Rattle.cedar_calls.specs.Plain.{batch_says, comparable_count, counted, done, ended, faultless_front, faulty_at, found, held, held_each, slots_held_of_tree, listed, matched, measured, selected, numbered, walked, was, worded, change_says, changed_state, is_none_left, IsMet, kept_at_fault, refused_at, reply_says, plain_batch, plain_effect, plain_reply, plain_result, unless_fault}
 use Rattle.cedar_calls.specs.declared.call.Change.{Change}
 use Rattle.cedar_calls.specs.declared.call.Change.TheVariants as change
-use Rattle.cedar_calls.specs.declared.call.Figure.TheVariants.{AllocatedBytes, Capacity, SpareBlocks, UsedSlots}
+use Rattle.cedar_calls.specs.declared.call.Figure.TheVariants.{AllocatedBytes, Capacity, SearchLimit, SpareBlocks, UsedSlots}
 use Rattle.cedar_calls.specs.declared.call.Question.{Question}
 use Rattle.cedar_calls.specs.declared.call.Question.TheVariants as question
 use Rattle.cedar_calls.specs.declared.answer.Changed.{Changed}
@@ -173,6 +173,7 @@ change_goes layout slots d d' (change.Build pairs) (changed.Built r) h met = bui
 change_goes layout slots d d' (change.UpdateBatch pairs) (changed.UpdatedBatch r) h met = batch_goes layout slots d d' (entries_of pairs.now) r h met
 change_goes layout slots d d' (change.Reserve n) (changed.Reserved (Ok x)) h met = (refl, h.state)
 change_goes layout slots d d' (change.Reserve n) (changed.Reserved (Err e)) h met = absurd (met (room_short slots d n e h.refused))
+change_goes layout slots d d' (change.SetSearchLimit n) changed.SearchLimitSet h met = (refl, ap (λ (x : Dictionary). x.state) h)
 change_goes layout slots d d' c a h met = absurd h
 
 pub short : (e : CedarError) → e ≡ Memory → IsShortage e
@@ -213,6 +214,7 @@ reply_goes b layout slots d (question.Figure UsedSlots) (reply.Figure n) k h met
 reply_goes b layout slots d (question.Figure Capacity) (reply.Figure n) k h met = refl
 reply_goes b layout slots d (question.Figure AllocatedBytes) (reply.Figure n) k h met = refl
 reply_goes b layout slots d (question.Figure SpareBlocks) (reply.Figure n) k h met = refl
+reply_goes b layout slots d (question.Figure SearchLimit) (reply.Figure n) k h met = refl
 reply_goes b layout slots d question.IsEmpty (reply.IsEmpty x) k h met = ap held (none_same x (walk d.state.tree) h)
 reply_goes b layout slots d question.Stats (reply.Stats stats) k h met =
     ap (λ n. measured n (comparable_count b stats.used_node_slots)) h.entries

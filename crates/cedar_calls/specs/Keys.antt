@@ -42,6 +42,7 @@ held_after key now change.Clear = None
 held_after key now change.Shrink = now
 held_after key now (change.Renew settings) = None
 held_after key now (change.Reserve n) = now
+held_after key now (change.SetSearchLimit n) = now
 held_after key now (change.UpdateBatch pairs) = last_at key now (faultless_front (entries_of pairs.now))
 held_after key now (change.Build pairs) = kept_at_fault (first_fault (entries_of pairs.now)) now (last_at key now (entries_of pairs.now))
 
@@ -86,6 +87,7 @@ IsHeldAfter key now (change.UpdateBatch pairs) (changed.UpdatedBatch result) aft
     MatchResult result (λ _. after ≡ last_at key now (entries_of pairs.now))
     (λ refusal. (refusal.index < length (entries_of pairs.now)) × (after ≡ last_at key now (take refusal.index (entries_of pairs.now))))
 IsHeldAfter key now (change.Reserve n) (changed.Reserved result) after = after ≡ now
+IsHeldAfter key now (change.SetSearchLimit n) changed.SearchLimitSet after = after ≡ now
 IsHeldAfter key now c result after = ⊥
 
 -- a well-formed table whose bytes these are holds this number at the key

@@ -83,13 +83,14 @@ plain_effect (changed.Renewed result) = plain_result (λ _. done) result
 plain_effect (changed.Built result) = plain_result (λ _. done) result
 plain_effect (changed.UpdatedBatch result) = plain_batch result
 plain_effect (changed.Reserved result) = plain_result (λ _. done) result
+plain_effect changed.SearchLimitSet = done
 
 -- how many slots are held, where that is compared: trees alone say it in the default layout
 abbrev pub comparable_count : Bool → ℕ → Option ℕ
 comparable_count true n = Some n
 comparable_count false n = None
 
--- the other figures depend on places
+-- the other figures depend on places or settings
 abbrev pub plain_figure : Bool → Question → ℕ → PlainAnswer
 plain_figure by_default (question.Figure UsedSlots) n = slots_held_of_tree (comparable_count by_default n)
 plain_figure by_default q n = unsaid
@@ -191,6 +192,7 @@ change_says s (change.Renew settings) = done
 change_says s (change.Build pairs) = unless_fault (first_fault (entries_of pairs.now)) done
 change_says s (change.UpdateBatch pairs) = batch_says 0 (entries_of pairs.now)
 change_says s (change.Reserve n) = done
+change_says s (change.SetSearchLimit n) = done
 
 abbrev pub changed_state : State → Change → State
 changed_state s (change.Update key v) = kept_at_fault (fault key.now v) s (after_put s key.now v)
@@ -205,6 +207,7 @@ changed_state s (change.Renew settings) = record { tree = empty_tree; ordered = 
 changed_state s (change.Build pairs) = kept_at_fault (first_fault (entries_of pairs.now)) s (all_stored s (entries_of pairs.now))
 changed_state s (change.UpdateBatch pairs) = all_stored s (faultless_front (entries_of pairs.now))
 changed_state s (change.Reserve n) = s
+changed_state s (change.SetSearchLimit n) = s
 
 -- entries as texts, and nothing in the place of each whose key isn't UTF-8
 abbrev pub text_entries_of : List Entry → List (Option Entry)

@@ -17,7 +17,7 @@ use Rattle.cedarwood.specs.Dictionary.{Dictionary, held_slots}
 use Rattle.cedarwood.specs.declared.figures.MemoryStats.{MemoryStats}
 use Rattle.cedar_calls.specs.declared.call.Figure.{Figure}
 use Rattle.cedar_calls.specs.declared.call.Figure.TheVariants.{AllocatedBytes, Capacity}
-use Rattle.cedar_calls.specs.declared.call.Figure.TheVariants.{SpareBlocks, UsedSlots}
+use Rattle.cedar_calls.specs.declared.call.Figure.TheVariants.{SearchLimit, SpareBlocks, UsedSlots}
 use Rattle.cedar_calls.specs.declared.call.Question.{Question}
 use Rattle.cedar_calls.specs.declared.call.Question.TheVariants as question
 use Rattle.cedar_calls.specs.declared.answer.Reply.{Reply}
@@ -57,6 +57,7 @@ IsFigure layout d UsedSlots n = (n ≡ held_slots d) × (layout ≡ default_layo
 IsFigure layout d Capacity n = n ≡ d.capacity
 IsFigure layout d AllocatedBytes n = n ≡ bytes_of d.capacity
 IsFigure layout d SpareBlocks n = n ≡ (d.capacity - d.size) / 256
+IsFigure layout d SearchLimit n = n ≡ d.search_limit
 
 -- the figures, all from one moment
 pub record AreStats (layout : LayoutKind) (d : Dictionary) (stats : MemoryStats) : Type 0 where

@@ -101,6 +101,7 @@ fn figure_of<L: Layout, const SLOTS: usize, A: Allocator + Copy>(
         Figure::Capacity => trie.node_capacity(),
         Figure::AllocatedBytes => trie.allocated_bytes(),
         Figure::SpareBlocks => trie.spare_blocks(),
+        Figure::SearchLimit => trie.search_limit(),
     }
 }
 

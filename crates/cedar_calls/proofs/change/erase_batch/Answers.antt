@@ -39,5 +39,6 @@ returns g c =
       state = e.after ∙ ap (keys_erased state) all;
       size = e.size;
       max_trial = e.max_trial;
+      search_limit = e.search_limit;
       refused = tt;
     }
