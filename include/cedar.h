@@ -248,6 +248,15 @@ uint32_t cedar_reserve(cedar_dictionary *d, size_t blocks);
  * block. After an error nothing has changed. */
 uint32_t cedar_shrink(cedar_dictionary *d);
 
+/* Lets one search for places try so many blocks of slots at most; a search that has failed in so many puts a new block into use. At first
+ * nothing bounds a search (SIZE_MAX), and an update after many erasures may take milliseconds, since it tries each block that they opened.
+ * With a bound it doesn't, and may take some more slots. No result depends on it unless memory or slots run out. A copy has the same bound,
+ * and cedar_shrink keeps it; no file has it. cedar_build and its kin search without a bound. Does nothing if *d is closed. */
+void cedar_set_search_limit(cedar_dictionary *d, size_t blocks);
+
+/* Returns how many blocks of slots one search for places tries at most. 0 if closed. */
+size_t cedar_search_limit(const cedar_dictionary *d);
+
 /* A key that was found: its value, and the number of bytes of the whole key. */
 typedef struct cedar_match {
     int32_t value;

@@ -293,6 +293,17 @@ public:
     /// takes at most one for each byte of its key.
     void reserve(std::size_t blocks) { detail::check(cedar_reserve(&inside_, blocks)); }
 
+    /// Lets one search for places try so many blocks of slots at most. At first nothing bounds it, and an update after many erasures may
+    /// take milliseconds; with a bound it doesn't, and may take some more slots. No result depends on it unless memory or slots run out. A
+    /// clone has the same bound, and shrink_to_fit keeps it; no file has it.
+    void set_search_limit(std::size_t blocks) noexcept { cedar_set_search_limit(&inside_, blocks); }
+
+    /// Returns how many blocks of slots one search for places tries at most: SIZE_MAX if nothing bounds it, and 0 if closed.
+    std::size_t search_limit() const noexcept {
+        const cedar_dictionary mine = inside_;
+        return cedar_search_limit(&mine);
+    }
+
     /// Returns the keys that are prefixes of a text, shortest first: for each its value, and its length in bytes. It goes along the text
     /// once, or if there are 64 or more about twice.
     std::vector<match> prefixes(std::string_view text) const {

@@ -29,6 +29,10 @@ marks_in h = option_map (λ a. (dictionary_in a).marked) (content h)
 abbrev pub trials_in : Handle → Option ℤ
 trials_in h = option_map (λ a. (dictionary_in a).max_trial) (content h)
 
+-- how many blocks one search for places in it tries at most
+abbrev pub search_limit_in : Handle → Option ℕ
+search_limit_in h = option_map (λ a. (dictionary_in a).search_limit) (content h)
+
 abbrev pub content_tree : Option AnyCedar → Tree
 content_tree None = empty_tree
 content_tree (Some a) = (dictionary_in a).state.tree

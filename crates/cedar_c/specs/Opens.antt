@@ -3,7 +3,7 @@ use Rattle.std.specs.Prelude.{◌≡◌, ◌≢◌, ◌⊎◌, ◌↔◌, ◌≤
 use Rattle.std.specs.Prelude.{List, None, Some, IfSome}
 use Rattle.cedarwood.specs.Format.{header_answer}
 use Rattle.cedarwood.specs.Layouts.{LayoutKind, layout_byte}
-use Rattle.cedarwood.specs.Words.{IsEmpty, IsOnTable, IsSorted}
+use Rattle.cedarwood.specs.Words.{IsEmpty, IsOnTable, IsSorted, no_search_limit}
 use Rattle.cedarwood.specs.Limits.{most_slots}
 use Rattle.cedarwood.specs.declared.builder.CedarBuilder.{CedarBuilder}
 use Rattle.cedar_c.specs.Content.{content, layout_in}
@@ -19,7 +19,7 @@ use Rattle.cedar_c.specs.declared.status.TheConstants.{FILE_CORRUPT, FILE_UNREAD
 
 -- if OK is returned, the handle is opened with an empty dictionary of a layout and settings, in place of what it had; else it is as it was
 pub record OpensNew (kind : LayoutKind) (ordered : Bool) (trials : ℤ) (before after : Handle) (status : ℕ) : Type 0 where
-  pub made : status ≡ OK → (settings : CedarBuilder) × (settings.ordered ≡ ordered) × (settings.max_trial ≡ trials)
+  pub made : status ≡ OK → (settings : CedarBuilder) × (settings.ordered ≡ ordered) × (settings.max_trial ≡ trials) × (settings.search_limit ≡ no_search_limit)
       × ((a : AnyCedar) × (content after ≡ Some a) × IsEmpty settings (dictionary_in a))
   pub layout : status ≡ OK → layout_in after ≡ Some kind
   -- a number of trials below 1 is refused, and no other one
@@ -29,7 +29,7 @@ pub record OpensNew (kind : LayoutKind) (ordered : Bool) (trials : ℤ) (before 
 -- if OK is returned, the handle is opened with a dictionary of just these pairs, which come sorted or in any order, in place of what it
 -- had; by another status it is as it was. `found` and `told` are the position before and after
 pub record OpensBuilt (kind : LayoutKind) (is_sorted ordered : Bool) (trials : ℤ) (pairs : List Pair) (before after : Handle) (found told status : ℕ) : Type 0 where
-  pub made : status ≡ OK → (settings : CedarBuilder) × (settings.ordered ≡ ordered) × (settings.max_trial ≡ trials)
+  pub made : status ≡ OK → (settings : CedarBuilder) × (settings.ordered ≡ ordered) × (settings.max_trial ≡ trials) × (settings.search_limit ≡ no_search_limit)
       × ((a : AnyCedar) × (content after ≡ Some a) × IsSorted (layout_of a) settings (entries_in pairs) (dictionary_in a))
   pub layout : status ≡ OK → layout_in after ≡ Some kind
   pub invalid : trials <ℤ pos 1 → status ≡ INVALID_MAX_TRIAL

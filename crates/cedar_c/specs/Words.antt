@@ -1,9 +1,9 @@
 -- The words of clauses, from one place.
 pub use Rattle.cedarwood.specs.Sorted.{entries_of}
 pub use Rattle.cedar_c.specs.Changes.{IsRecord}
-pub use Rattle.cedar_c.specs.Content.{capacity_in, ChangesBy, content, ErasesUnder, layout_in}
-pub use Rattle.cedar_c.specs.Content.{marks_in, size_in, state_in, tree_in}
-pub use Rattle.cedar_c.specs.Content.{trials_in}
+pub use Rattle.cedar_c.specs.Content.{capacity_in, ChangesBy, content, ErasesUnder}
+pub use Rattle.cedar_c.specs.Content.{layout_in, marks_in, search_limit_in, size_in}
+pub use Rattle.cedar_c.specs.Content.{state_in, tree_in, trials_in}
 pub use Rattle.cedar_c.specs.Cuts.{IsLeastCut, LacksRoomForCut, prices, WritesLeastCut}
 pub use Rattle.cedar_c.specs.Entries.{bytes_lacking, EndsPage, entries_behind_key, PageOf}
 pub use Rattle.cedar_c.specs.Entries.{TellsEntries, TellsPage, visited_key, WritesNothing}
@@ -57,7 +57,7 @@ pub use Rattle.cedarwood.specs.OnTable.{IsOnTable}
 pub use Rattle.cedarwood.specs.Queries.{front, predict}
 pub use Rattle.cedarwood.specs.RangeWalks.{entries_left, IsRangePlace}
 pub use Rattle.cedarwood.specs.Ranges.{longest_front}
-pub use Rattle.cedarwood.specs.Room.{LacksRoom}
+pub use Rattle.cedarwood.specs.Room.{LacksRoom, SetsSearchLimit}
 pub use Rattle.cedarwood.specs.Shrinking.{IsShrunk}
 pub use Rattle.cedarwood.specs.State.{after_erase, after_put}
 pub use Rattle.cedarwood.specs.Tree.{number_at}

@@ -69,6 +69,7 @@ impl AnyCedar {
         ensures after { (dictionary_in self.new).state ≡ after_erase (dictionary_in self.old).state key.now }
         ensures size { ((dictionary_in self.new).size ≡ (dictionary_in self.old).size) × ((dictionary_in self.new).capacity ≡ (dictionary_in self.old).capacity) }
         ensures max_trial { (dictionary_in self.new).max_trial ≡ (dictionary_in self.old).max_trial }
+        ensures search_limit { (dictionary_in self.new).search_limit ≡ (dictionary_in self.old).search_limit }
         ensures layout { layout_of self.new ≡ layout_of self.old }
     {
         match self {
@@ -81,6 +82,7 @@ impl AnyCedar {
         ensures state { (dictionary_in self.new).state ≡ (dictionary_in self.old).state }
         ensures marked { (dictionary_in self.new).marked ≡ (dictionary_in self.old).marked }
         ensures max_trial { (dictionary_in self.new).max_trial ≡ (dictionary_in self.old).max_trial }
+        ensures search_limit { (dictionary_in self.new).search_limit ≡ (dictionary_in self.old).search_limit }
         ensures layout { layout_of self.new ≡ layout_of self.old }
         ensures size { (dictionary_in self.new).size ≡ (dictionary_in self.old).size }
         ensures capacity { OnOk result ((dictionary_in self.new).capacity ≡ capacity_after blocks (dictionary_in self.old).size (dictionary_in self.old).capacity) }

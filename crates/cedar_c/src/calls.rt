@@ -6,9 +6,9 @@ ghost use Rattle.cedar_c.specs.Words.{after_erase, after_put, AnyCedar, capacity
 ghost use Rattle.cedar_c.specs.Words.{content, default_layout, dictionary_in, ErasesUnder, fault};
 ghost use Rattle.cedar_c.specs.Words.{IsCleared, IsEmpty, IsErasedUnder, LacksOnlyNew, layout_if};
 ghost use Rattle.cedar_c.specs.Words.{layout_in, layout_of, longest_front, match_of, most_slots};
-ghost use Rattle.cedar_c.specs.Words.{number_at, OpensNew, position_of, reduced_layout, shown_in};
-ghost use Rattle.cedar_c.specs.Words.{shown_tree, size_in, state_in, status_of, TellsPosition};
-ghost use Rattle.cedar_c.specs.Words.{tree_in, trials_in};
+ghost use Rattle.cedar_c.specs.Words.{number_at, OpensNew, position_of, reduced_layout};
+ghost use Rattle.cedar_c.specs.Words.{search_limit_in, shown_in, shown_tree, size_in, state_in};
+ghost use Rattle.cedar_c.specs.Words.{status_of, TellsPosition, tree_in, trials_in};
 
 use crate::any::AnyCedar;
 use crate::handle::Handle;
@@ -67,8 +67,8 @@ pub extern "C" fn cedar_new_with(
     ordered: bool,
     max_trial: i32,
 ) -> u32
-    //= The call opens a handle with an empty dictionary of 256 slots and the settings that are given, or the default ones. [also
-    //  cedar_new_reduced, cedar_new; by made]
+    //= The call opens a handle with an empty dictionary of 256 slots and the settings that are given, or the default ones. Nothing bounds
+    //  a search in it. [also cedar_new_reduced, cedar_new; by made]
     //= It fails for lack of memory, and for a `max_trial` exactly if that is below 1. Then the handle has what it had. [also
     //  cedar_new_reduced, cedar_new; by refused, invalid]
     ensures opens { OpensNew default_layout ordered max_trial handle.old handle.new result }
@@ -158,8 +158,10 @@ pub extern "C" fn cedar_update(
     //  cedar_build_unsorted.opens, cedar_build_unsorted_reduced.opens; by stays]
     ensures stays { TellsPosition result ⊎ (position.new ≡ position.old) }
 
-    //= `max_trial` doesn't change. [also cedar_insert, cedar_update_all, cedar_erase, cedar_erase_all]
+    //= `max_trial` and the search limit don't change. [with search_limit; also cedar_insert, cedar_update_all, cedar_erase,
+    //  cedar_erase_all]
     ensures trials { trials_in handle.new ≡ trials_in handle.old }
+    ensures search_limit { search_limit_in handle.new ≡ search_limit_in handle.old }
     ensures refused { IsSome (content handle.old) → fault key.now value ≡ None → LacksOnlyNew (tree_in handle.old) key.now result }
 {
     if !handle.is_open() {
@@ -201,6 +203,7 @@ pub extern "C" fn cedar_insert(
         → 256 * length key.now ≤ capacity_in handle.old - size_in handle.old → result ≡ OK }
     ensures stays { TellsPosition result ⊎ (position.new ≡ position.old) }
     ensures trials { trials_in handle.new ≡ trials_in handle.old }
+    ensures search_limit { search_limit_in handle.new ≡ search_limit_in handle.old }
     ensures untold { (result ≡ OK) ⊎ ((held.new ≡ held.old) × (before.new ≡ before.old)) }
     ensures refused { IsSome (content handle.old) → fault key.now value ≡ None → LacksOnlyNew (tree_in handle.old) key.now result }
 {
@@ -229,6 +232,7 @@ pub extern "C" fn cedar_erase(handle: &mut Handle, key: &[u8]) -> bool
     ensures size { (size_in handle.new ≡ size_in handle.old) × (capacity_in handle.new ≡ capacity_in handle.old) }
     ensures layout { layout_in handle.new ≡ layout_in handle.old }
     ensures trials { trials_in handle.new ≡ trials_in handle.old }
+    ensures search_limit { search_limit_in handle.new ≡ search_limit_in handle.old }
 {
     if !handle.is_open() {
         return false;
@@ -247,7 +251,7 @@ pub extern "C" fn cedar_get(handle: &mut Reading, key: &[u8], value: &mut i32) -
     ensures absent { number_at (shown_tree handle.old) key.now ≡ None → value.new ≡ value.old }
 
     //= Look-ups, figures, walks, scans, tokens, saves and lists of keys don't change the handle. [also cedar_len, cedar_used_slots,
-    //  cedar_capacity, cedar_spare_blocks, cedar_is_reduced, cedar_prefixes, cedar_predictions, cedar_prefixes_from,
+    //  cedar_capacity, cedar_spare_blocks, cedar_search_limit, cedar_is_reduced, cedar_prefixes, cedar_predictions, cedar_prefixes_from,
     //  cedar_predictions_from, cedar_scan, cedar_segment, cedar_keywords, cedar_cheapest, cedar_save, cedar_keys, cedar_contains,
     //  cedar_longest_prefix, cedar_clone, cedar_entries_from]
     ensures kept { handle.new ≡ handle.old }

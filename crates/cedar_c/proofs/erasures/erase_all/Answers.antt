@@ -24,6 +24,7 @@ loop-index-preserved g c =
       told_more s t keys i inside blank c.args.held.now c.loop-index.held c.tell.new.held c.erase_bytes-was_held.result so_far.0 e.answer so_far.1 c.tell.ensures,
       (e.size.0 ∙ so_far.2.0, e.size.1 ∙ so_far.2.1),
       e.max_trial ∙ so_far.3,
+      e.search_limit ∙ so_far.4,
     )
 
 pub overflow_sub-result : goal.overflow_sub-result

@@ -10,3 +10,4 @@ invariant-loop-index g l =
     × (l.held ≡ take (length l.fn.held) (held_in_turn l.fn.trie.state (take l.index (named_keys l.keys))) ++ drop l.index l.fn.held)
     × ((l.trie.size ≡ l.fn.trie.size) × (l.trie.capacity ≡ l.fn.trie.capacity))
     × (l.trie.max_trial ≡ l.fn.trie.max_trial)
+    × (l.trie.search_limit ≡ l.fn.trie.search_limit)
