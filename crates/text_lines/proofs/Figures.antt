@@ -1,5 +1,5 @@
 -- Digits of numbers in figures, and calls that read them.
-use Rattle.std.proofs.Common.{◌≡◌, ℕ, List, [], ◌∷◌, Some, None, Bool, true, false, cond, ◌&&◌, Bor, refl, ap, ◌∙◌, arith, zero, suc, drop, length, ◌<◌}
+use Rattle.std.proofs.Common.{◌≡◌, ℕ, List, [], ◌∷◌, Some, None, Bool, true, false, cond, Bor, refl, ap, ◌∙◌, arith, drop, length, ◌<◌}
 use Rattle.std.proofs.lemmas.Bool.{eqb-true, false≢true, and_parts}
 use Rattle.std.proofs.lemmas.Grind.{common_steps}
 use Rattle.std.proofs.lemmas.Fmt.{IsAscii-from_digits}
