@@ -1,5 +1,5 @@
 -- Many keys erased in turn.
-use Rattle.std.proofs.Common.{◌≡◌, ◌∙◌, ◌↔◌, ℕ, ◌+◌, ◌<◌, ◌≤◌, suc, Bool, true, false, IsTrue, List, [], ◌∷◌, ◌++◌, cond, drop, get_or, length, set, take, Option, Some, None, IsSome, is_some, refl, sym, ap, subst, arith}
+use Rattle.std.proofs.Common.{◌≡◌, ◌∙◌, ◌↔◌, ℕ, ◌+◌, ◌<◌, ◌≤◌, suc, Bool, IsTrue, List, [], ◌∷◌, ◌++◌, cond, drop, get_or, length, set, take, IsSome, is_some, refl, sym, ap, subst, arith}
 use Rattle.std.proofs.lemmas.List.{get_or-map, length-map, length-take-le, take_more}
 use Rattle.std.proofs.lemmas.List.Sums.{fold-append}
 use Rattle.cedarwood.specs.Queries.{walk}

@@ -1,5 +1,5 @@
 -- The records of a group, one behind another.
-use Rattle.std.specs.Prelude.{ℤ, option_map, Option, Some, None}
+use Rattle.std.specs.Prelude.{ℤ, option_map, Some}
 use Rattle.std.proofs.Common.{◌≡◌, inl, inr, ℕ, zero, suc, ◌+◌, ◌≤◌, ◌<◌, true, List, [], ◌∷◌, ◌++◌, length, take, drop, refl, sym, subst, ◌∙◌, ap, append_assoc, arith, slice_set, length-append, length-drop, take-append-drop}
 use Rattle.std.proofs.lemmas.Bool.{cases_Bool, cases_eq}
 use Rattle.std.proofs.lemmas.List.{drop-drop, take-append-le, take_all, take-set, drop-set, set-append_right, length-take-le}

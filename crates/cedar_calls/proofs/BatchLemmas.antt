@@ -1,13 +1,10 @@
 -- Results of some keys, for each of which there was an element.
-use Rattle.std.proofs.Common.{◌≡◌, ◌<◌, ℕ, suc, List, [], ◌∷◌, ◌++◌, drop, length, map, take, Err, ap, sym, refl, ◌∙◌, append-nil, arith}
+use Rattle.std.proofs.Common.{◌≡◌, ◌<◌, ℕ, List, [], ◌++◌, drop, length, map, take, Err, ap, sym, refl, ◌∙◌, append-nil, arith}
 use Rattle.std.proofs.lemmas.List.{drop_all, length-map}
 use Rattle.std.proofs.Math.Seq.{take-length}
-use Rattle.cedarwood.specs.State.{State}
-use Rattle.cedarwood.specs.Batches.{held_in_turn}
 use Rattle.cedarwood.specs.Dictionary.{Dictionary}
 use Rattle.cedarwood.specs.declared.error.CedarError.TheVariants.{Memory}
 use Rattle.cedar_calls.specs.Changes.{IsErasedBatch}
-use Rattle.cedarwood.proofs.BatchLemmas.{length-held_in_turn}
 
 -- where there are as many elements as results, nothing but these is in them
 pub each_filled : {Y : Type 0} (n : ℕ) (before after held results : List Y) → length before ≡ n → length held ≡ n → length results ≡ n

@@ -1,13 +1,12 @@
 -- What a run of the program begins with, and what its arguments ask for.
 use Rattle.std.proofs.Common.{◌≡◌, ℕ, Bool, true, false, List, [], ◌∷◌, Option, Some, None, Bor, not, ◌&&◌, ap, refl, ◌∙◌}
-use Rattle.std.specs.Prelude.{MatchOption, Result, Ok, Err, IfOk, OnOk, bytes_eq, codes, is_some, option_map}
+use Rattle.std.specs.Prelude.{MatchOption, Result, Ok, Err, IfOk, bytes_eq, codes, is_some, option_map}
 use Rattle.cedarwood.specs.Tree.{Tree, empty_tree}
 use Rattle.cedarwood.specs.Layouts.{LayoutKind, default_layout, reduced_layout}
 use Rattle.cedarwood.specs.Dictionary.{Dictionary}
 use Rattle.cedar_cli.specs.Options.{Request, BeginsWith, limit_of, request_besides, empty, with_reduced, with_v1_0, is_new, with_limit, with_load, with_save, request_in, with_any_order}
 use Rattle.cedar_cli.specs.declared.options.Options.{Options}
 use Rattle.cedar_cli.specs.View.{View, marked_in, view_of}
-use Rattle.cedarwood.proofs.GeneralLemmas.{on_ok}
 
 by_load : (load : Option (List ℕ)) (s : View) → MatchOption load (s ≡ s) (λ _. Unit {0})
 by_load None s = refl

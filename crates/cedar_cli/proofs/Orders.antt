@@ -22,7 +22,6 @@ use Rattle.cedar_cli.specs.declared.script.ScriptError.TheVariants.{Read, Write,
 use Rattle.std.specs.Io.KnownBytes.{Appends}
 use Rattle.text_lines.proofs.Bytes.{Appends-none}
 use Rattle.cedar_cli.proofs.Bytes.{Disobeys-on_err, Obeys-on_ok, all_stays}
-use Rattle.cedarwood.proofs.FaultLemmas.{fault_free}
 
 -- what an exact search that missed says
 pub exact_missed : (t : Tree) (key : List ℕ) → None ≡ exact t key → number_at t key ≡ None

@@ -1,7 +1,7 @@
 -- What a script sees of a dictionary once a key was stored or removed.
 use Rattle.std.proofs.Common.{◌≡◌, ◌+◌, ◌++◌, ℕ, zero, suc, ℤ, ◌<◌, ◌⊎◌, inl, inr, List, [], ◌∷◌, take, length, Option, Some, None, Bool, true, false, not, cond, ◌&&◌, ◌||◌, ◌==◌, refl, sym, ap, ◌∙◌, arith}
 use Rattle.std.specs.Prelude.{is_some}
-use Rattle.std.proofs.lemmas.Bool.{eqb-true, false≢true, and_from, or_cases, or_right, and_parts, or_left}
+use Rattle.std.proofs.lemmas.Bool.{eqb-true, false≢true, and_from, or_cases, or_right, and_parts, or_left, not-true}
 use Rattle.std.proofs.lemmas.Bool.Decides.{eqb_tells}
 use Rattle.cedarwood.specs.State.{State, after_put, after_erase}
 use Rattle.cedarwood.specs.Tree.{IsSound, Tree, is_bare, number_at}
@@ -35,10 +35,6 @@ not_holds false h = refl
 fails : (b : Bool) → not b ≡ true → b ≡ true → ⊥
 fails true h p = false≢true h
 fails false h p = false≢true p
-
-bare_fails : (b : Bool) → not b ≡ true → b ≡ false
-bare_fails true h = absurd (false≢true h)
-bare_fails false h = refl
 
 itself : (b : ℕ) → (b == b) ≡ true
 itself b = elim (eqb_tells b b) [ inl e ↦ e.0 | inr e ↦ absurd (e.1 refl) ]
@@ -86,7 +82,7 @@ module _ (t m m' : Tree) (key : List ℕ) (sound : IsSound t) (some : 0 < length
       | inl front ↦ let parts = and_parts (is_proper_front w key) (is_some (number_at t w)) front in inr (inl (found_front w key parts.0, parts.1))
       | inr at ↦
           let parts = and_parts (is_path w key) (has_node t key) at in
-          inr (inr (same_path w key parts.0, front_of_node t key sound.1 some (bare_fails (is_bare (node_at t key)) parts.1)))
+          inr (inr (same_path w key parts.0, front_of_node t key sound.1 some (not-true (is_bare (node_at t key)) parts.1)))
     ]
   ]
 

@@ -1,10 +1,10 @@
 -- A record for which there was no room is withdrawn.
-use Rattle.std.specs.Prelude.{◌&&◌, IsTrue}
-use Rattle.std.proofs.Common.{◌≡◌, ◌⊎◌, inl, inr, ℕ, ◌+◌, ◌≤◌, Bool, true, false, List, [], ◌∷◌, ◌++◌, length, take, drop, refl, sym, ◌∙◌, ap, subst, arith, length-append, length-take}
+use Rattle.std.specs.Prelude.{IsTrue}
+use Rattle.std.proofs.Common.{◌≡◌, inl, inr, ℕ, ◌+◌, ◌≤◌, Bool, true, false, List, [], ◌∷◌, ◌++◌, length, take, drop, refl, sym, ◌∙◌, ap, subst, arith, length-append, length-take}
 use Rattle.std.proofs.lemmas.Bool.{le-leb, and_from}
 use Rattle.std.proofs.lemmas.List.{take-take}
 use Rattle.cedar_journal.specs.declared.format.Format.{Format}
-use Rattle.cedar_journal.specs.Device.{Cut, Only, Torn}
+use Rattle.cedar_journal.specs.Device.{Cut, Torn}
 use Rattle.cedar_journal.specs.Files.{file_payloads}
 use Rattle.cedar_journal.proofs.Crash.{behind_gate, closed_stands, front_ends, gated_stands, settled_at}
 use Rattle.cedar_journal.proofs.Moments as moments

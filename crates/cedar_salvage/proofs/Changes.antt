@@ -1,10 +1,10 @@
 -- Payloads that are changes, and those that are none.
-use Rattle.std.specs.Prelude.{◌&&◌, IfSome, int_le, nat_eq, ◌==◌, not, is_some, position, option_map, option_and_then, Option, Some, None, pos, ℤ}
+use Rattle.std.specs.Prelude.{IfSome, int_le, nat_eq, ◌==◌, not, is_some, position, option_map, option_and_then, Option, Some, None, pos, ℤ}
 use Rattle.std.proofs.Common.{◌≡◌, ◌≢◌, ℕ, ◌+◌, ◌≤◌, ◌<◌, Bool, true, false, cond, List, [], ◌∷◌, length, get_or, drop, refl, subst, sym, ◌∙◌, ap, arith}
 use Rattle.std.proofs.lemmas.Bool.{le-leb, false≢true, and_from}
 use Rattle.std.proofs.lemmas.List.{drop-drop}
 use Rattle.cedar_journal.specs.Records.{has_record, payload, behind_record, payloads_in}
-use Rattle.cedar_journal.proofs.Reading.{payloads_first, payloads_none}
+use Rattle.cedar_journal.proofs.Reading.{payloads_first}
 use Rattle.cedarwood.specs.declared.error.CedarError.{CedarError}
 use Rattle.cedarwood.specs.declared.error.CedarError.TheVariants.{InvalidValue, NulByte}
 use Rattle.cedarwood.specs.Fault.{key_fault, value_fault, or_else}
@@ -13,7 +13,6 @@ use Rattle.cedar_salvage.specs.declared.change.Kind.{Kind}
 use Rattle.cedar_salvage.specs.declared.change.Kind.TheVariants.{Batch}
 use Rattle.cedar_salvage.specs.Whole.{is_kind}
 use Rattle.cedar_store.proofs.Payloads.{no_changes, of_batch, of_erase, of_other, of_put, of_single, put_is}
-use Rattle.cedar_store.proofs.Batched.{ended}
 
 -- a map leaves whether there is a value
 pub mapped : {A B : Type 0} (f : A → B) (o : Option A) → is_some (option_map f o) ≡ is_some o

@@ -1,9 +1,9 @@
 -- A file that has one record for each entry of a dictionary.
-use Rattle.std.specs.Prelude.{◌&&◌, ◌-◌, ◌*◌, fold, int_le, max, nat_lt, pos, Bool, false, IfErr, IsErrAnd, IsErrOf, OnErr, OnOk, Result, Ok, Err, option_and_then, option_map, Option, Some, None, IfSome}
-use Rattle.std.proofs.Common.{◌≡◌, ◌⊎◌, inl, inr, ⊎_elim, ◌<◌, ℕ, zero, suc, ◌+◌, ℤ, true, List, [], ◌∷◌, ◌++◌, drop, take, refl, sym, ◌∙◌, ap, subst, arith}
+use Rattle.std.specs.Prelude.{◌&&◌, ◌-◌, ◌*◌, fold, int_le, max, nat_lt, pos, Bool, false, IfErr, IsErrAnd, IsErrOf, OnOk, Result, Ok, Err, option_and_then, option_map, Option, Some, None, IfSome}
+use Rattle.std.proofs.Common.{◌≡◌, ◌⊎◌, inl, inr, ⊎_elim, ◌<◌, ℕ, ◌+◌, ℤ, true, List, [], ◌∷◌, ◌++◌, drop, take, refl, sym, ◌∙◌, ap, subst, arith}
 use Rattle.std.proofs.lemmas.Bool.{false≢true}
 use Rattle.std.proofs.lemmas.Bool.Decides.{nat_tests}
-use Rattle.std.specs.List.{AllByRecursion, Contains}
+use Rattle.std.specs.List.{AllByRecursion}
 use Rattle.cedar_journal.specs.declared.device.DeviceError.{DeviceError}
 use Rattle.cedar_journal.specs.declared.device.DeviceError.TheVariants as device
 use Rattle.cedar_journal.specs.declared.replace.ReplaceError.{ReplaceError}
@@ -18,13 +18,12 @@ use Rattle.cedar_journal.specs.Replacing.{IfKept}
 use Rattle.cedar_journal.proofs.Images.{image_stands}
 use Rattle.cedarwood.specs.Queries.{Entry, walk}
 use Rattle.cedarwood.specs.State.{State, new_state}
-use Rattle.cedarwood.specs.Tree.{AllNumbers, IsAscending, IsKey, IsPath, IsSound, Tree, number_at, put}
+use Rattle.cedarwood.specs.Tree.{AllNumbers, IsAscending, IsKey, IsSound, Tree, number_at, put}
 use Rattle.cedarwood.proofs.EntryLemmas.Keys.{asc-walk, held_key, all_contained}
-use Rattle.cedarwood.proofs.MemberLemmas.{contains_here, contains_later, held_from_walk}
+use Rattle.cedarwood.proofs.MemberLemmas.{held_from_walk}
 use Rattle.cedarwood.proofs.TreeLemmas.{all-number_at}
 use Rattle.cedarwood.specs.Builds.{all_stored}
 use Rattle.cedarwood.specs.Fault.{fault, key_fault, or_else, value_fault}
-use Rattle.cedarwood.specs.SortedInput.{HasNoNul}
 use Rattle.cedarwood.proofs.DictionaryLemmas.{no_value_fault}
 use Rattle.cedarwood.proofs.SortedInputLemmas.{clean_key, path_clean}
 use Rattle.cedar_store.specs.Changes.{Change, after, all_changed, changes_of, put_at, after_payloads}
@@ -36,7 +35,6 @@ use Rattle.cedar_store.specs.Compactions.{CompactCause, is_beyond, IsBeforeRepla
 use Rattle.cedar_store.specs.Files.{AddsRecord, StandsFor, state_of}
 use Rattle.cedar_store.specs.Store.{IsConsistent, IsReady}
 use Rattle.cedar_store.proofs.States.{replayed_more}
-use Rattle.std.proofs.lemmas.Result.{on_ok_weaker}
 
 -- ---- no entry of a dictionary has a fault
 
@@ -193,10 +191,6 @@ module _ {D : Type 0} (seen : D → List ℕ) (may_leave : D → List ℕ → Ty
 pub on_err : {X E : Type 0} {P Q : E → Type 0} (r : Result X E) → ((e : E) → P e → Q e) → IfErr r P → IfErr r Q
 on_err (Ok x) so holds = tt
 on_err (Err e) so holds = so e holds
-
-pub on_err_told : {X E P Q : Type 0} (r : Result X E) → (P → Q) → OnErr r P → OnErr r Q
-on_err_told (Ok x) so holds = tt
-on_err_told (Err e) so holds = so holds
 
 -- a file that has one record more, and was looked at
 pub still_more : {S : Type 0} (before between after payload : List ℕ) → file_payloads between ≡ with_payload payload (file_payloads before) → (after ≡ between) ⊎ S

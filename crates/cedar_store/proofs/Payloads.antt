@@ -1,7 +1,7 @@
 -- A payload and its change.
 use Rattle.std.specs.Prelude.{◌&&◌, int_le, nat_eq, Bool, true, false, option_map, Option, Some, None, pos, ℤ, negsuc, Result, Ok, Err, IfSome, IfErr, IsErrAnd}
 use Rattle.std.proofs.Common.{◌≡◌, ◌≢◌, ℕ, ◌+◌, ◌*◌, ◌-◌, ◌<◌, ◌≤◌, List, [], ◌∷◌, cond, length, get_or, take, drop, refl, sym, subst, ◌∙◌, ap, arith, length-drop}
-use Rattle.std.proofs.lemmas.Bool.{cond-true, cond-false, eq-eqb, ne_eqb, le-leb, leb-true, lt-leb, false≢true}
+use Rattle.std.proofs.lemmas.Bool.{cond-true, cond-false, eq-eqb, ne_eqb, le-leb, leb-true, lt-leb, false≢true, and_right}
 use Rattle.std.proofs.lemmas.List.{take_all}
 use mir.Val.{of_z}
 use mir.Syntax.{w32}
@@ -87,12 +87,8 @@ pub put_is : (bytes key : List ℕ) (v : ℤ) → 4 ≤ length bytes → key ≡
 unfolding put_of
 put_is bytes key v long same value = cond-true _ _ _ (le-leb 4 (length bytes) long) ∙ (λ i. put_unless (fault (sym same i) (sym value i)) (sym same i) (sym value i))
 
-neither : (a b : Bool) → b ≡ false → (a && b) ≡ false
-neither true b is = is
-neither false b is = refl
-
 value_too_high : (n : ℕ) → 2147483645 < n → value_fault (pos n) ≡ Some (InvalidValue (pos n))
-value_too_high n high = ap (λ b. cond b None (Some (InvalidValue (pos n)))) (neither (int_le (pos 0) (pos n)) (int_le (pos n) (pos 2147483645)) (lt-leb n 2147483645 high))
+value_too_high n high = ap (λ b. cond b None (Some (InvalidValue (pos n)))) (and_right (int_le (pos 0) (pos n)) (int_le (pos n) (pos 2147483645)) (lt-leb n 2147483645 high))
 
 refused_by_value : (k w : Option CedarError) (e : CedarError) (key : List ℕ) (v : ℤ) → w ≡ Some e → put_unless (or_else k w) key v ≡ None
 refused_by_value None w e key v is = ap (λ f. put_unless f key v) is

@@ -2,7 +2,6 @@
 use Rattle.std.specs.Prelude.{option_map, option_and_then, Option, Some, None}
 use Rattle.std.proofs.Common.{◌≡◌, ℕ, zero, suc, ◌+◌, ◌≤◌, ◌<◌, true, List, [], ◌∷◌, ◌++◌, length, get_or, refl, ◌∙◌, ap, arith, length-append}
 use Rattle.std.proofs.lemmas.List.{drop_all, take_all}
-use Rattle.std.specs.List.{AllByRecursion}
 use Rattle.cedar_journal.specs.Records.{payload_length, payload, behind_record, has_record, payloads_in, AreWholeRecords}
 use Rattle.cedar_journal.proofs.Fronts.{front_and, front_of_none, one_record, record_is_front}
 use Rattle.cedar_journal.proofs.Numbers.{told_length}
@@ -14,7 +13,6 @@ use Rattle.cedar_store.specs.Causes.{FrameCause, PayloadCause}
 use Rattle.cedar_store.specs.Changes.{Change, change_of, changes_of, each_change, records_length}
 use Rattle.cedar_store.proofs.Batched.{whole_batch}
 use Rattle.cedar_store.proofs.Payloads.{of_batch}
-use Rattle.cedarwood.proofs.GeneralLemmas.{all_at}
 
 -- ---- the record of one payload
 

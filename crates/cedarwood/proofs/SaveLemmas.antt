@@ -1,5 +1,5 @@
 -- What was saved is the file of a well-formed table, and all of it.
-use Rattle.std.proofs.Common.{◌≡◌, ℕ, ◌≤◌, ◌∙◌, List, [], ◌++◌, ap, append-nil, drop, get_or, length, None, Option, Result, Ok, Err, OnOk, refl, Some, subst, sym, take}
+use Rattle.std.proofs.Common.{◌≡◌, ℕ, ◌≤◌, ◌∙◌, List, [], ◌++◌, ap, append-nil, drop, get_or, length, None, Option, refl, Some, subst, sym, take}
 use Rattle.std.proofs.Math.Seq.{take-append_seam}
 use Rattle.std.proofs.lemmas.List.{append_cancel_left}
 use Rattle.std.specs.Io.Buffered.{writer_buffer, writer_contents, writer_inner}
@@ -12,7 +12,6 @@ use Rattle.cedar_model.specs.Meaning.WellFormed.{IsWellFormed}
 use Rattle.cedar_format.specs.Format.{header_answer, need, IsVersion}
 use Rattle.cedar_format.specs.Tables.{header_of, table_bytes, FitsTable, IsTableFile}
 use Rattle.cedar_format.proofs.Passing.{tables_pass}
-use Rattle.cedar_tree.proofs.GeneralLemmas.{on_ok}
 
 -- the table is seen through the dictionary's value
 pub is_file : (version slots : ℕ) (T U : Fields) → IsVersion version → T ≡ U → IsWellFormed slots T → FitsTable version T → IsTableFile version slots U (table_bytes version U)

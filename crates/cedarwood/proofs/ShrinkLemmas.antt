@@ -31,7 +31,7 @@ use Rattle.cedarwood.proofs.GrowthLemmas.{capacity_after-sum, dictionary_of}
 use Rattle.cedarwood.proofs.InnerMarksLemmas.{inner_empty, inner_put}
 use Rattle.cedarwood.proofs.PutBackLemmas.{walk_put_back}
 use Rattle.cedarwood.proofs.SortedInputLemmas.{clean_key, key_clean}
-use Rattle.cedar_tree.proofs.GeneralLemmas.{all_at, all_and_one}
+use Rattle.cedar_tree.proofs.GeneralLemmas.{all_and_one}
 use Rattle.cedarwood.proofs.FaultLemmas.{key_without_fault}
 
 -- ---- the nodes of all entries

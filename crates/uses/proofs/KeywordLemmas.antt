@@ -3,14 +3,12 @@ use Rattle.std.proofs.Common.{◌≡◌, ℕ, ◌+◌, ◌-◌, ◌<◌, ◌≤�
 use Rattle.std.specs.List.{Contains}
 use Rattle.std.specs.Prelude.{ℤ}
 use Rattle.std.proofs.lemmas.Bool.{false≢true, true≢false}
-use Rattle.std.proofs.lemmas.List.{take_all}
 use borrow.Author.Count.{below_more}
 use Rattle.std.proofs.Math.ListN.{length-drop}
 use Rattle.cedarwood.specs.Tree.{Tree, number_at}
 use Rattle.cedarwood.specs.Queries.{front}
 use Rattle.cedarwood.proofs.FrontLemmas.{front_from_held, held_from_front}
 use Rattle.uses.specs.Keywords.{HasKeyword}
-use Rattle.cedar_words.proofs.SpotLemmas.{rest_of}
 
 -- where a walk gives a key, the text has it
 pub key_begins : (t : Tree) (text : List ℕ) (place : ℕ) (found : ℤ × ℕ) (later : List (ℤ × ℕ)) → place < length text → front t (drop place text) ≡ found ∷ later → HasKeyword t text

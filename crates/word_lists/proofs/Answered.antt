@@ -5,7 +5,6 @@ use Rattle.word_lists.specs.Devices.{LinesOrFails}
 use Rattle.text_lines.specs.Written.{WritesOrFails}
 use Rattle.word_lists.specs.declared.write.ListError.{ListError}
 use Rattle.word_lists.specs.declared.write.ListError.TheVariants.{Write, Memory}
-use Rattle.std.proofs.lemmas.Result.{on_ok_weaker}
 
 pub of_err : {X E P : Type 0} (r : Result X E) (e : E) → r ≡ Err e → OnErr r P → P
 of_err (Ok x) e is p = absurd (cc)

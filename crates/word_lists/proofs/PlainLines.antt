@@ -1,6 +1,6 @@
 -- The lines of a list without faults, and the pairs that they store.
-use Rattle.std.proofs.Common.{◌≡◌, ◌<◌, ◌+◌, ◌-◌, zero, suc, take, drop, ℕ, List, [], ◌∷◌, ◌++◌, true, false, ◌&&◌, ◌==◌, Option, Some, None, IfSome, cond, refl, sym, ap, ◌∙◌, arith, length, get_or}
-use Rattle.std.specs.Prelude.{Result, Ok, Err}
+use Rattle.std.proofs.Common.{◌≡◌, ◌<◌, ◌+◌, ◌-◌, zero, suc, take, drop, ℕ, List, [], ◌∷◌, ◌++◌, true, false, ◌&&◌, ◌==◌, None, cond, refl, sym, ap, ◌∙◌, arith, length, get_or}
+use Rattle.std.specs.Prelude.{Ok}
 use Rattle.std.specs.Io.BufRead.{drop_through, take_through}
 use Rattle.hex.specs.Hex.{decode_sized}
 use Rattle.cedarwood.specs.Queries.{Entry, asc}
@@ -9,11 +9,10 @@ use Rattle.std.proofs.lemmas.List.{map-append}
 use Rattle.cedarwood.specs.Words.{entries_of, LayoutKind, Pair}
 use Rattle.cedarwood.specs.Builds.{all_stored}
 use Rattle.cedarwood.specs.Dictionary.{Dictionary}
-use Rattle.cedarwood.specs.Fault.{fault, or_else}
+use Rattle.cedarwood.specs.Fault.{fault}
 use Rattle.cedarwood.specs.Making.{IsSorted, IsSortedBuild}
 use Rattle.cedarwood.specs.SortedInput.{fault_behind, fault_from, fault_of_order}
 use Rattle.cedarwood.specs.declared.builder.CedarBuilder.{CedarBuilder}
-use Rattle.cedarwood.specs.declared.error.CedarError.{CedarError}
 use Rattle.std.specs.Cmp.Lexicographic.{slice_cmp}
 use Rattle.std.specs.Ordering.{nat_cmp}
 use Rattle.word_lists.specs.Reading.{bytes_behind, first_read, named_of, read_as}

@@ -1,18 +1,17 @@
 -- A node with neither number nor label, in the tree and in its slots.
-use Rattle.std.proofs.Common.{◌≡◌, ℕ, ◌∙◌, sym, ap, subst, refl, Option, None, List, [], ◌∷◌}
-use Rattle.std.specs.Prelude.{ℤ, pos}
+use Rattle.std.proofs.Common.{◌≡◌, ℕ, ◌∙◌, sym, ap, subst, refl, Option, None, List, []}
+use Rattle.std.specs.Prelude.{ℤ}
 use Rattle.cedar_model.specs.Tree.{child, empty_tree, Forest, none, Tree}
 use Rattle.cedar_model.specs.Queries.{node_at}
 use Rattle.cedar_model.specs.declared.layout.Stored.TheVariants.{AtBase}
 use Rattle.cedar_model.specs.Table.Cells.{Cells}
 use Rattle.cedar_model.specs.Edit.NodeEdits.{IsAt}
 use Rattle.cedar_model.specs.Meaning.Family.{Family, Head, number_of, own, plain, top, valued}
-use Rattle.cedar_model.specs.Meaning.StandsFor.{HoldsTree, labels, OnPath, slot_at}
+use Rattle.cedar_model.specs.Meaning.StandsFor.{HoldsTree, labels}
 use Rattle.cedar_model.specs.Relocation.Renaming.{OwnsNothing}
 use Rattle.cedar_model.specs.Edit.Steps.{root_of}
 use Rattle.cedar_model.proofs.MeaningLemmas.NodeAtPath.{at_node}
 use Rattle.cedar_model.proofs.EditLemmas.FirstBase.{low_base, no_number}
-use Rattle.cedar_model.proofs.EditLemmas.LeafAtPlace.{below_root, ends}
 use Rattle.cedar_model.proofs.UpdateLemmas.TrimUpwards.{root_path}
 
 -- the slots of a node with neither number nor label

@@ -7,7 +7,6 @@ use Rattle.cedar_file.specs.TreeWalk.{ComesBack, GoesDown, GoesOn, GoesUp, numbe
 use Rattle.cedar_model.specs.Meaning.Family.{base_of, below}
 use Rattle.cedar_model.specs.Meaning.Reading.{has_number_slot, number_in}
 use Rattle.cedar_model.proofs.MeaningLemmas.ExclusiveOr.{pos_injective}
-use Rattle.cedar_model.proofs.GeneralLemmas.{on_err}
 
 slots_few : (T : Cells) (s : ℕ) → slots_at T s ≤ 2
 slots_few T s = by_test (has_number_slot T s)

@@ -3,7 +3,7 @@ use Rattle.std.proofs.Common.{◌≡◌, inl, inr, ℕ, ◌<◌, ◌≤◌, Less
 use Rattle.std.specs.List.{cons_option, filter}
 use Rattle.std.specs.Cmp.Lexicographic.{slice_cmp}
 use Rattle.std.specs.Ordering.{is_ge, nat_cmp, ordering_then}
-use Rattle.std.proofs.lemmas.Bool.{ltb-true, ltb-false, ne_eqb}
+use Rattle.std.proofs.lemmas.Bool.{ltb-true, ltb-false, ne_eqb, le-ltb, lt-ltb}
 use Rattle.std.proofs.lemmas.Bool.Decides.{eqb_tells}
 use Rattle.std.proofs.lemmas.List.{append-nil, map-append}
 use Rattle.std.proofs.lemmas.List.Elements.{filter-append, filter_map-append}
@@ -14,7 +14,7 @@ use Rattle.cedar_model.specs.Walks.{Visit, behind, visited_entries, forwards, no
 use Rattle.cedar_model.proofs.OrderLemmas.{ascending_subtree, all_above_more}
 use Rattle.cedar_model.proofs.PredictLemmas.{map-after}
 use Rattle.cedar_model.proofs.VisitLemmas.{goes_down, goes_right, has_behind, has_here, next_behind, node_up_is, subtree_here, behind_here, entries_below}
-use Rattle.cedar_model.proofs.WalkLemmas.{filter-map, filter-none, ltb-from_lt, nat_lt_itself}
+use Rattle.cedar_model.proofs.WalkLemmas.{filter-map, filter-none, nat_lt_itself}
 use Rattle.cedar_walk.specs.Visits.{first_sibling_label}
 use Rattle.cedar_walk.specs.RangePlaces.{AboveFrom, AreLast}
 use Rattle.cedar_walk.specs.Ranges.{behind_path, entries_since, siblings_above}
@@ -29,13 +29,10 @@ cmp_same : (l : ℕ) → nat_cmp l l ≡ Equal
 cmp_same l = rw (nat_lt_itself l, eq-eqb l l refl) refl
 
 pub cmp_below : (l m : ℕ) → l < m → nat_cmp l m ≡ Less
-cmp_below l m h = rw (ltb-from_lt l m h) refl
-
-not_lt : (l m : ℕ) → m ≤ l → ltb l m ≡ false
-not_lt l m h = (elim (ltb l m) as (λ b. ltb l m ≡ b → b ≡ false) [ true ↦ λ e. let k : l < m = ltb-true l m e in absurd (omega arith) | false ↦ λ _. refl ]) refl
+cmp_below l m h = rw (lt-ltb l m h) refl
 
 pub cmp_above : (l m : ℕ) → m < l → nat_cmp l m ≡ Greater
-cmp_above l m h = rw (not_lt l m (omega arith), ne_eqb l m (λ e. omega (arith, e))) refl
+cmp_above l m h = rw (le-ltb l m (omega arith), ne_eqb l m (λ e. omega (arith, e))) refl
 
 filter_all : {X : Type 0} (p : X → Bool) (xs : List X) → ((x : X) → p x ≡ true) → filter p xs ≡ xs
 filter_all p [] h = refl
@@ -244,7 +241,7 @@ above_on f m next s ascends a some most = by_rest a.rest refl
         let found = last_first f a.rest c n below rest s a.last e in
         let behind_is : behind f next ≡ rest = ap (behind f) is ∙ found.2 in
         let up : IsAscending (child c n below rest) = subst IsAscending e (last_ascend f a.rest ascends a.last) in
-        let passed : siblings_above (child c n below rest) m ≡ siblings_above rest m = ap (λ b. cond b (child c n below rest) (siblings_above rest m)) (not_lt m c (omega (arith, most, is))) in (
+        let passed : siblings_above (child c n below rest) m ≡ siblings_above rest m = ap (λ b. cond b (child c n below rest) (siblings_above rest m)) (le-ltb m c (omega (arith, most, is))) in (
           record {
             rest = behind f next;
             last = inr (next, ap (has_label f) is ∙ found.0, refl);
@@ -288,7 +285,7 @@ above_first t up m next s a higher = by_rest a.rest refl
     by_rest (child c n below rest) e =
         let is : next ≡ c = a.first ∙ ap first_sibling_label e in
         let found = last_first (node_up t up).children a.rest c n below rest s a.last e in
-        let kept : siblings_above (child c n below rest) m ≡ child c n below rest = ap (λ b. cond b (child c n below rest) (siblings_above rest m)) (ltb-from_lt m c (omega (arith, higher, is))) in
+        let kept : siblings_above (child c n below rest) m ≡ child c n below rest = ap (λ b. cond b (child c n below rest) (siblings_above rest m)) (lt-ltb m c (omega (arith, higher, is))) in
         let all : siblings_above (node_up t up).children m ≡ a.rest = a.same ∙ ap (λ g. siblings_above g m) e ∙ kept ∙ sym e in
         let number : n ≡ (subtree (node_up t up).children next).number = ap (λ (u : Tree). u.number) (sym found.1) ∙ ap (λ x. (subtree (node_up t up).children x).number) (sym is) in
         ap (λ g. map (visit_from (forwards up)) (visits_below g) ++ visits_after t up) all

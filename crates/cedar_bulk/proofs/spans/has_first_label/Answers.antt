@@ -1,6 +1,5 @@
-use Rattle.std.proofs.Common.{◌≡◌, ◌<◌, ◌∙◌, ℕ, List, arith, ap, get_or, length, subst, sym}
-use Rattle.std.specs.Prelude.{IsTrue, nat_eq, ℤ}
-use Rattle.std.proofs.lemmas.Bool.Decides.{nat_tests}
+use Rattle.std.proofs.Common.{◌≡◌, ◌<◌, ◌∙◌, ℕ, List, ap, get_or, length, subst, sym}
+use Rattle.std.specs.Prelude.{ℤ}
 use Rattle.std.proofs.lemmas.List.{get_or-map}
 use Rattle.cedar_model.specs.Queries.{Entry}
 use Rattle.cedar_bulk.specs.Sorted.{entries_by, label_of}

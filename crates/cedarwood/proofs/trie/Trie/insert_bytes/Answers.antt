@@ -1,4 +1,4 @@
-use Rattle.std.proofs.Common.{ap, rules, ◌≡◌, ℕ, ℤ, ◌<◌, None, Some, Option, IfOk, IsSome, IfSome, true, false, Err, arith, get_or, subst, sym, w32, to_z, of_z, FitsSigned, Result}
+use Rattle.std.proofs.Common.{ap, rules, ◌≡◌, ℕ, ℤ, ◌<◌, None, Some, Option, IfOk, IfSome, Err, arith, get_or, subst, sym, w32, to_z, of_z, FitsSigned, Result}
 use Rattle.std.proofs.lemmas.Int.{to_z-of_z}
 use Rattle.std.proofs.lemmas.Result.{err_from_is_err_and, on_ok_weaker}
 use Rattle.cedar_model.specs.Edit.Packing.{PacksKey}
