@@ -5,14 +5,14 @@
  *
  * The rules for the caller. Nothing checks them, and breaking one is undefined behaviour, as with any C library:
  *
- * - Each pointer points to what its type says: a key to `length` bytes that can be read; matches, found and buffers to `room` places; pairs
- *   and keys to `count` of them, whose bytes are such. Each has at most PTRDIFF_MAX bytes. Memory that is only written to needn't be
+ * - Each pointer points to what its type says: a key to `length` bytes that can be read; matches, found and buffers to `room` elements;
+ *   pairs and keys to `count` of them, whose bytes are such. Each has at most PTRDIFF_MAX bytes. Memory that is only written to needn't be
  *   initialised.
  * - What two parameters point to doesn't overlap, except where both are only read. During the call nobody else writes it, and nobody else
  *   reads what the call may write.
  * - A pointer may be null where its length, room or count is 0. position, held, before, needed and erased may be null where the caller
- *   doesn't want them. No other pointer may be null. The proofs are about pointers that aren't null, and about places that are initialised;
- *   that the calls do the same with others is tested.
+ *   doesn't want them. No other pointer may be null. The proofs are about pointers that aren't null, and about elements that are
+ *   initialised; that the calls do the same with others is tested.
  * - A `cedar_dictionary` is initialised with CEDAR_CLOSED or cedar_closed(), and only these calls change it. It may be moved. Its fields
  *   are neither read nor written by the program.
  * - A call that takes a const dictionary only reads it. Any number of threads may make such calls at the same time, each with its own copy
@@ -116,7 +116,7 @@ uint32_t cedar_new_with(cedar_dictionary *d, bool ordered, int32_t max_trial);
 
 /* As cedar_new_with, in the reduced layout: a value is kept in the last node of its key as long as no longer key has been stored below it,
  * and takes no slot of its own. All calls below take a dictionary of either layout, and return the same for both except for the number of
- * slots in use. The layout is chosen when the dictionary is made. */
+ * held slots. The layout is chosen when the dictionary is made. */
 uint32_t cedar_new_reduced(cedar_dictionary *d, bool ordered, int32_t max_trial);
 
 /* Returns whether *d has the reduced layout. False if closed. */
@@ -135,7 +135,7 @@ uint32_t cedar_load_reduced(cedar_dictionary *d, const uint8_t *bytes, size_t le
  * layout. A file that names neither fails with CEDAR_FILE_LAYOUT, unless something before that byte is wrong. */
 uint32_t cedar_load_any(cedar_dictionary *d, const uint8_t *bytes, size_t length, size_t memory_limit);
 
-/* Writes the file of *d to the beginning of a buffer, and its number of bytes to *needed; the other places keep their content. The file
+/* Writes the file of *d to the beginning of a buffer, and its number of bytes to *needed; the other elements keep their content. The file
  * lists the slots and blocks in use, or all of them if is_full, as format 1.0 does. Returns CEDAR_OK; CEDAR_IS_CLOSED; CEDAR_NO_ROOM if the
  * file has more than room bytes (call with room 0 to learn how many); or CEDAR_MEMORY, since it allocates a copy of the file. After an
  * error the buffer is as it was. */
@@ -211,8 +211,8 @@ typedef struct cedar_key {
 
 /* Removes some keys, one after another, and returns how many of them were held. held[i] becomes whether keys[i] was held, as cedar_erase
  * would return it: of a key that is listed twice only the first one was. If `room` is below `count`, only that of the first `room` keys is
- * written, and none with room 0; places behind the last key stay. It is faster than as many calls of cedar_erase if the table is large and
- * the keys come in no order. It allocates nothing. Returns 0 if *d is closed, and then all places stay. */
+ * written, and none with room 0; elements behind the last key stay. It is faster than as many calls of cedar_erase if the table is large
+ * and the keys come in no order. It allocates nothing. Returns 0 if *d is closed, and then all elements stay. */
 size_t cedar_erase_all(cedar_dictionary *d, const cedar_key *keys, size_t count, bool *held, size_t room);
 
 /* Removes each key that begins with a prefix, and writes their number to *erased. The empty prefix removes all keys. It neither allocates
@@ -248,6 +248,15 @@ uint32_t cedar_reserve(cedar_dictionary *d, size_t blocks);
  * block. After an error nothing has changed. */
 uint32_t cedar_shrink(cedar_dictionary *d);
 
+/* Lets one search for places try so many blocks of slots at most; a search that has failed in so many puts a new block into use. At first
+ * nothing bounds a search (SIZE_MAX), and an update after many erasures may take milliseconds, since it tries each block that they opened.
+ * With a bound it doesn't, and may take some more slots. No result depends on it unless memory or slots run out. A copy has the same bound,
+ * and cedar_shrink keeps it; no file has it. cedar_build and its kin search without a bound. Does nothing if *d is closed. */
+void cedar_set_search_limit(cedar_dictionary *d, size_t blocks);
+
+/* Returns how many blocks of slots one search for places tries at most. 0 if closed. */
+size_t cedar_search_limit(const cedar_dictionary *d);
+
 /* A key that was found: its value, and the number of bytes of the whole key. */
 typedef struct cedar_match {
     int32_t value;
@@ -255,8 +264,8 @@ typedef struct cedar_match {
 } cedar_match;
 
 /* Finds the keys that are prefixes of a text, shortest first. The first `room` of them, or all if there are fewer, are written to
- * matches[0] and on; the other places keep their content. Returns how many there are, never more than the text has bytes: if that is above
- * room, call again with more room. It goes along the text once, and allocates nothing. Returns 0 if closed. */
+ * matches[0] and on; the other elements keep their content. Returns how many there are, never more than the text has bytes: if that is
+ * above room, call again with more room. It goes along the text once, and allocates nothing. Returns 0 if closed. */
 size_t cedar_prefixes(const cedar_dictionary *d, const uint8_t *text, size_t length, cedar_match *matches, size_t room);
 
 /* Writes the longest key that is a prefix of a text to *found, and returns whether there is one; if not, *found isn't written. It goes
@@ -270,16 +279,16 @@ bool cedar_longest_prefix(const cedar_dictionary *d, const uint8_t *text, size_t
 size_t cedar_predictions(const cedar_dictionary *d, const uint8_t *text, size_t length, cedar_match *matches, size_t room);
 
 /* As cedar_prefixes and cedar_predictions, without the first *next keys, in pieces: as many as are left, and there is room for, are written
- * to matches[0] and on; the other places keep their content. They return how many were written, and add it to *next, so that the same call
- * goes on. Begin with *next 0; a result below room means that nothing is left. Don't change the dictionary between two pieces, or they may
- * not belong together. Each call walks past the first *next again, and no further than what it writes; it allocates nothing. They return 0
- * if closed. */
+ * to matches[0] and on; the other elements keep their content. They return how many were written, and add it to *next, so that the same
+ * call goes on. Begin with *next 0; a result below room means that nothing is left. Don't change the dictionary between two pieces, or they
+ * may not belong together. Each call walks past the first *next again, and no further than what it writes; it allocates nothing. They
+ * return 0 if closed. */
 size_t cedar_prefixes_from(const cedar_dictionary *d, const uint8_t *text, size_t length, size_t *next, cedar_match *matches, size_t room);
 size_t cedar_predictions_from(const cedar_dictionary *d, const uint8_t *text, size_t length, size_t *next, cedar_match *matches,
                               size_t room);
 
 /* Writes the bytes of all keys to the beginning of a buffer, one key after another in iteration order, and their number of bytes to
- * *needed; the other places keep their content. cedar_predictions with the empty text finds the value and the length of each key in the
+ * *needed; the other elements keep their content. cedar_predictions with the empty text finds the value and the length of each key in the
  * same order. Returns CEDAR_OK; CEDAR_IS_CLOSED; CEDAR_NO_ROOM if the keys have more than room bytes; or CEDAR_MEMORY, since it allocates a
  * copy of them. After an error the buffer is as it was. */
 uint32_t cedar_keys(const cedar_dictionary *d, uint8_t *buffer, size_t room, size_t *needed);
@@ -295,42 +304,42 @@ typedef struct cedar_found {
  * `behind` has no byte, the page begins with the first entry. To go on, copy the last key of a page and pass it as `behind`. It begins with
  * the prefix, and needn't be held any more; after a key without the prefix the page ends at the first key without it.
  *
- * found[0] and on say where each key begins among the bytes, how many bytes it has, and its value; the other places keep their content. The
- * keys are written to bytes[0] and on, one after another, and the other bytes may be written to as well. *count is the number of entries
- * written: as many as there was room for. With a place or more, 0 says that no key with the prefix comes next: if `behind` has no byte, or
- * begins with the prefix, none is left then. A page costs a look-up or two and its own entries, and allocates nothing. The dictionary may
- * be changed between two pages.
+ * found[0] and on say where each key begins among the bytes, how many bytes it has, and its value; the other elements keep their content.
+ * The keys are written to bytes[0] and on, one after another, and the other bytes may be written to as well. *count is the number of
+ * entries written: as many as there was room for. With an element or more, 0 says that no key with the prefix comes next: if `behind` has
+ * no byte, or begins with the prefix, none is left then. A page costs a look-up or two and its own entries, and allocates nothing. The
+ * dictionary may be changed between two pages.
  *
- * Returns CEDAR_OK; CEDAR_IS_CLOSED; CEDAR_NOT_ASCENDING if `behind` has a byte and labels don't ascend; or CEDAR_NO_ROOM if there is a
- * place and the next key has more than `room` bytes: then *needed is how many. That next key may be one without the prefix, behind the
+ * Returns CEDAR_OK; CEDAR_IS_CLOSED; CEDAR_NOT_ASCENDING if `behind` has a byte and labels don't ascend; or CEDAR_NO_ROOM if there is an
+ * element and the next key has more than `room` bytes: then *needed is how many. That next key may be one without the prefix, behind the
  * last one with it or before the first: so CEDAR_NO_ROOM may come where nothing that is wanted is left. After an error nothing else is
  * written. */
 uint32_t cedar_entries_from(const cedar_dictionary *d, const uint8_t *prefix, size_t prefix_length, const uint8_t *behind,
                             size_t behind_length, cedar_found *found, size_t places, uint8_t *bytes, size_t room, size_t *count,
                             size_t *needed);
 
-/* Finds all keys in a text, from the place *next on: place after place, and at each place the shortest first. It writes them to found[0]
- * and on, and returns how many it wrote; the other places may be written to as well. The keys of a place are returned by the same call: if
- * there is no room left for them, the call ends and *next is this place, so that calling again with this *next goes on. If it then returns
- * 0, the place has more keys than room; it never has more than the longest key has bytes. At the end *next is the text's length. It
- * allocates nothing. It finds nothing in a closed dictionary. Begin with *next 0, and go on while *next is below length. */
+/* Finds all keys in a text, from the position *next on: position after position, and at each the shortest first. It writes them to found[0]
+ * and on, and returns how many it wrote; the other elements may be written to as well. The keys of a position are returned by the same
+ * call: if there is no room left for them, the call ends and *next is this position, so that calling again with this *next goes on. If it
+ * then returns 0, the position has more keys than room; it never has more than the longest key has bytes. At the end *next is the text's
+ * length. It allocates nothing. It finds nothing in a closed dictionary. Begin with *next 0, and go on while *next is below length. */
 size_t cedar_scan(const cedar_dictionary *d, const uint8_t *text, size_t length, size_t *next, cedar_found *found, size_t room);
 
-/* Cuts a text into tokens, from the place *next on, where a token begins: at each place the longest key that begins there, or otherwise one
+/* Cuts a text into tokens, from the position *next on, where a token begins: at each the longest key that begins there, or otherwise one
  * byte, with the value -1. With room 1 or more each call goes on. Otherwise as cedar_scan. */
 size_t cedar_segment(const cedar_dictionary *d, const uint8_t *text, size_t length, size_t *next, cedar_found *found, size_t room);
 
-/* Finds the keywords of a text, leftmost longest, from the place *next on, where a token begins: of the keys that begin first the longest,
- * then the same from its end on, so that none overlap. The bytes between them aren't reported. Otherwise as cedar_segment. */
+/* Finds the keywords of a text, leftmost longest, from the position *next on, where a token begins: of the keys that begin first the
+ * longest, then the same from its end on, so that none overlap. The bytes between them aren't reported. Otherwise as cedar_segment. */
 size_t cedar_keywords(const cedar_dictionary *d, const uint8_t *text, size_t length, size_t *next, cedar_found *found, size_t room);
 
 /* Cuts a whole text into keys and single bytes whose costs have the least sum. It writes these tokens to found[0] and on, and their number
- * to *needed; the other places keep their content. A key costs its value. A byte without a key has the value -1 and costs `unknown`; if
+ * to *needed; the other elements keep their content. A key costs its value. A byte without a key has the value -1 and costs `unknown`; if
  * by_characters, a byte from 128 to 191, which continues a character of UTF-8, costs nothing. Of cuts with the same cost it picks the one
  * with the longer token where they first differ, and with a key rather than a byte. A sum above 2^64 - 1 counts as 2^64 - 1, which no least
  * sum of a text of fewer than 2^32 bytes reaches; if every cut costs 2^64 or more, it is one of them. There are never more tokens than
  * bytes. Returns CEDAR_OK; CEDAR_IS_CLOSED; CEDAR_NO_ROOM if there are more than room tokens (a call with room 0 says how many, and costs
- * as much); or CEDAR_MEMORY: it allocates 9 bytes for each byte of the text, and a list of the tokens. After an error the places are as
+ * as much); or CEDAR_MEMORY: it allocates 9 bytes for each byte of the text, and a list of the tokens. After an error the elements are as
  * they were. */
 uint32_t cedar_cheapest(const cedar_dictionary *d, const uint8_t *text, size_t length, uint32_t unknown, bool by_characters,
                         cedar_found *found, size_t room, size_t *needed);
@@ -441,7 +450,7 @@ uint32_t cedar_save_file(const cedar_dictionary *d, bool is_full, const char *pa
  *
  * - The new file's name is that of the path with `.new` behind it, or with `.1.new` to `.99.new` if something has that name already. What
  *   has such a name stays as it is, and a link isn't followed. If all of them are taken, errno is EEXIST. Where the name would have more
- *   than 255 bytes, its first 247 stand before the suffix, or up to 3 fewer, so that no character of UTF-8 is cut.
+ *   than 255 bytes, its first 247 come before the suffix, or up to 3 fewer, so that no character of UTF-8 is cut.
  * - It gets the mode of the old file, and its owner and group if the system allows that. If it doesn't, the bits set-user-ID and
  *   set-group-ID are taken away. Access lists and other attributes aren't kept. Until it is whole, only the user who writes it may read
  *   it. If there is no old file, the mode is 0666 without the bits of the umask from the beginning.
@@ -518,7 +527,7 @@ CEDAR_INLINE size_t cedar_store_damaged_at(const cedar_store *s) {
 /* Returns the path of the file that keeps what the opening of *s cut off, or NULL if nothing had to be kept, or if *s is closed. The path
  * ends with a byte 0, and lives until *s is closed or opened again.
  *
- * A crash leaves at most the record under way behind the end of a file's records, as far as any test has found. If whole records stand
+ * A crash leaves at most the record under way behind the end of a file's records, as far as any test has found. If whole records are
  * there, somebody else has closed a gate, which takes all later records with it. If that may be so, an opening first puts all that it cuts
  * off, behind the file's header, into a new file beside it. That is on the disk before anything is cut.
  *
@@ -591,7 +600,7 @@ size_t cedar_store_waiting(const cedar_store *s);
 
 /* Replaces the file by one that has the dictionary's entries alone, on the disk: some 10 bytes and the key for each. The changes that wait
  * are in it too. A store that has failed in a change goes on then, with all that its dictionary has. It takes the time of all entries, and
- * memory for 4 MiB and the longest key. A crash at any moment leaves the old file or the new one, which stand for the same dictionary.
+ * memory for 4 MiB and the longest key. A crash at any moment leaves the old file or the new one, which represent the same dictionary.
  *
  * The new file is made beside the old one, under its name with `.cedar-compaction` behind it. It has its mode, and its owner if the system
  * allows it, and is locked. If a crash leaves it there, the next opening removes it. Returns:
@@ -605,7 +614,7 @@ uint32_t cedar_store_compact(cedar_store *s);
 
 /* Sets when changes compact the file by themselves: if it has more than factor times the bytes that it would have behind a compaction, and
  * `spare` bytes more. At first these are 2 and 65536. A factor of 1 counts as 2, and with 0 no change does it. A change does so last, once
- * it is on the disk. If that fails, it is no error of the change: cedar_store_last_compaction tells it. Only if the store has failed then,
+ * it is on the disk. If that fails, it is no error of the change: cedar_store_last_compaction has it. Only if the store has failed then,
  * the change returns CEDAR_STORE_DEVICE. Returns CEDAR_OK or CEDAR_IS_CLOSED. */
 uint32_t cedar_store_compact_beyond(cedar_store *s, size_t factor, size_t spare);
 
@@ -627,7 +636,7 @@ uint32_t cedar_store_compacted_len(const cedar_store *s, size_t *length);
 /* Returns whether the device has failed in a change. False if closed. */
 bool cedar_store_failed(const cedar_store *s);
 
-/* Puts the changes that wait on the disk, closes the file, and frees the memory of *s. *s is closed then. Only cedar_store_sync tells
+/* Puts the changes that wait on the disk, closes the file, and frees the memory of *s. *s is closed then. Only cedar_store_sync says
  * whether the disk has the changes. Does nothing if *s is closed. */
 void cedar_store_close(cedar_store *s);
 

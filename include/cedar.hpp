@@ -8,7 +8,7 @@
 //     d.save_to_path("words.cedar");
 //
 // A key is a nonempty byte string without byte 0, a value a whole number from 0 to 2147483645: it may be handed over in any type of
-// integers, and one that is out of this range is refused and not cut. All lengths, places and positions are bytes, counted from 0. Keys,
+// integers, and one that is out of this range is refused and not cut. All lengths and positions are bytes, counted from 0. Keys,
 // texts and files are read during the call only, unless a member's comment says otherwise.
 //
 // Errors. A call that is refused throws roskvidh::error, which has a status of cedar.h; std::bad_alloc ("memory" below) if memory runs out;
@@ -220,7 +220,7 @@ public:
         detail::check_pairs(status, position, listed);
     }
 
-    /// Removes a key, and returns whether it was held. Its slots are used again. It allocates nothing.
+    /// Removes a key, and returns whether it was held. Its slots become free. It allocates nothing.
     bool erase(std::string_view key) noexcept { return cedar_erase(&inside_, detail::bytes(key), key.size()); }
 
     /// Removes the keys of a range, as of std::string_view, one after another, and returns how many of them were held. It is faster than as
@@ -293,6 +293,17 @@ public:
     /// takes at most one for each byte of its key.
     void reserve(std::size_t blocks) { detail::check(cedar_reserve(&inside_, blocks)); }
 
+    /// Lets one search for places try so many blocks of slots at most. At first nothing bounds it, and an update after many erasures may
+    /// take milliseconds; with a bound it doesn't, and may take some more slots. No result depends on it unless memory or slots run out. A
+    /// clone has the same bound, and shrink_to_fit keeps it; no file has it.
+    void set_search_limit(std::size_t blocks) noexcept { cedar_set_search_limit(&inside_, blocks); }
+
+    /// Returns how many blocks of slots one search for places tries at most: SIZE_MAX if nothing bounds it, and 0 if closed.
+    std::size_t search_limit() const noexcept {
+        const cedar_dictionary mine = inside_;
+        return cedar_search_limit(&mine);
+    }
+
     /// Returns the keys that are prefixes of a text, shortest first: for each its value, and its length in bytes. It goes along the text
     /// once, or if there are 64 or more about twice.
     std::vector<match> prefixes(std::string_view text) const {
@@ -348,26 +359,26 @@ public:
     const_iterator cbegin() const { return begin(); }
     const_iterator cend() const noexcept { return {}; }
 
-    /// Returns an iterator that stands at a key, or end() if the key isn't held. get is cheaper where only the value is wanted.
+    /// Returns an iterator at a key, or end() if the key isn't held. get is cheaper where only the value is wanted.
     const_iterator find(std::string_view key) const {
         return const_iterator(detail::page::only({&inside_, {}, std::nullopt}, key));
     }
 
-    /// Returns an iterator that stands at the first key that isn't below this one, or end().
+    /// Returns an iterator at the first key that isn't below this one, or end().
     const_iterator lower_bound(std::string_view key) const { return const_iterator(first_behind(key, std::nullopt, true)); }
 
-    /// Returns an iterator that stands at the first key above this one, or end(): the next key.
+    /// Returns an iterator at the first key above this one, or end(): the next key.
     const_iterator upper_bound(std::string_view key) const { return const_iterator(first_behind(key, std::nullopt, false)); }
 
-    /// Calls `callable(occurrence)` for each key in a text: place after place, and at each place the shortest first. If `callable` returns
+    /// Calls `callable(occurrence)` for each key in a text: position after position, and at each the shortest first. If `callable` returns
     /// a bool, false ends the scan. Up to 256 keys are found ahead, so what `callable` stores or erases shows later or never. It allocates
-    /// only if more than 256 keys begin at one place.
+    /// only if more than 256 keys begin at one position.
     template <class Callable>
     void scan(std::string_view text, Callable &&callable) const {
         told(cedar_scan, text, [&callable](const cedar_found &one) { return detail::tell(callable, one); });
     }
 
-    /// Calls `callable(token)` for the tokens that a text is cut into: at each place the longest key that begins there, or otherwise one
+    /// Calls `callable(token)` for the tokens that a text is cut into: at each position the longest key that begins there, or otherwise one
     /// byte, which has no value. If `callable` returns a bool, false ends it. Otherwise as scan, except that it allocates nothing.
     template <class Callable>
     void segment(std::string_view text, Callable &&callable) const {
@@ -466,7 +477,7 @@ private:
         return made;
     }
 
-    // The first answers of a walk, as far as they are wanted, in pieces that double: each goes past those before it again.
+    // The first results of a walk, as far as they are wanted, in pieces that double: each goes past those before it again.
     std::vector<match> walked(walk<match> call, std::string_view text, std::size_t most) const {
         const cedar_dictionary mine = inside_;
         std::vector<match> found;
@@ -480,7 +491,7 @@ private:
         return found;
     }
 
-    // Tells a text in pieces. Where none fits, one place has more keys than there is room.
+    // Tells a text in pieces. Where none fits, one position has more keys than there is room.
     template <class Tell>
     void told(walk<occurrence> call, std::string_view text, Tell tell) const {
         std::array<cedar_found, 256> first{};

@@ -33,7 +33,7 @@ public:
     /// The status of cedar.h, such as CEDAR_NUL_BYTE.
     std::uint32_t status() const noexcept { return status_; }
 
-    /// For CEDAR_NUL_BYTE, the place of the first byte 0 in the key. For CEDAR_DUPLICATE_KEY and CEDAR_KEYS_NOT_SORTED, the index of the
+    /// For CEDAR_NUL_BYTE, the position of the first byte 0 in the key. For CEDAR_DUPLICATE_KEY and CEDAR_KEYS_NOT_SORTED, the index of the
     /// pair. For CEDAR_STORE_DAMAGED, the byte of the file at which the damaged record begins. Otherwise nothing.
     std::optional<std::size_t> position() const noexcept { return position_; }
 
@@ -65,7 +65,7 @@ public:
 
 namespace detail {
 
-// What every dictionary refuses: it stands for each value that is out of range.
+// What every dictionary refuses: it takes the part of each value that is out of range.
 inline constexpr std::int32_t refused_value = -1;
 
 // Integers, and those enumerations that C++ takes for integers.

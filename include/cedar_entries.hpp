@@ -195,7 +195,7 @@ private:
         return {places, std::min(places * std::max<std::size_t>(twice_a_key, 16), most_room.bytes)};
     }
 
-    // The bytes of the keys, one after another, stand behind the places.
+    // The bytes of the keys, one after another, are behind the elements.
     char *text() const noexcept { return reinterpret_cast<char *>(found_.get() + room_.places); }
 
     std::string_view key_of(const cedar_found &one) const noexcept { return {text() + one.place, one.length}; }
@@ -217,8 +217,8 @@ private:
 /// value is shown as it was when its page was taken, or not at all. The dictionary must not be destroyed before the last step. If it is
 /// moved away, the next page throws CEDAR_IS_CLOSED; if it is assigned to or swapped, the next page has what it holds then.
 ///
-/// A key's bytes stay as long as an iterator stands at the key or before it on its way, or as the range that the iterator comes from
-/// (`entries`) lives. Two iterators are equal if both are at the end, or if they stand at equal keys. An iterator, its copies and its range
+/// A key's bytes stay as long as an iterator is at the key or before it on its way, or as the range that the iterator comes from
+/// (`entries`) lives. Two iterators are equal if both are at the end, or if they are at equal keys. An iterator, its copies and its range
 /// are used by one thread at a time.
 class entry_iterator {
 public:

@@ -82,6 +82,8 @@ def _library(path=os.environ.get("CEDAR_LIBRARY", Path(__file__).parent / "libce
         ("cedar_used_slots", c_size_t, [handle]),
         ("cedar_capacity", c_size_t, [handle]),
         ("cedar_reserve", c_uint32, [handle, c_size_t]),
+        ("cedar_set_search_limit", None, [handle, c_size_t]),
+        ("cedar_search_limit", c_size_t, [handle]),
     ]:
         function = getattr(library, name)
         function.restype = result
@@ -116,6 +118,7 @@ _NO_MEMORY = 2
 _SHORTAGES = (_NO_MEMORY, 3)
 _MAX_VALUE = 2147483645
 _MAX_SIZE = 2**63 - 1
+_NO_LIMIT = c_size_t(-1).value
 _LONG = 1 << 17  # bytes
 _MOST_AT_ONCE = 1 << 21  # places, of 24 bytes each
 
@@ -241,6 +244,18 @@ class Cedar:
         if blocks < 0:
             raise ValueError("the blocks to reserve are 0 or more")
         _check(_CEDAR.cedar_reserve(self._this, min(blocks, _MAX_SIZE)))
+
+    @property
+    def search_limit(self):
+        """How many blocks of slots one search for places tries at most, or None if nothing bounds it, as at first. No file has it."""
+        blocks = _CEDAR.cedar_search_limit(self._this)
+        return None if blocks == _NO_LIMIT else blocks
+
+    @search_limit.setter
+    def search_limit(self, blocks):
+        if blocks is not None and blocks < 0:
+            raise ValueError("a search limit is 0 or more")
+        _CEDAR.cedar_set_search_limit(self._this, _NO_LIMIT if blocks is None else min(blocks, _NO_LIMIT))
 
     def save(self, is_full=False):
         """Returns the bytes of its file: format 1.1, or if is_full format 1.0, which lists all slots."""

@@ -53,6 +53,7 @@ def check(reduced):
     pieces(cedar)
     refusals(cedar)
     room_ahead(reduced)
+    bounded_searches(reduced)
     cedar["käse"] = 3
     assert cedar["käse".encode()] == 3
     loads(Cedar({b"net": 1, b"ten": 2, b"nets": 3}, reduced=reduced).save(), reduced)
@@ -110,6 +111,24 @@ def room_ahead(reduced):
     assert cedar.capacity() == 1024 and dict(cedar.items()) == {b"net": 7, b"x": 1, b"yz": 2}
     cedar.close()
     assert refuses(CedarError, lambda: cedar.reserve(0)) == "the dictionary is closed"
+
+
+def bounded_searches(reduced):
+    """A bound on how many blocks a search tries: no result depends on it, and no file has it."""
+    pairs = {b"%d" % i: i for i in range(3000)}
+    cedar = Cedar(pairs, reduced=reduced)
+    assert cedar.search_limit is None
+    cedar.search_limit = 2
+    for key in list(pairs)[::20]:
+        del cedar[key]
+    cedar.update(pairs)
+    assert cedar.search_limit == 2 and dict(cedar.items()) == pairs
+    assert Cedar.loaded(cedar.save()).search_limit is None
+    refuses(ValueError, lambda: setattr(cedar, "search_limit", -1))
+    cedar.search_limit = None
+    assert cedar.search_limit is None
+    cedar.close()
+    assert cedar.search_limit == 0
 
 
 def pieces(cedar):

@@ -258,7 +258,7 @@ class CedarMap(MutableMapping[K, V]):
                 return found[0], value
 
     def scan(self, text: K, /) -> Iterator[Found]:
-        """Gives all keys in a text: place after place, and at each place the shortest first.
+        """Gives all keys in a text: position after position, and at each the shortest first.
 
         >>> [tuple(f) for f in CedarMap({b"net": "a", b"nets": "b"}).scan(b"a nets")]
         [(2, 3, True, 'a'), (2, 4, True, 'b')]
@@ -267,7 +267,7 @@ class CedarMap(MutableMapping[K, V]):
         return _found(ids.scan(text), values)
 
     def segment(self, text: K, /) -> Iterator[Found]:
-        """Gives the tokens of a text: at each place the longest key, or otherwise one byte (with text=True one character).
+        """Gives the tokens of a text: at each position the longest key, or otherwise one byte (with text=True one character).
 
         >>> [tuple(f) for f in CedarMap({b"net": "a", b"nets": "b"}).segment(b"nets!")]
         [(0, 4, True, 'b'), (4, 1, False, None)]

@@ -71,6 +71,28 @@ static PyObject *core_max_trial(Core *core, void *unused) {
     return PyLong_FromLong(core->max_trial);
 }
 
+/* None where nothing bounds a search. */
+static PyObject *core_search_limit(Core *core, void *unused) {
+    (void)unused;
+    if (core_ready(core) < 0) return NULL;
+    size_t blocks = cedar_search_limit(&core->store.dictionary);
+    if (blocks == SIZE_MAX) Py_RETURN_NONE;
+    return PyLong_FromSize_t(blocks);
+}
+
+static int core_set_search_limit(Core *core, PyObject *given, void *unused) {
+    (void)unused;
+    if (!given) {
+        PyErr_SetString(PyExc_TypeError, "search_limit can't be deleted");
+        return -1;
+    }
+    size_t blocks = given == Py_None ? SIZE_MAX : PyLong_AsSize_t(given);
+    if (blocks == (size_t)-1 && PyErr_Occurred()) return -1;
+    if (core_alone(core) < 0) return -1;
+    cedar_set_search_limit(&core->store.dictionary, blocks);
+    return 0;
+}
+
 static PyObject *core_closed(Core *core, void *unused) {
     (void)unused;
     return PyBool_FromLong(!core->is_open);
@@ -81,6 +103,10 @@ static PyGetSetDef core_properties[] = {
     {"ordered", (getter)core_ordered, NULL, "Whether keys ascend by bytes in an iteration.", NULL},
     {"reduced", (getter)core_reduced, NULL, "Whether it is of the reduced layout, which takes fewer slots.", NULL},
     {"max_trial", (getter)core_max_trial, NULL, "How many failed searches for a place close a block of slots.", NULL},
+    {"search_limit", (getter)core_search_limit, (setter)core_set_search_limit,
+     "How many blocks of slots one search for places tries at most. At first it is None: nothing bounds a search, and an update after many\n"
+     "erasures may take milliseconds. With a bound it doesn't, and may take some more slots. A copy has the same bound; no file and no pickle has it.",
+     NULL},
     {"closed", (getter)core_closed, NULL, "Whether its memory was given back.", NULL},
     {NULL, NULL, NULL, NULL, NULL},
 };

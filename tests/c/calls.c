@@ -89,6 +89,28 @@ static void room_ahead(bool is_reduced) {
     cedar_free(&d);
 }
 
+/* A bound on how many blocks a search tries, which a copy and a shrunk dictionary have too, and no file. */
+static void bounded_searches(bool is_reduced) {
+    cedar d = CEDAR_CLOSED, copy = CEDAR_CLOSED;
+    static uint8_t file[1 << 16];
+    size_t needed;
+    int32_t value;
+    cedar_set_search_limit(&d, 3);
+    CHECK(cedar_search_limit(&d) == 0 && cedar_capacity(&d) == 0);
+    CHECK((is_reduced ? cedar_new_reduced(&d, true, 1) : cedar_new(&d)) == CEDAR_OK && cedar_search_limit(&d) == SIZE_MAX);
+    CHECK(cedar_update(&d, (const uint8_t *)"net", 3, 7, NULL) == CEDAR_OK);
+    cedar_set_search_limit(&d, 3);
+    CHECK(cedar_search_limit(&d) == 3 && cedar_is_reduced(&d) == is_reduced && cedar_len(&d) == 1 && cedar_capacity(&d) == 512);
+    CHECK(cedar_update(&d, (const uint8_t *)"new", 3, 8, NULL) == CEDAR_OK && cedar_search_limit(&d) == 3);
+    CHECK(cedar_get(&d, (const uint8_t *)"net", 3, &value) && value == 7 && cedar_get(&d, (const uint8_t *)"new", 3, &value) && value == 8);
+    CHECK(cedar_clone(&d, &copy) == CEDAR_OK && cedar_search_limit(&copy) == 3);
+    CHECK(cedar_shrink(&d) == CEDAR_OK && cedar_search_limit(&d) == 3);
+    CHECK(cedar_save(&d, false, file, sizeof file, &needed) == CEDAR_OK && cedar_load_any(&copy, file, needed, CEDAR_LOAD_LIMIT) == CEDAR_OK);
+    CHECK(cedar_search_limit(&copy) == SIZE_MAX && cedar_len(&copy) == 2);
+    cedar_free(&copy);
+    cedar_free(&d);
+}
+
 /* Keys erased by a prefix and all together, and the memory given back. */
 static void erased_by_prefix(bool is_reduced) {
     const char *keys[] = {"net", "network", "networks", "ten"};
@@ -554,6 +576,8 @@ int main(int count, char **arguments) {
     settings_and_walks();
     room_ahead(false);
     room_ahead(true);
+    bounded_searches(false);
+    bounded_searches(true);
     for (int is_reduced = 0; is_reduced < 2; is_reduced++) {
         erased_by_prefix(is_reduced);
         erased_together(is_reduced);

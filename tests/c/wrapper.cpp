@@ -139,8 +139,11 @@ void each_member(layout kind) {
     d.update("later", 1);
     CHECK(copy.kind() == kind && listed(copy.entries()) == all && d.size() == 5);
     CHECK(d.erase_prefix("ne") == 3 && d.erase_prefix("ne") == 0 && listed(d.entries()) == Pairs({{"later", 1}, {"no", CEDAR_MAX_VALUE}}));
+    CHECK(d.search_limit() == SIZE_MAX);
+    d.set_search_limit(64);
     d.shrink_to_fit();
     CHECK(d.kind() == kind && d.size() == 2 && d.get("later") == 1 && d.statistics().capacity == 512);
+    CHECK(d.search_limit() == 64 && d.clone().search_limit() == 64 && copy.search_limit() == SIZE_MAX);
     d.clear();
     CHECK(d.empty() && d.is_open() && d.kind() == kind && d.statistics().used_slots == 1);
 }
@@ -264,6 +267,8 @@ void moves(layout kind) {
     refused(CEDAR_IS_CLOSED, {}, text, [&] { first.shrink_to_fit(); });
     first.clear();
     CHECK(first.erase_prefix("") == 0 && first.erase_all({"a"}) == 0 && !first.is_open());
+    first.set_search_limit(3);
+    CHECK(first.search_limit() == 0 && !first.is_open());
     first = dictionary(kind);
     first.update("b", 2);
     swap(first, second);

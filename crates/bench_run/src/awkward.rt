@@ -3,7 +3,7 @@
 
 use crate::digest::Digest;
 use crate::ids::{addresses, binary};
-use crate::made::{Random, Scale, placed};
+use crate::made::{Random, Scale, pairs_of};
 use anyhow::Result;
 use cedarwood::{Cedar, CedarBuilder, Layout, ReducedCedar, Trie};
 use std::alloc::Global;
@@ -53,7 +53,7 @@ fn churn<L: Layout, const SLOTS: usize>(
     digest: &mut Digest,
 ) -> Result<()> {
     let (first, later) = keys.split_at(keys.len() - keys.len() / 5);
-    for (key, value) in &placed(alloc, first)? {
+    for (key, value) in &pairs_of(alloc, first)? {
         cedar.update_bytes(key, *value)?;
     }
     for part in first.chunks(20) {
@@ -61,7 +61,7 @@ fn churn<L: Layout, const SLOTS: usize>(
             digest.add(u64::from(cedar.erase_bytes(key)));
         }
     }
-    for (key, value) in &placed(alloc, later)? {
+    for (key, value) in &pairs_of(alloc, later)? {
         digest.add_found(cedar.insert_bytes(key, *value)?);
     }
     for key in keys {

@@ -1,7 +1,7 @@
 //! Completions: the first keys that begin with a prefix, pages of keys, and all keys.
 
 use crate::digest::Digest;
-use crate::made::{Random, Scale, pick, placed};
+use crate::made::{Random, Scale, pairs_of, pick};
 use crate::words::western;
 use anyhow::Result;
 use cedarwood::{Cedar, CedarError};
@@ -17,7 +17,7 @@ pub(crate) fn complete(alloc: Global, scale: Scale) -> Result<Digest> {
     let words = western(alloc, &mut random, scale.of(300_000))?;
     let words = words.all(alloc)?;
     let mut cedar = Cedar::new(alloc)?;
-    cedar.update_batch(&placed(alloc, &words)?)?;
+    cedar.update_batch(&pairs_of(alloc, &words)?)?;
     answer_all(&cedar, &mut random, &words, scale.of(500_000), &mut digest)?;
     for letter in b'a'..b'z' {
         all_below(&cedar, letter, &mut digest);

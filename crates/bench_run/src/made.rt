@@ -130,8 +130,8 @@ pub(crate) fn pick<'a>(texts: &[&'a [u8]], at: usize) -> &'a [u8] {
     texts.get(at).copied().unwrap_or(&[])
 }
 
-/// Returns a value for each text: its place in the list.
-pub(crate) fn placed<'a>(alloc: Global, texts: &[&'a [u8]]) -> Result<Vec<(&'a [u8], i32)>> {
+/// Returns a value for each text: its index in the list.
+pub(crate) fn pairs_of<'a>(alloc: Global, texts: &[&'a [u8]]) -> Result<Vec<(&'a [u8], i32)>> {
     let mut pairs = Vec::with_capacity(alloc, texts.len())?;
     let mut value: i32 = 0;
     for text in texts {

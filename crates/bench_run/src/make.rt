@@ -1,7 +1,7 @@
 //! A dictionary is made and kept: of word lists in order and in none, saved, loaded and saved again, in both layouts.
 
 use crate::digest::Digest;
-use crate::made::{Scale, placed};
+use crate::made::{Scale, pairs_of};
 use crate::words::{chinese, western};
 use anyhow::Result;
 use cedarwood::{Cedar, CedarBuilder, ReducedCedar, Watched};
@@ -23,8 +23,8 @@ pub(crate) fn make(alloc: Global, scale: Scale) -> Result<Digest> {
 /// Makes a dictionary of words in no order, changes and saves it; loads that, lists it, and makes another one of the list, which is in order.
 fn keep(alloc: Global, words: &[&[u8]], digest: &mut Digest) -> Result<()> {
     let (first, later) = words.split_at(words.len() - words.len() / 10);
-    let mut cedar = Cedar::from_pairs_bytes(alloc, &placed(alloc, first)?)?;
-    cedar.update_batch(&placed(alloc, later)?)?;
+    let mut cedar = Cedar::from_pairs_bytes(alloc, &pairs_of(alloc, first)?)?;
+    cedar.update_batch(&pairs_of(alloc, later)?)?;
     let mut writer = Watched::new(Vec::new(alloc));
     cedar.save_to_writer(&mut writer)?;
     let file = writer.into_inner();
@@ -51,7 +51,7 @@ fn keep(alloc: Global, words: &[&[u8]], digest: &mut Digest) -> Result<()> {
 
 /// Makes a dictionary of the reduced layout, saves it, and loads that.
 fn keep_reduced(alloc: Global, words: &[&[u8]], digest: &mut Digest) -> Result<()> {
-    let pairs = placed(alloc, words)?;
+    let pairs = pairs_of(alloc, words)?;
     let cedar = ReducedCedar::from_pairs_bytes_with(alloc, CedarBuilder::new(), &pairs)?;
     let mut writer = Watched::new(Vec::new(alloc));
     cedar.save_to_writer(&mut writer)?;

@@ -2,7 +2,7 @@
 
 use crate::digest::Digest;
 use crate::ids::identifiers;
-use crate::made::{Random, Scale, pick, placed};
+use crate::made::{Random, Scale, pairs_of, pick};
 use anyhow::Result;
 use cedarwood::{Cedar, Layout, ReducedCedar, Trie};
 use std::alloc::Global;
@@ -15,7 +15,7 @@ pub(crate) fn service(alloc: Global, scale: Scale) -> Result<Digest> {
     let mut digest = Digest::new();
     let mut random = scale.random(3);
     by_default(alloc, scale, &mut random, &mut digest)?;
-    reduced(alloc, scale, &mut random, &mut digest)?;
+    serve_reduced(alloc, scale, &mut random, &mut digest)?;
     Ok(digest)
 }
 
@@ -27,7 +27,12 @@ fn by_default(alloc: Global, scale: Scale, random: &mut Random, digest: &mut Dig
 }
 
 /// In the reduced layout, with half as many keys.
-fn reduced(alloc: Global, scale: Scale, random: &mut Random, digest: &mut Digest) -> Result<()> {
+fn serve_reduced(
+    alloc: Global,
+    scale: Scale,
+    random: &mut Random,
+    digest: &mut Digest,
+) -> Result<()> {
     let keys = identifiers(alloc, random, scale.of(350_000))?;
     let mut cedar = ReducedCedar::new(alloc)?;
     serve(alloc, scale, random, &keys.all(alloc)?, &mut cedar, digest)
@@ -96,7 +101,7 @@ fn change_together<L: Layout, const SLOTS: usize>(
 ) -> Result<()> {
     let mut found = [None; TOGETHER];
     let mut erased = [false; TOGETHER];
-    let pairs = placed(alloc, keys)?;
+    let pairs = pairs_of(alloc, keys)?;
     let mut turn: usize = 0;
     for (part, pairs) in keys.chunks(TOGETHER).zip(pairs.chunks(TOGETHER)) {
         turn = turn.wrapping_add(1);

@@ -1,7 +1,7 @@
 //! Texts by the words of a dictionary: a tokenizer that cuts lines, and a filter that searches them for keywords.
 
 use crate::digest::Digest;
-use crate::made::{Scale, placed};
+use crate::made::{Scale, pairs_of};
 use crate::words::{chinese, keywords, log_lines, prose, western};
 use anyhow::Result;
 use cedar_words::{cheapest, cheapest_by_characters, leftmost_longest, matches, segment};
@@ -32,7 +32,7 @@ fn cut_lines(alloc: Global, scale: Scale, digest: &mut Digest) -> Result<()> {
         &names.all(alloc)?,
         scale.of(60_000),
     )?;
-    let file = saved(alloc, &words)?;
+    let file = save_words(alloc, &words)?;
     let cedar = Cedar::load_from_reader(alloc, &mut file.as_slice())?;
     let mut turn: usize = 0;
     for line in lines.all(alloc)? {
@@ -58,9 +58,9 @@ fn cut_lines(alloc: Global, scale: Scale, digest: &mut Digest) -> Result<()> {
     Ok(())
 }
 
-/// Returns the bytes of a file of words, whose values are their places in a list.
-fn saved(alloc: Global, words: &[&[u8]]) -> Result<Vec<u8>> {
-    let pairs = placed(alloc, words)?;
+/// Returns the bytes of a file of words, whose values are their indexes in a list.
+fn save_words(alloc: Global, words: &[&[u8]]) -> Result<Vec<u8>> {
+    let pairs = pairs_of(alloc, words)?;
     let cedar = Cedar::from_pairs_bytes(alloc, &pairs)?;
     let mut writer = Watched::new(Vec::new(alloc));
     cedar.save_to_writer(&mut writer)?;
@@ -79,7 +79,7 @@ fn add_tokens(digest: &mut Digest, tokens: &[(usize, usize, Option<i32>)]) {
     }
 }
 
-/// Searches lines of a log for keywords: for all, for those that don't overlap, and for those that begin at each place.
+/// Searches lines of a log for keywords: for all, for those that don't overlap, and for those that begin at each position.
 fn filter_lines(alloc: Global, scale: Scale, digest: &mut Digest) -> Result<()> {
     let mut random = scale.random(2);
     let words = keywords(alloc, &mut random, scale.of(100_000))?;
@@ -93,7 +93,7 @@ fn filter_lines(alloc: Global, scale: Scale, digest: &mut Digest) -> Result<()> 
         scale.of(90_000),
     )?;
     let mut cedar = Cedar::new(alloc)?;
-    cedar.update_batch(&placed(alloc, &words)?)?;
+    cedar.update_batch(&pairs_of(alloc, &words)?)?;
     let mut turn: usize = 0;
     for line in lines.all(alloc)? {
         turn = turn.wrapping_add(1);
@@ -124,7 +124,7 @@ fn filter_lines(alloc: Global, scale: Scale, digest: &mut Digest) -> Result<()> 
     Ok(())
 }
 
-/// Adds the keys that begin at each place of a line.
+/// Adds the keys that begin at each position of a line.
 fn add_prefixes(digest: &mut Digest, cedar: &Cedar<Global>, line: &[u8]) {
     for place in 0..line.len() {
         let mut found = cedar.common_prefix_iter_bytes(&line[place..]);

@@ -1,6 +1,6 @@
 -- What the steps of a build ask of a table, each as one fact: a caller's check is dear for each part of a clause list.
 use Rattle.std.specs.Prelude.{◌≡◌, ◌≢◌, ◌<◌, ◌≤◌, ℕ, ℤ, List, length, Option, Some, None, true}
-use Rattle.cedar_tree.specs.Tree.{Forest}
+use Rattle.cedar_model.specs.Tree.{Forest}
 use Rattle.cedar_slots.specs.Places.{IsTable}
 use Rattle.cedar_model.specs.declared.layout.Stored.TheVariants.{AtBase}
 use Rattle.cedar_model.specs.Table.Cells.{Held}
@@ -17,7 +17,7 @@ pub record IsUnfilled (slots : ℕ) (T : Fields) (s : ℕ) : Type 0 where
   pub node : IsBareNode (size_of T) (cells_in T) s
   pub leaf : (cells_in T).stored s ≡ AtBase 0
 
--- the node s is to have a base for these labels, 0 standing for the number
+-- the node s is to have a base for these labels, of which 0 means the number
 pub record WantsBase (slots : ℕ) (T : Fields) (s : ℕ) (wanted : List ℕ) : Type 0 where
   pub sound : IsTable slots T.places
   pub node_in : s < size_of T

@@ -1,7 +1,8 @@
 -- How full the blocks of a table made of sorted pairs are: one slot alone goes wherever a slot is free, so that blocks are made for nodes
 -- that take several slots at once, or else where all blocks but the first are full.
-use Rattle.std.specs.Prelude.{◌≡◌, ◌⊎◌, ℕ, ◌+◌, ◌*◌, ◌≤◌, nat_lt, cond, ℤ, List, [], ◌∷◌, ◌++◌, length, Option}
-use Rattle.cedar_tree.specs.Tree.{Forest, none, child, Tree}
+use Rattle.std.specs.Prelude.{◌≡◌, ◌⊎◌, ℕ, ◌+◌, ◌*◌, ◌≤◌, nat_lt, cond, ℤ, List, []}
+use Rattle.std.specs.Prelude.{◌∷◌, ◌++◌, length, Option}
+use Rattle.cedar_model.specs.Tree.{Forest, none, child, Tree}
 use Rattle.cedar_bulk.specs.declared.spans.Span.{Span}
 use Rattle.cedar_model.specs.Edit.Packing.{Packs, TakesOne}
 use Rattle.cedar_model.specs.Meaning.StandsFor.{labels}
@@ -16,19 +17,19 @@ abbrev pub crowd : Option ℤ → List ℕ → ℕ
 crowd number ls = cond (nat_lt 1 (length (slot_labels number ls))) 1 0
 
 -- how many of some siblings, and of the nodes below them, take several slots
-abbrev pub crowded_forest : Forest → ℕ
-crowded_forest none = 0
-crowded_forest (child l n u rest) = crowd n (labels u) + crowded_forest u + crowded_forest rest
+abbrev pub count_crowded_forest : Forest → ℕ
+count_crowded_forest none = 0
+count_crowded_forest (child l n u rest) = crowd n (labels u) + count_crowded_forest u + count_crowded_forest rest
 
 -- how many nodes below the root take several slots
-abbrev pub crowded : Tree → ℕ
-crowded t = crowded_forest t.children
+abbrev pub count_crowded : Tree → ℕ
+count_crowded t = count_crowded_forest t.children
 
 -- ---- the table
 
 -- a table of the tree t has at most 255 free slots outside block 0, and 256 others for each node that takes several slots
 abbrev pub IsPacked : Tree → Fields → Type 0
-IsPacked t T = Packs (length (labels t.children)) (256 * crowded t) T
+IsPacked t T = Packs (length (labels t.children)) (256 * count_crowded t) T
 
 -- ---- one node
 
@@ -43,14 +44,14 @@ PacksSpan bytes before after span =
 abbrev pub Crowds : List Part → ℕ → Type 0
 Crowds [] n = n ≡ 0
 Crowds (s ∷ ss) n =
-    (t : Tree) × (m : ℕ) × IsTreeOfSpan s.depth s.entries t × (n ≡ crowd t.number (labels t.children) + crowded t + m) × Crowds ss m
+    (t : Tree) × (m : ℕ) × IsTreeOfSpan s.depth s.entries t × (n ≡ crowd t.number (labels t.children) + count_crowded t + m) × Crowds ss m
 
 -- a table on the way to the tree with the children g, for which these spans wait, has few free slots for the nodes that it has
 pub record Packed (T : Fields) (spans : List Part) (g : Forest) : Type 0 where
   pub filled : ℕ
   pub left : ℕ
   pub waits : Crowds spans left
-  pub whole : filled + left ≤ crowded_forest g
+  pub whole : filled + left ≤ count_crowded_forest g
   pub packs : Packs (length (labels g)) (256 * filled) T
 
 -- what a table on the way with this span behind others has free, it has at most without the span

@@ -1,9 +1,10 @@
 -- Sorted pairs, of which a table is made at once: a node with all of its labels after the other.
-use Rattle.std.specs.Prelude.{◌≡◌, ℕ, ◌+◌, ◌==◌, cond, ℤ, true, List, [], ◌∷◌, ◌++◌, map, get_or, Option, Some, None, MatchOption, ◌⊎◌}
+use Rattle.std.specs.Prelude.{◌≡◌, ℕ, ◌+◌, ◌==◌, cond, ℤ, true, List, [], ◌∷◌, ◌++◌, map}
+use Rattle.std.specs.Prelude.{get_or, Option, Some, None, MatchOption, ◌⊎◌}
 use Rattle.std.specs.Borrow.{Bor}
-use Rattle.cedar_tree.specs.Tree.{Forest, none, child, empty_tree, IsAscending}
-use Rattle.cedar_tree.specs.Queries.{Entry, node_at}
-use Rattle.cedar_tree.specs.Edits.{edit_at}
+use Rattle.cedar_model.specs.Tree.{Forest, none, child, empty_tree, IsAscending}
+use Rattle.cedar_model.specs.Queries.{Entry, node_at}
+use Rattle.cedar_model.specs.Edits.{edit_at}
 use Rattle.cedar_model.specs.declared.layout.Stored.TheVariants.{AtBase}
 use Rattle.cedar_model.specs.Table.Cells.{Cells, Held}
 use Rattle.cedar_model.specs.Edit.NodeEdits.{GoesBehind, GoesFirst, IsAt, IsNodeOf}
@@ -21,7 +22,7 @@ Pair = Bor (List ℕ) × ℤ
 abbrev pub entries_of : List Pair → List Entry
 entries_of pairs = map (λ p. (p.0.now, p.1)) pairs
 
--- the entries that pairs stand for, whose keys lend these bytes
+-- the entries that pairs represent, whose keys lend these bytes
 abbrev pub entries_by : {K : Type 0} → (K → List ℕ) → List (K × ℤ) → List Entry
 entries_by bytes pairs = map (λ p. (bytes p.0, p.1)) pairs
 

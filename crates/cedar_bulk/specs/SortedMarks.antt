@@ -1,7 +1,7 @@
 -- Which numbers of a table made of sorted pairs have slots of their own.
 use Rattle.std.specs.Prelude.{◌≡◌, ◌↔◌, ℕ, ℤ, List, length, Option, Some, true, is_some}
-use Rattle.cedar_tree.specs.Tree.{Forest, none, number_at, Tree}
-use Rattle.cedar_tree.specs.Queries.{node_at}
+use Rattle.cedar_model.specs.Tree.{Forest, none, number_at, Tree}
+use Rattle.cedar_model.specs.Queries.{node_at}
 use Rattle.cedar_model.specs.declared.layout.Stored.TheVariants.{OwnNumber}
 use Rattle.cedar_model.specs.Table.Cells.{Cells}
 use Rattle.cedar_model.specs.Table.Layouts.{LayoutKind, default_layout, reduced_layout}
@@ -21,11 +21,11 @@ pub record SortedMarks (layout : LayoutKind) (t m : Tree) : Type 0 where
 
 -- ---- on the way
 
--- in the reduced layout a number without labels stands in slot a itself
+-- in the reduced layout a number without labels is kept in slot a itself
 abbrev pub KeepsOwn : LayoutKind → Cells → ℕ → Option ℤ → List ℕ → Type 0
 KeepsOwn layout T a number ls = layout ≡ reduced_layout → (v : ℤ) → number ≡ Some v → length ls ≡ 0 → T.stored a ≡ OwnNumber v
 
--- each number in the tree with the children f that has no child below it stands in its node's own base field
+-- each number in the tree with the children f that has no child below it is kept in its node's own base field
 abbrev pub KeepsLast : Cells → Forest → Type 0
 KeepsLast T f =
     (w : List ℕ) → is_some (number_at (root_of f) w) ≡ true → (node_at (root_of f) w).children ≡ none

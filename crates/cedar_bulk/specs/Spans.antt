@@ -1,8 +1,10 @@
 -- Sorted entries that go on below one node, and the nodes that wait for theirs.
-use Rattle.std.specs.Prelude.{◌≡◌, ◌⊎◌, ℕ, ◌+◌, ◌≤◌, ◌<◌, nat_lt, bit_xor, cond, ℤ, false, List, [], ◌∷◌, length, map, drop, Option, Some, None, IfSome, true}
-use Rattle.cedar_tree.specs.Tree.{AllNumbers, Forest, none, child, Tree, is_bare, IsAscending, IsSoundBelow}
-use Rattle.cedar_tree.specs.Queries.{Entry, prefixes_forest, walk, walk_forest}
-use Rattle.cedar_tree.specs.Edits.{edit_at}
+use Rattle.std.specs.Prelude.{◌≡◌, ◌⊎◌, ℕ, ◌+◌, ◌≤◌, ◌<◌, nat_lt, bit_xor, cond, ℤ, false, List, []}
+use Rattle.std.specs.Prelude.{◌∷◌, length, map, drop, Option, Some, None, IfSome, true}
+use Rattle.cedar_model.specs.Tree.{AllNumbers, Forest, none, child, Tree, is_bare}
+use Rattle.cedar_model.specs.Tree.{IsAscending, IsSoundBelow}
+use Rattle.cedar_model.specs.Queries.{Entry, prefixes_forest, walk, walk_forest}
+use Rattle.cedar_model.specs.Edits.{edit_at}
 use Rattle.cedar_model.specs.declared.layout.Stored.TheVariants.{AtBase}
 use Rattle.cedar_bulk.specs.declared.spans.Span.{Span}
 use Rattle.cedar_model.specs.Table.Cells.{Cells}
@@ -56,7 +58,7 @@ GoesOnAlike d es = IsDeeper d es × (run d (first_label d es) es ≡ length es)
 abbrev pub IsAlike : ℕ → List Entry → Type 0
 IsAlike d es = (length es ≡ 1) ⊎ GoesOnAlike d es
 
--- the entries are just what stands below a node with these children, d bytes deep
+-- the entries are just what is below a node with these children, d bytes deep
 pub record Lists (d : ℕ) (entries : List Entry) (f : Forest) : Type 0 where
   pub walks : walk_forest f ≡ entries_behind d entries
   pub sound : IsSoundBelow f

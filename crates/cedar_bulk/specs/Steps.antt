@@ -1,8 +1,9 @@
 -- What the steps of a build do, each as one word.
-use Rattle.std.specs.Prelude.{◌≡◌, ◌⊎◌, ◌+◌, ◌*◌, ◌<◌, ◌≤◌, ℕ, ℤ, drop, length, List, [], ◌∷◌, ◌++◌, map, None, Option, Some, take, true}
-use Rattle.cedar_tree.specs.Tree.{Forest, IsAscending, none, Tree}
-use Rattle.cedar_tree.specs.Queries.{Entry, prefixes}
-use Rattle.cedar_tree.specs.Edits.{add_leaf, edit_at}
+use Rattle.std.specs.Prelude.{◌≡◌, ◌⊎◌, ◌+◌, ◌*◌, ◌<◌, ◌≤◌, ℕ, ℤ, drop, length, List, [], ◌∷◌}
+use Rattle.std.specs.Prelude.{◌++◌, map, None, Option, Some, take, true}
+use Rattle.cedar_model.specs.Tree.{Forest, IsAscending, none, Tree}
+use Rattle.cedar_model.specs.Queries.{Entry, prefixes}
+use Rattle.cedar_model.specs.Edits.{add_leaf, edit_at}
 use Rattle.cedar_slots.specs.declared.shortage.Shortage.{Shortage}
 use Rattle.cedar_slots.specs.declared.shortage.Shortage.TheVariants.{Memory, SlotLimit}
 use Rattle.cedar_model.specs.Edit.NodeEdits.{IsAt}

@@ -1,11 +1,17 @@
 -- The words of clauses, from one place.
-pub use Rattle.cedar_bulk.specs.Asked.{IsUnfilled, WantsBase, WantsChain, WantsLabel, WantsLabels, WantsNumber, WantsSlots}
-pub use Rattle.cedar_bulk.specs.Packed.{crowded_forest, IsPacked, PacksSpan, PacksTail, PacksTurn}
-pub use Rattle.cedar_bulk.specs.Sorted.{entries_by, Fills, GetsBase, GetsLabels, GetsNumber, GoesLast, run, slot_labels}
+pub use Rattle.cedar_bulk.specs.Asked.{IsUnfilled, WantsBase, WantsChain, WantsLabel}
+pub use Rattle.cedar_bulk.specs.Asked.{WantsLabels, WantsNumber, WantsSlots}
+pub use Rattle.cedar_bulk.specs.Packed.{count_crowded_forest, IsPacked, PacksSpan}
+pub use Rattle.cedar_bulk.specs.Packed.{PacksTail, PacksTurn}
+pub use Rattle.cedar_bulk.specs.Sorted.{entries_by, Fills, GetsBase, GetsLabels, GetsNumber}
+pub use Rattle.cedar_bulk.specs.Sorted.{GoesLast, run, slot_labels}
 pub use Rattle.cedar_bulk.specs.SortedMarks.{KeepsOwn, SortedMarks}
-pub use Rattle.cedar_bulk.specs.Spans.{Filling, first_label, first_number, GoesOnAlike, IsDeeper, IsTreeOfSpan, Lists, Part, part_of, parts_of}
-pub use Rattle.cedar_bulk.specs.Steps.{AddsChildren, AddsSpans, AppendsLeaf, based_behind, CoversChildren, EndsFilling, FillsSpan, FillsTail}
-pub use Rattle.cedar_bulk.specs.Steps.{HasBlocksFor, KeepsOwnOf, LacksMemoryOr, OfTree, StaysBare, StaysOwn, TakesTurn, WantsMore, WantsMoreThan}
+pub use Rattle.cedar_bulk.specs.Spans.{Filling, first_label, first_number, GoesOnAlike, IsDeeper}
+pub use Rattle.cedar_bulk.specs.Spans.{IsTreeOfSpan, Lists, Part, part_of, parts_of}
+pub use Rattle.cedar_bulk.specs.Steps.{AddsChildren, AddsSpans, AppendsLeaf, based_behind}
+pub use Rattle.cedar_bulk.specs.Steps.{CoversChildren, EndsFilling, FillsSpan, FillsTail}
+pub use Rattle.cedar_bulk.specs.Steps.{HasBlocksFor, KeepsOwnOf, LacksMemoryOr, OfTree, StaysBare}
+pub use Rattle.cedar_bulk.specs.Steps.{StaysOwn, TakesTurn, WantsMore, WantsMoreThan}
 pub use Rattle.cedar_model.specs.Edit.NodeEdits.{IsAt, LinkedBehind, LinkedChild}
 pub use Rattle.cedar_model.specs.Edit.Packing.{MakesIfFull, Packs, TakesOne}
 pub use Rattle.cedar_model.specs.Edit.Steps.{MakesBlocks, SameModes}
@@ -19,7 +25,7 @@ pub use Rattle.cedar_model.specs.declared.layout.Stored.TheVariants.{AtBase}
 pub use Rattle.cedar_slots.specs.Places.{IsSlotLimit, IsTable, MayRefuse}
 pub use Rattle.cedar_slots.specs.declared.shortage.Shortage.TheVariants.{SlotLimit}
 pub use Rattle.cedar_table.specs.Table.Views.{cells, fields}
-pub use Rattle.cedar_tree.specs.Laws.{ArePathsAscending, ArePathsKeys}
-pub use Rattle.cedar_tree.specs.Queries.{asc, prefixes, prefixes_forest}
-pub use Rattle.cedar_tree.specs.Tree.{empty_tree, Forest, none, Tree}
+pub use Rattle.cedar_model.specs.Laws.{ArePathsAscending, ArePathsKeys}
+pub use Rattle.cedar_model.specs.Queries.{asc, prefixes, prefixes_forest}
+pub use Rattle.cedar_model.specs.Tree.{empty_tree, Forest, none, Tree}
 pub use Rattle.std.specs.List.{AllByRecursion}

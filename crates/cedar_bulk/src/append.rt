@@ -1,7 +1,11 @@
 //! All labels of a node, one after another.
 
-ghost use Rattle.std.specs.Prelude.{◌++◌, ◌<◌, ◌∷◌, ◌≡◌, ◌≢◌, ◌⊎◌, [], bit_xor, List, MatchOption, pos, ℕ};
-ghost use Rattle.cedar_bulk.specs.Words.{AppendsLeaf, AtBase, below, capacity_of, cells, fields, GetsLabels, Held, IsAt, IsTable, LinkedBehind, LinkedChild, SameFrame, SameSettings, size_of, WantsLabel, WantsLabels};
+ghost use Rattle.std.specs.Prelude.{◌++◌, ◌<◌, ◌∷◌, ◌≡◌, ◌≢◌, ◌⊎◌, [], bit_xor, List};
+ghost use Rattle.std.specs.Prelude.{MatchOption, pos, ℕ};
+ghost use Rattle.cedar_bulk.specs.Words.{AppendsLeaf, AtBase, below, capacity_of, cells, fields};
+ghost use Rattle.cedar_bulk.specs.Words.{GetsLabels, Held, IsAt, IsTable, LinkedBehind};
+ghost use Rattle.cedar_bulk.specs.Words.{LinkedChild, SameFrame, SameSettings, size_of};
+ghost use Rattle.cedar_bulk.specs.Words.{WantsLabel, WantsLabels};
 
 use cedar_table::{Layout, Table};
 use std::alloc::Allocator;

@@ -1,15 +1,20 @@
 //! A node with all of its slots at once: its number's and its labels'.
 
-ghost use Rattle.std.specs.Prelude.{◌<◌, ◌∷◌, ◌≡◌, ◌≢◌, ◌≤◌, [], IfErr, IfOk, IfSome, length, MatchOption, None, OnErr, OnOk, Some, true, ℕ};
-ghost use Rattle.cedar_bulk.specs.Words.{base_of, below, cells, fields, Fills, GetsBase, GetsNumber, GoesLast, Held, is_value, IsTable, IsUnfilled, KeepsOwn, MakesBlocks, MakesIfFull, MayRefuse, SameFrame, SameSettings, size_of, StaysBare, StaysOwn, TakesOne, WantsBase, WantsChain, WantsNumber, WantsSlots};
+ghost use Rattle.std.specs.Prelude.{◌<◌, ◌∷◌, ◌≡◌, ◌≢◌, ◌≤◌, [], IfErr, IfOk, IfSome, length};
+ghost use Rattle.std.specs.Prelude.{MatchOption, None, OnErr, OnOk, Some, true, ℕ};
+ghost use Rattle.cedar_bulk.specs.Words.{base_of, below, cells, fields, Fills, GetsBase};
+ghost use Rattle.cedar_bulk.specs.Words.{GetsNumber, GoesLast, Held, is_value, IsTable, IsUnfilled};
+ghost use Rattle.cedar_bulk.specs.Words.{KeepsOwn, MakesBlocks, MakesIfFull, MayRefuse, SameFrame};
+ghost use Rattle.cedar_bulk.specs.Words.{SameSettings, size_of, StaysBare, StaysOwn, TakesOne};
+ghost use Rattle.cedar_bulk.specs.Words.{WantsBase, WantsChain, WantsNumber, WantsSlots};
 
 use crate::append::{append_labels, slot_at};
 use cedar_slots::Shortage;
 use cedar_table::{Layout, Table};
 use std::alloc::Allocator;
 
-/// Gives a node below the root that has neither number nor label a base from which the slots of all labels are free, 0 standing
-/// for the number, and returns the base. All growth of a build from sorted pairs happens here.
+/// Gives a node below the root that has neither number nor label a base from which the slots of all labels are free, of which 0 means
+/// the number, and returns the base. All growth of a build from sorted pairs happens here.
 #[inline(always)]
 fn find_base<L: Layout, const SLOTS: usize, A: Allocator>(
     table: &mut Table<L, SLOTS, A>,
@@ -27,12 +32,12 @@ fn find_base<L: Layout, const SLOTS: usize, A: Allocator>(
     ensures root_check { (cells table.new).check 0 ≡ (cells table.old).check 0 }
     ensures settings { SameSettings (fields table.old) (fields table.new) }
 {
-    let base = table.place_for(wanted)?;
+    let base = table.place_for(wanted, usize::MAX)?;
     table.set_base(node, base);
     Ok(base)
 }
 
-/// Gives a node that has neither number nor label a base from which the slots of all labels are free, 0 standing for the
+/// Gives a node that has neither number nor label a base from which the slots of all labels are free, of which 0 means the
 /// number, and returns the base. The root keeps its base.
 #[inline(always)]
 fn give_base<L: Layout, const SLOTS: usize, A: Allocator>(

@@ -1,5 +1,5 @@
 //! A table made from sorted pairs at once: each node gets all of its slots together, and not one after another as by updates.
-//! It stands for the tree of its pairs all the same.
+//! It represents the tree of its pairs all the same.
 #![tactic(auto)]
 
 mod append;

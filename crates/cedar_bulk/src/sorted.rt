@@ -1,7 +1,20 @@
 //! A table made from sorted pairs: each node gets all of its slots at once, the last child's subtree first.
 
-ghost use Rattle.std.specs.Prelude.{◌*◌, ◌++◌, ◌+◌, ◌<◌, ◌∷◌, ◌≡◌, ◌≢◌, ◌≤ℤ◌, ◌≤◌, [], IfErr, IfOk, length, List, None, OnErr, OnOk, option_to_list, pos, true, ℕ};
-ghost use Rattle.cedar_bulk.specs.Words.{AddsChildren, AllByRecursion, ArePathsAscending, ArePathsKeys, asc, AtBase, cells, CoversChildren, crowded_forest, empty_tree, EndsFilling, entries_by, fields, Filling, FillsSpan, FillsTail, Forest, GoesOnAlike, HasBlocksFor, HoldsTree, is_value, IsPacked, IsSlotLimit, IsTable, IsTreeOfSpan, IsUnfilled, IsWellFormed, KeepsOwnOf, labels, LacksMemoryOr, MakesBlocks, marks, MayRefuse, none, OfTree, Packs, PacksSpan, PacksTail, PacksTurn, Part, part_of, parts_of, prefixes, prefixes_forest, SameModes, SameSettings, size_of, SlotLimit, SortedMarks, TakesOne, TakesTurn, Tree, tree_of, WantsMore, WantsMoreThan};
+ghost use Rattle.std.specs.Prelude.{◌*◌, ◌++◌, ◌+◌, ◌<◌, ◌∷◌, ◌≡◌, ◌≢◌, ◌≤ℤ◌, ◌≤◌, []};
+ghost use Rattle.std.specs.Prelude.{IfErr, IfOk, length, List, None, OnErr, OnOk};
+ghost use Rattle.std.specs.Prelude.{option_to_list, pos, true, ℕ};
+ghost use Rattle.cedar_bulk.specs.Words.{AddsChildren, AllByRecursion, ArePathsAscending};
+ghost use Rattle.cedar_bulk.specs.Words.{ArePathsKeys, asc, AtBase, cells, count_crowded_forest};
+ghost use Rattle.cedar_bulk.specs.Words.{CoversChildren, empty_tree, EndsFilling, entries_by};
+ghost use Rattle.cedar_bulk.specs.Words.{fields, Filling, FillsSpan, FillsTail, Forest};
+ghost use Rattle.cedar_bulk.specs.Words.{GoesOnAlike, HasBlocksFor, HoldsTree, is_value, IsPacked};
+ghost use Rattle.cedar_bulk.specs.Words.{IsSlotLimit, IsTable, IsTreeOfSpan, IsUnfilled};
+ghost use Rattle.cedar_bulk.specs.Words.{IsWellFormed, KeepsOwnOf, labels, LacksMemoryOr};
+ghost use Rattle.cedar_bulk.specs.Words.{MakesBlocks, marks, MayRefuse, none, OfTree, Packs};
+ghost use Rattle.cedar_bulk.specs.Words.{PacksSpan, PacksTail, PacksTurn, Part, part_of, parts_of};
+ghost use Rattle.cedar_bulk.specs.Words.{prefixes, prefixes_forest, SameModes, SameSettings};
+ghost use Rattle.cedar_bulk.specs.Words.{size_of, SlotLimit, SortedMarks, TakesOne, TakesTurn};
+ghost use Rattle.cedar_bulk.specs.Words.{Tree, tree_of, WantsMore, WantsMoreThan};
 
 use crate::fill::{fill_node, name_alone};
 use crate::spans::{
@@ -190,7 +203,7 @@ fn fill<L: Layout, const SLOTS: usize, A: Allocator, K: AsSlice<u8>>(
     ensures filled { OnOk result (OfTree (entries_by K.items pairs.now) (λ f. Filling SLOTS (fields table.new) [] f (1 + length (prefixes_forest f)))) }
     ensures refused { IfErr result (LacksMemoryOr (OfTree (entries_by K.items pairs.now) (λ f. SLOTS ≤ 256 * length (prefixes_forest f)))) }
     ensures blocks { (n : ℕ) × MakesBlocks n (fields table.old) (fields table.new) }
-    ensures packs { OnOk result (OfTree (entries_by K.items pairs.now) (λ f. Packs (length (labels f)) (256 * crowded_forest f) (fields table.new))) }
+    ensures packs { OnOk result (OfTree (entries_by K.items pairs.now) (λ f. Packs (length (labels f)) (256 * count_crowded_forest f) (fields table.new))) }
     ensures root_check { (cells table.new).check 0 ≡ (cells table.old).check 0 }
     ensures settings { SameSettings (fields table.old) (fields table.new) }
 {
@@ -234,7 +247,7 @@ fn fill_sorted<L: Layout, const SLOTS: usize, A: Allocator, K: AsSlice<u8>>(
     Ok(())
 }
 
-/// Makes a table of some pairs of a key and its number, whose keys ascend by bytes, each below the next. It stands for their
+/// Makes a table of some pairs of a key and its number, whose keys ascend by bytes, each below the next. It represents their
 /// one tree with ascending labels, even if a new label would not go to its ascending place. Keys are bytes or texts. It makes
 /// at most one block for each distinct nonempty prefix of a key. At most 255 slots outside the first block are free, and 256 others
 /// for each node below the root that takes several slots.
@@ -254,7 +267,7 @@ pub fn build_sorted<L: Layout, const SLOTS: usize, A: Allocator + Copy, K: AsSli
     requires ascending { ArePathsAscending (entries_by K.items pairs.now) }
     requires values { AllByRecursion (λ e. is_value e.1 ≡ true) (entries_by K.items pairs.now) }
 
-    //= `build_sorted` of pairs whose keys, bytes or texts, ascend: the table is well-formed and stands for their one tree with ascending
+    //= `build_sorted` of pairs whose keys, bytes or texts, ascend: the table is well-formed and represents their one tree with ascending
     //  labels, whatever its order is. [with tree]
     ensures well_formed { IfOk result (λ table. IsWellFormed SLOTS (fields table)) }
     ensures tree { IfOk result (λ table. tree_of (fields table) ≡ asc (entries_by K.items pairs.now)) }

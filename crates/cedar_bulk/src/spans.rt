@@ -1,7 +1,9 @@
 //! Sorted pairs that go on below one node, and what they say about its number and its labels.
 
 ghost use Rattle.std.specs.Prelude.{◌+◌, ◌<◌, ◌↔◌, ◌≡◌, ◌≤◌, [], get_or, IsTrue, length, OnOk};
-ghost use Rattle.cedar_bulk.specs.Words.{AddsSpans, based_behind, entries_by, first_label, first_number, Forest, GoesOnAlike, IsDeeper, IsTreeOfSpan, labels, Lists, parts_of, run, slot_labels, Tree};
+ghost use Rattle.cedar_bulk.specs.Words.{AddsSpans, based_behind, entries_by, first_label};
+ghost use Rattle.cedar_bulk.specs.Words.{first_number, Forest, GoesOnAlike, IsDeeper, IsTreeOfSpan};
+ghost use Rattle.cedar_bulk.specs.Words.{labels, Lists, parts_of, run, slot_labels, Tree};
 
 use arrayvec::ArrayVec;
 use std::alloc::{AllocError, Allocator};

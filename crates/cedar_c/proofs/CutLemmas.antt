@@ -1,4 +1,4 @@
--- Tokens written into the first places of a buffer.
+-- Tokens written into the first elements of a buffer.
 use Rattle.std.proofs.Common.{◌≡◌, ℕ, zero, suc, ◌<◌, ◌≤◌, List, [], ◌∷◌, ◌++◌, length, map, take, drop, set, get_or, refl, ap, arith}
 use Rattle.cedar_words.specs.Words.{Token}
 use Rattle.cedar_c.specs.Scans.{found_token}

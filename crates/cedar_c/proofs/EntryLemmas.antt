@@ -9,10 +9,10 @@ use Rattle.std.proofs.lemmas.Bool.{le-ltb, lt-ltb, true≢false}
 use Rattle.std.proofs.lemmas.Cmp.{nat_list_cmp_total}
 use Rattle.std.proofs.lemmas.Map.Lookups.{exact_bytes}
 use Rattle.std.proofs.lemmas.List.{append-nil, append_assoc, drop-drop, drop-set-lt, length-set, take-append-drop, take_more_set}
-use Rattle.cedar_tree.specs.Queries.{Entry, entry_at, is_path, walk}
-use Rattle.cedar_tree.specs.Tree.{IsAscending, IsSoundBelow, number_at, Tree}
-use Rattle.cedar_tree.proofs.EntryLemmas.Built.{is_path_itself, same_path}
-use Rattle.cedar_tree.proofs.WalkLemmas.{walk_ascends, walk_at}
+use Rattle.cedarwood.specs.Queries.{Entry, entry_at, is_path, walk}
+use Rattle.cedarwood.specs.Tree.{IsAscending, IsSoundBelow, number_at, Tree}
+use Rattle.cedarwood.proofs.EntryLemmas.Built.{is_path_itself, same_path}
+use Rattle.cedarwood.proofs.WalkLemmas.{walk_ascends, walk_at}
 use Rattle.cedar_walk.specs.Ranges.{entries_since}
 use Rattle.cedar_c.specs.Entries.{entries_behind_key, following, page_of, spots_of, WritesPage}
 use Rattle.cedar_c.specs.Pairs.{keys_in}

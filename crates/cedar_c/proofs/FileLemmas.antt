@@ -1,17 +1,17 @@
--- What a load tells of a file.
+-- What a load reports of a file.
 use Rattle.std.proofs.Common.{arith, ◌≡◌, ◌≢◌, ℕ, inl, inr, List, [], ◌∷◌, take, Option, None, Some, IfSome, MatchOption, Ok, Err, refl, ap, sym, subst, ◌∙◌}
 use Rattle.std.specs.Prelude.{◌⊎◌}
 use Rattle.std.proofs.lemmas.Option.{none-some}
-use Rattle.cedar_model.specs.Table.Layouts.{LayoutKind, layout_byte}
-use Rattle.cedar_model.specs.Table.TableFields.{Fields}
-use Rattle.cedar_format.specs.declared.error.CedarPersistenceError.{CedarPersistenceError}
-use Rattle.cedar_format.specs.declared.error.CedarPersistenceError.TheVariants as errors
-use Rattle.cedar_format.specs.Format.{body_refusal, header_answer, header_at, header_refusal, size_refusal, trial_refusal}
-use Rattle.cedar_format.specs.declared.header.Header.{Header}
-use Rattle.cedar_format.specs.Reading.{IsIo, LacksTable}
-use Rattle.cedar_format.specs.Refusal.{Refusal, first_refusal, refusal_of}
+use Rattle.cedarwood.specs.Layouts.{LayoutKind, layout_byte}
+use Rattle.cedarwood.specs.TableFields.{Fields}
+use Rattle.cedarwood.specs.CedarPersistenceError.{CedarPersistenceError}
+use Rattle.cedarwood.specs.CedarPersistenceError.TheVariants as errors
+use Rattle.cedarwood.specs.Format.{body_refusal, header_answer, header_at, header_refusal, size_refusal, trial_refusal}
+use Rattle.cedarwood.specs.Header.{Header}
+use Rattle.cedarwood.specs.Reading.{IsIo, LacksTable}
+use Rattle.cedarwood.specs.Refusal.{Refusal, first_refusal, refusal_of}
 use Rattle.cedarwood.specs.Loading.{IsDecided, LoadAnswers}
-use Rattle.cedar_format.specs.Tables.{IsTableFile}
+use Rattle.cedarwood.specs.Tables.{IsTableFile}
 use Rattle.cedar_c.specs.Files.{early_refusal, file_status, IsOfNoTable, TellsHeader}
 
 -- whatever holds of each refusal
@@ -54,7 +54,7 @@ module _ {X : Type 0} (table : X → Fields) (kind : LayoutKind) (slots limit : 
   lack_is_memory h (errors.CorruptData section index reason) lacks = absurd lacks
   lack_is_memory h errors.TrailingData lacks = absurd lacks
 
-  -- a refused header is told by its number, unless memory was wanted
+  -- a refused header is reported by its number, unless memory was wanted
   pub refused_header : (e : CedarPersistenceError) → LoadAnswers table kind slots limit bytes (Err e)
       → IfSome (header_answer (layout_byte kind) slots limit bytes) (λ r. (file_status (refusal_of e) ≡ file_status r) ⊎ (file_status (refusal_of e) ≡ 2))
   refused_header e (inl lacks) = always (header_answer (layout_byte kind) slots limit bytes) (λ r. (file_status (refusal_of e) ≡ file_status r) ⊎ (file_status (refusal_of e) ≡ 2)) (λ r. inr (lack_is_memory (header_at (take 88 bytes)) e lacks.0))
@@ -73,7 +73,7 @@ module _ {X : Type 0} (table : X → Fields) (kind : LayoutKind) (slots limit : 
   early_answer r h =
       early_first (header_refusal (layout_byte kind) (take 88 bytes)) (size_refusal slots limit (header_at (take 88 bytes))) (body_refusal (header_at (take 88 bytes)) bytes) (trial_refusal (header_at (take 88 bytes))) r h
 
-  -- before memory is asked for, the refusal is told
+  -- before memory is asked for, the refusal is reported
   pub refused_at_once : (e : CedarPersistenceError) → LoadAnswers table kind slots limit bytes (Err e) → IfSome (early_refusal (layout_byte kind) slots limit bytes) (λ r. file_status (refusal_of e) ≡ file_status r)
   refused_at_once e told = each (early_refusal (layout_byte kind) slots limit bytes) refl
     where
@@ -107,18 +107,18 @@ module _ {X : Type 0} (table : X → Fields) (kind : LayoutKind) (slots limit : 
       let decided : IsDecided table slots bytes (Err e) = subst (λ (o : Option Refusal). MatchOption o (IsDecided table slots bytes (Err e)) (λ r. ◌≡◌ {A = Option Refusal} (Some (refusal_of e)) (Some r))) none told in
       inr (ap file_status decided.0, decided.1)
 
--- an early refusal's number is what is told
+-- an early refusal's number is what is reported
 pub told_early : (o : Option Refusal) (e : CedarPersistenceError) (n : ℕ) → n ≡ file_status (refusal_of e) → IfSome o (λ r. file_status (refusal_of e) ≡ file_status r) → IfSome o (λ r. n ≡ file_status r)
 told_early None e n is h = tt
 told_early (Some r) e n is h = is ∙ h
 
--- the number that is told behind a header that passes
+-- the number that is reported once a header has passed
 pub told_behind : (slots : ℕ) (bytes : List ℕ) (e : CedarPersistenceError) (n : ℕ) → n ≡ file_status (refusal_of e)
     → (file_status (refusal_of e) ≡ 2) ⊎ ((file_status (refusal_of e) ≡ 27) × IsOfNoTable slots bytes) → (n ≡ 2) ⊎ ((n ≡ 27) × IsOfNoTable slots bytes)
 told_behind slots bytes e n is (inl two) = inl (is ∙ two)
 told_behind slots bytes e n is (inr none) = inr (is ∙ none.0, none.1)
 
--- a refused header's number is what is told
+-- a refused header's number is what is reported
 pub told_status : (o : Option Refusal) (e : CedarPersistenceError) (n : ℕ) → n ≡ file_status (refusal_of e)
     → IfSome o (λ r. (file_status (refusal_of e) ≡ file_status r) ⊎ (file_status (refusal_of e) ≡ 2)) → IfSome o (λ r. TellsHeader r n)
 told_status None e n is h = tt

@@ -1,5 +1,5 @@
 -- The records of a group, one behind another.
-use Rattle.std.specs.Prelude.{ℤ, option_map, Option, Some, None}
+use Rattle.std.specs.Prelude.{ℤ, option_map, Some}
 use Rattle.std.proofs.Common.{◌≡◌, inl, inr, ℕ, zero, suc, ◌+◌, ◌≤◌, ◌<◌, true, List, [], ◌∷◌, ◌++◌, length, take, drop, refl, sym, subst, ◌∙◌, ap, append_assoc, arith, slice_set, length-append, length-drop, take-append-drop}
 use Rattle.std.proofs.lemmas.Bool.{cases_Bool, cases_eq}
 use Rattle.std.proofs.lemmas.List.{drop-drop, take-append-le, take_all, take-set, drop-set, set-append_right, length-take-le}
@@ -22,8 +22,9 @@ use Rattle.cedar_store.proofs.Recorded.{each_more, its_payloads, longer_records}
 use Rattle.cedar_c.specs.Changes.{IsRecord}
 use Rattle.cedar_c.specs.Groups.{AddsChange, IsGroup, group_head}
 use Rattle.cedar_c.proofs.PlanLemmas.{PlansAppend, is_change}
+use Rattle.std.proofs.lemmas.Option.{none-some}
 
--- ---- records that take all their bytes: what follows them is read as if it stood alone
+-- ---- records that take all their bytes: what follows them is read as if it were alone
 
 record_long : (bytes : List ℕ) → has_record bytes ≡ true → records_length (payloads_in bytes) ≡ 5 + length (payload bytes) + records_length (payloads_in (behind_record bytes))
 record_long bytes has = ap records_length (payloads_first bytes has)
@@ -47,13 +48,10 @@ all_front (suc n) (x ∷ bytes) low long = elim (cases_Bool (has_record (x ∷ b
 
 -- ---- one change more
 
-none_is : {A : Type 0} (a : A) → None ≡ Some a → ⊥
-none_is {A = A} a e = let apart : ◌≡◌ {A = Option A} None (Some a) = e in cc
-
 batch_long : (records : List ℕ) (changes : List Change) → batch_of records ≡ Some changes → records_length (payloads_in records) ≡ length records
 batch_long records changes is = elim (cases_eq (records_length (payloads_in records)) (length records)) [
   | inl same ↦ same
-  | inr other ↦ absurd (none_is changes (sym (cut_batch records other) ∙ is))
+  | inr other ↦ absurd (none-some changes (sym (cut_batch records other) ∙ is))
 ]
 
 more : (records p : List ℕ) (changes : List Change) (change : Change) → batch_of records ≡ Some changes → change_of p ≡ Some change → length p < 4294967296

@@ -1,14 +1,14 @@
 -- Keywords written one after another.
 use Rattle.std.proofs.Common.{◌≡◌, ℕ, ◌+◌, ◌<◌, ℤ, List, [], ◌∷◌, ◌++◌, length, map, take, drop, set, Option, Some, None, sym, ap, ◌∙◌, arith}
 use Rattle.std.proofs.lemmas.List.{append_assoc, drop-drop, length-drop, take_more_set}
-use Rattle.cedar_tree.specs.Tree.{Tree}
+use Rattle.cedarwood.specs.Tree.{Tree}
 use Rattle.cedar_words.specs.Words.{keywords_of, longest}
 use Rattle.cedar_words.proofs.TokenLemmas.{tokens_next}
 use Rattle.cedar_c.specs.Scans.{WritesOn, found_keyword, found_keywords, found_spot}
 use Rattle.cedar_c.specs.declared.scans.Found.{Found}
 
 module _ (t : Tree) (text : List ℕ) (next : ℕ) (xs : List Found) (count : ℕ) where
-  -- a key at the place is the next keyword
+  -- a key at the position is the next keyword
   pub keyword_told : (found : ℤ × ℕ) → next < length text → count < length xs → longest t (drop next text) ≡ Some found
       → WritesOn (found_keywords t) text next (next + (found.1 + 1)) (take count xs) (take (count + 1) (set xs count (found_spot next found)))
   keyword_told found low room is =

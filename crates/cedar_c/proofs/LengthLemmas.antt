@@ -4,18 +4,18 @@ use Rattle.std.specs.Prelude.{ℤ, nat_eq}
 use Rattle.std.specs.List.{count_by, filter, range_with_len, starts_with}
 use Rattle.std.proofs.lemmas.Bool.{false≢true}
 use Rattle.std.proofs.lemmas.List.{length-map}
-use Rattle.cedar_tree.specs.Tree.{Forest, none, child, Tree}
-use Rattle.cedar_tree.specs.Queries.{Entry, own_entry, under, walk_forest, walk, predict, prefixes_forest, prefixes}
+use Rattle.cedarwood.specs.Tree.{Forest, none, child, Tree}
+use Rattle.cedarwood.specs.Queries.{Entry, own_entry, under, walk_forest, walk, predict, prefixes_forest, prefixes}
 use Rattle.std.proofs.lemmas.List.Sums.{count_by-le-length}
 use Rattle.std.proofs.lemmas.List.FromFn.{length-range_with_len}
-use Rattle.cedar_model.specs.Table.Cells.{is_held}
-use Rattle.cedar_model.specs.Meaning.Marks.{marks}
-use Rattle.cedar_model.specs.Meaning.WellFormed.{cells_in, IsWellFormed, tree_of}
-use Rattle.cedar_model.specs.Table.TableFields.{Fields, size_of}
-use Rattle.cedar_model.proofs.MeaningLemmas.HeldCount.{count_is_marked}
+use Rattle.cedarwood.specs.Cells.{is_held}
+use Rattle.cedarwood.specs.Marks.{marks}
+use Rattle.cedarwood.specs.WellFormed.{cells_in, IsWellFormed, tree_of}
+use Rattle.cedarwood.specs.TableFields.{Fields, size_of}
+use Rattle.cedarwood.proofs.HeldCount.{count_is_marked}
 use Rattle.cedarwood.specs.Dictionary.{Dictionary}
 use Rattle.cedarwood.specs.OnTable.{IsOnTable}
-use Rattle.cedar_c.specs.Matches.{Fit, lengthened, predicted_keys}
+use Rattle.cedar_c.specs.Matches.{all_longer, Fit, predicted_keys}
 
 -- no entry's key has more bytes than this
 abbrev Within : ℕ → List Entry → Type 0
@@ -89,12 +89,12 @@ begins_short (l ∷ p) (m ∷ q) h =
     ]) h
 
 -- the bytes of a prefix and those behind it are all bytes of a key
-whole_keys : (q : List ℕ) (es : List Entry) → lengthened (length q) (map (behind q) (filter (begins q) es)) ≡ map (whole q) (filter (begins q) es)
+whole_keys : (q : List ℕ) (es : List Entry) → all_longer (length q) (map (behind q) (filter (begins q) es)) ≡ map (whole q) (filter (begins q) es)
 whole_keys q [] = refl
 whole_keys q (e ∷ es) =
-    let ih : lengthened (length q) (map (behind q) (filter (begins q) es)) ≡ map (whole q) (filter (begins q) es) = whole_keys q es in
+    let ih : all_longer (length q) (map (behind q) (filter (begins q) es)) ≡ map (whole q) (filter (begins q) es) = whole_keys q es in
     (elim (begins q e) as (λ b. begins q e ≡ b
-    → lengthened (length q) (map (behind q) (cond b (e ∷ filter (begins q) es) (filter (begins q) es))) ≡ map (whole q) (cond b (e ∷ filter (begins q) es) (filter (begins q) es))) [
+    → all_longer (length q) (map (behind q) (cond b (e ∷ filter (begins q) es) (filter (begins q) es))) ≡ map (whole q) (cond b (e ∷ filter (begins q) es) (filter (begins q) es))) [
       | true ↦ λ is.
           let short : length q ≤ length e.0 = begins_short e.0 q is in
           let all : length e.0 - length q + length q ≡ length e.0 = omega (arith, short) in
@@ -102,7 +102,7 @@ whole_keys q (e ∷ es) =
       | false ↦ λ is. ih
     ]) refl
 
-pub predicted_whole : (t : Tree) (q : List ℕ) → lengthened (length q) (predict t q) ≡ predicted_keys t q
+pub predicted_whole : (t : Tree) (q : List ℕ) → all_longer (length q) (predict t q) ≡ predicted_keys t q
 predicted_whole t q = whole_keys q (walk t)
 
 pub predicted_fit : (t : Tree) (q : List ℕ) → length (prefixes t) < 2 ^ 64 → length q < 2 ^ 64 → Fit (length q) (predict t q)

@@ -1,17 +1,16 @@
--- A buffer that is filled a place at a time.
+-- A buffer that is filled an element at a time.
 use Rattle.std.proofs.Common.{◌≡◌, ℕ, ◌+◌, ◌-◌, ◌<◌, ◌≤◌, ◌^◌, List, [], ◌∷◌, ◌++◌, length, take, drop, set, add-one, Bool, refl, sym, ap, subst, ◌∙◌, arith}
 use Rattle.std.specs.Prelude.{ℤ, nat_eq, Option, None, option_map}
 use Rattle.std.specs.List.{Contains, filter, last_or, starts_with}
-use Rattle.std.proofs.lemmas.List.{append_assoc, drop-set-lt, drop-drop, drop_all, drop_more, take-append-drop, take_all}
+use Rattle.std.proofs.lemmas.List.{append_assoc, drop-set-lt, drop-drop, drop_all, drop_more, take-append-drop, take_all, length-map}
 use Rattle.std.proofs.lemmas.Option.{none-some}
 use Rattle.std.proofs.Math.Seq.{take-suc-set}
 use Rattle.std.proofs.lemmas.List.Sums.{count_by-le-length, length-filter}
-use Rattle.std.proofs.lemmas.List.{length-map}
-use Rattle.cedar_tree.specs.Tree.{empty_tree, Tree}
-use Rattle.cedar_tree.specs.Queries.{Entry, front, predict, walk}
-use Rattle.cedar_tree.proofs.FrontLemmas.{held_from_front}
-use Rattle.cedar_tree.proofs.TreeLemmas.{number_at-empty}
-use Rattle.cedar_tree.proofs.FrontFromLemmas.{front_begins, front_short}
+use Rattle.cedarwood.specs.Tree.{empty_tree, Tree}
+use Rattle.cedarwood.specs.Queries.{Entry, front, predict, walk}
+use Rattle.cedarwood.proofs.FrontLemmas.{held_from_front}
+use Rattle.cedarwood.proofs.TreeLemmas.{number_at-empty}
+use Rattle.cedarwood.proofs.FrontFromLemmas.{front_begins, front_short}
 use Rattle.cedarwood.specs.Ranges.{longest_front}
 use Rattle.cedar_c.specs.Content.{content_tree}
 use Rattle.cedar_c.specs.declared.any.AnyCedar.{AnyCedar}
@@ -19,7 +18,7 @@ use Rattle.cedar_c.specs.declared.walks.Match.{Match}
 use Rattle.cedar_c.specs.Matches.{filled_matches, match_of}
 use Rattle.cedar_c.proofs.ClosedLemmas.{closed_is_empty}
 
--- the next place is written
+-- the next element is written
 pub written : (ms : List Match) (p : ℕ) (d : Match) (x : ℤ × ℕ) (rest : List (ℤ × ℕ)) → p < length ms
     → take (p + 1) (set ms p (match_of x)) ++ filled_matches (drop (p + 1) (set ms p (match_of x))) rest ≡ take p ms ++ filled_matches (drop p ms) (x ∷ rest)
 written ms p d x rest h =
@@ -75,7 +74,7 @@ one_passed count passed left x later h is =
 pub nothing_left : (n : ℕ) (all : List (ℤ × ℕ)) → all ≡ [] → drop n all ≡ []
 nothing_left n all none = let short : length all ≤ n = omega (arith, ap length none) in drop_all n all short
 
--- and nothing is told
+-- and nothing is reported
 pub nothing_told : (ms : List Match) (n : ℕ) (all : List (ℤ × ℕ)) → all ≡ []
     → (◌≡◌ {A = ℕ} 0 (length (take (length ms) (drop n all)))) × (ms ≡ filled_matches ms (drop n all))
 nothing_told ms n all none =

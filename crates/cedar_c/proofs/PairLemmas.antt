@@ -1,11 +1,11 @@
 -- Pairs of C's as the dictionary's own calls take them.
 use Rattle.std.proofs.Common.{◌≡◌, ◌⊎◌, inl, inr, ℕ, ◌<◌, ◌≤◌, List, [], ◌∷◌, length, map, take, Option, Some, None, IsSome, IfSome, IfErr, OnOk, OnErr, Result, Ok, Err, refl, sym, subst, ap, ◌∙◌, arith}
 use Rattle.std.proofs.lemmas.List.{take_all}
-use Rattle.cedar_tree.specs.Queries.{Entry}
+use Rattle.cedarwood.specs.Queries.{Entry}
 use Rattle.cedarwood.specs.declared.error.CedarError.{CedarError}
 use Rattle.cedarwood.specs.declared.error.CedarError.TheVariants.{Memory, SlotLimit}
-use Rattle.cedar_bulk.specs.Sorted.{entries_of}
-use Rattle.cedar_tree.specs.Tree.{number_at}
+use Rattle.cedarwood.specs.Sorted.{entries_of}
+use Rattle.cedarwood.specs.Tree.{number_at}
 use Rattle.cedarwood.specs.Builds.{all_stored, first_fault, path_at, IsRefusedBuild}
 use Rattle.cedarwood.specs.Dictionary.{Dictionary}
 use Rattle.cedarwood.specs.Fault.{fault, or_else, IsShortage}
@@ -65,7 +65,7 @@ module _ (slots : ℕ) (before after : Dictionary) (es : List Entry) where
   refused_shortage (Ok x) h = tt
   refused_shortage (Err e) h = h.shortage
 
--- a fault is answered, or want of memory for the list
+-- a fault is returned, or want of memory for the list
 pub fault_answered : {T : Type 0} (o : Option CedarError) (result : Result T CedarError) → IfSome o (λ e. result ≡ Err e)
     → IfSome o (λ e. (result ≡ Err e) ⊎ (result ≡ Err Memory))
 fault_answered None result h = tt

@@ -1,31 +1,31 @@
--- What a plan makes of a file that stands for a dictionary.
+-- What a plan makes of a file that represents a dictionary.
 use Rattle.std.specs.Prelude.{ℤ, IfSome, OnOk, option_and_then, option_map, Option, Some, Result, Ok, Err}
 use Rattle.std.proofs.Common.{◌≡◌, ℕ, ◌+◌, ◌<◌, List, [], ◌∷◌, ◌++◌, length, refl, sym, ◌∙◌, ap, subst, arith}
 use Rattle.cedar_journal.specs.declared.format.Format.{Format}
 use Rattle.cedar_journal.specs.declared.records.Extent.{Extent}
-use Rattle.cedar_journal.specs.Files.{HasExtent, recovered}
+use Rattle.cedar_journal.specs.Files.{file_payloads, HasExtent}
 use Rattle.cedar_journal.specs.Formats.{frame_of, opening, overhead}
 use Rattle.cedar_journal.specs.Journal.{IsBeforeOrAfter}
 use Rattle.cedar_journal.proofs.Moments as moments
-use Rattle.cedar_disk.specs.Calls.{LeftSince, opened, seen_after}
+use Rattle.cedar_plan.specs.Calls.{LeftSince, open_call, seen_after}
 use Rattle.cedar_plan.specs.Plans.{works_of}
 use Rattle.cedar_plan.specs.Works.{Work, append_works, end_of, format_in, opening_works}
 use Rattle.cedar_plan.specs.declared.plan.Plan.{Plan}
 use Rattle.cedar_plan.proofs.Appending.{append_is_safe}
 use Rattle.cedar_plan.proofs.Opening.{opening_is_safe}
-use Rattle.cedar_store.specs.Changes.{Change, after, all_changed, change_of, changed, put_at, replayed}
+use Rattle.cedar_store.specs.Changes.{Change, after, all_changed, change_of, after_change, put_at, after_payloads}
 use Rattle.cedar_store.specs.Files.{IsEither, state_of}
 use Rattle.cedar_store.proofs.Counted.{counted_more}
 use Rattle.cedar_store.proofs.Payloads.{one_change}
 use Rattle.cedar_store.proofs.States.{either, state_added}
-use Rattle.cedar_tree.specs.State.{State, new_state, stored}
+use Rattle.cedarwood.specs.State.{State, new_state, after_put}
 use Rattle.cedar_c.specs.Changes.{IsRecord}
 use Rattle.cedar_c.specs.Layouts.{dictionary_in}
 use Rattle.cedar_c.specs.Plans.{IsChangePlan, IsOpening}
 use Rattle.cedar_c.specs.declared.any.AnyCedar.{AnyCedar}
 
 -- what a payload's one change makes of a state
-pub makes : (payload : List ℕ) (change : Change) (s : State) → change_of payload ≡ Some change → after s payload ≡ Some (changed s change)
+pub makes : (payload : List ℕ) (change : Change) (s : State) → change_of payload ≡ Some change → after s payload ≡ Some (after_change s change)
 makes payload change s has = ap (option_map (all_changed s)) (one_change payload change has)
 
 module _ (f : Format) (end : ℕ) (payload : List ℕ) (s t : State) (short : length payload < 4294967296) (room : end < 1152921504606846976) (told : after s payload ≡ Some t) where
@@ -41,7 +41,7 @@ module _ (f : Format) (end : ℕ) (payload : List ℕ) (s t : State) (short : le
             counted_more (seen_after calls) _ payload n (n + 1) counted (append_is_safe calls f end payload kept.rest short room).more refl;
         any_moment = λ calls later kept out.
             let safe = append_is_safe calls f end payload kept.rest short room in
-            moments.weakens length LeftSince calls later (IsBeforeOrAfter (recovered (seen_after calls)) payload) (IsEither s t)
+            moments.weakens length LeftSince calls later (IsBeforeOrAfter (file_payloads (seen_after calls)) payload) (IsEither s t)
             (λ c outcome. either (seen_after calls) c payload s t kept.same told outcome) (safe.any_moment later out);
       }))
 
@@ -49,13 +49,13 @@ pub is_opening : (bytes : List ℕ) (extent : Extent) (works : List Work) (s : S
     → IsOpening bytes works (format_in extent) (end_of extent) s
 is_opening bytes extent works s has is stands =
     let safe = opening_is_safe bytes extent has in
-    let same : (c : List ℕ) → recovered c ≡ recovered bytes → state_of c ≡ Some s = λ c is. ap (option_and_then (replayed new_state)) is ∙ stands in
+    let same : (c : List ℕ) → file_payloads c ≡ file_payloads bytes → state_of c ≡ Some s = λ c is. ap (option_and_then (after_payloads new_state)) is ∙ stands in
     subst (λ (l : List Work). IsOpening bytes l (format_in extent) (end_of extent) s) (sym is)
     (record {
       kept = record { rest = safe.rest; same = same _ safe.same };
       counted = ap (option_map length) safe.same;
       any_moment = λ later out.
-          moments.weakens length LeftSince (opened bytes ∷ []) later (λ c. recovered c ≡ recovered bytes) (λ c. state_of c ≡ Some s) same (safe.any_moment later out);
+          moments.weakens length LeftSince (open_call bytes ∷ []) later (λ c. file_payloads c ≡ file_payloads bytes) (λ c. state_of c ≡ Some s) same (safe.any_moment later out);
     })
 
 -- a plan appends whatever record of this size its bytes begin with
@@ -65,9 +65,9 @@ PlansAppend plan size end =
 
 -- the plan of a record in a buffer
 pub planned_by : (change : Change) (f : Format) (end n size to : ℕ) (buffer : List ℕ) (plan : Plan) (s : State) → IsRecord change f end n size buffer
-    → PlansAppend plan size end → to + 1 ≡ end + size → IsChangePlan (works_of buffer plan) f end to s (changed s change)
+    → PlansAppend plan size end → to + 1 ≡ end + size → IsChangePlan (works_of buffer plan) f end to s (after_change s change)
 planned_by change f end n size to buffer plan s r works far =
-    is_change f end r.payload s (changed s change) (omega (arith, r.short, r.long)) r.room (makes r.payload change s r.has) to (works_of buffer plan)
+    is_change f end r.payload s (after_change s change) (omega (arith, r.short, r.long)) r.room (makes r.payload change s r.has) to (works_of buffer plan)
     (ap (λ (b : List ℕ). works_of b plan) r.written ∙ works f r.payload r.rest (omega (arith, r.size_is, r.long))) (omega (arith, far, r.size_is, r.long))
 
 -- what a handle has that was opened just now
@@ -77,9 +77,9 @@ opened_has P o a is has = subst (λ (x : Option AnyCedar). IfSome (option_map (�
 -- the plan of a put, whose value a word of the machine held meanwhile
 pub put_planned : (key : List ℕ) (w v : ℤ) (f : Format) (end n size to : ℕ) (buffer : List ℕ) (plan : Plan) (s : State)
     → IsRecord (put_at key w) f end n size buffer → w ≡ v → PlansAppend plan size end → to + 1 ≡ end + size
-    → IsChangePlan (works_of buffer plan) f end to s (stored s key v)
+    → IsChangePlan (works_of buffer plan) f end to s (after_put s key v)
 put_planned key w v f end n size to buffer plan s r same works far =
-    subst (λ x. IsChangePlan (works_of buffer plan) f end to s (stored s key x)) same (planned_by (put_at key w) f end n size to buffer plan s r works far)
+    subst (λ x. IsChangePlan (works_of buffer plan) f end to s (after_put s key x)) same (planned_by (put_at key w) f end n size to buffer plan s r works far)
 
 -- what a call says of `Ok` that isn't refused
 pub not_refused : {E : Type 0} (r : Result (Unit {0}) E) (P : Type 0) → OnOk r P → ((e : E) → r ≡ Err e → ⊥) → P

@@ -1,9 +1,9 @@
--- A buffer that takes what stands in a text.
+-- A buffer that takes what is in a text.
 use Rattle.std.proofs.Common.{◌≡◌, ℕ, zero, suc, ◌+◌, ◌-◌, ◌<◌, ◌^◌, ℤ, List, [], ◌∷◌, ◌++◌, length, map, take, drop, set, Option, Some, None, option_map, refl, sym, ap, ◌∙◌, arith}
 use Rattle.std.specs.List.{filter_map, cons_option, range_with_len}
 use Rattle.std.proofs.lemmas.List.{append_assoc, drop-drop, take_more_set}
-use Rattle.cedar_tree.specs.Tree.{Tree, number_at}
-use Rattle.cedar_tree.specs.Queries.{front}
+use Rattle.cedarwood.specs.Tree.{Tree, number_at}
+use Rattle.cedarwood.specs.Queries.{front}
 use Rattle.cedar_words.specs.Words.{longest, len_of, found_number}
 use Rattle.cedar_c.specs.Matches.{Fit}
 use Rattle.cedar_c.specs.Scans.{found_spot, found_spots, found_token, found_tokens}
@@ -18,13 +18,13 @@ told_more xs at place x left later h is =
     ∙ append_assoc (take at xs) (found_spot place x ∷ []) (map (found_spot place) later)
     ∙ ap (λ l. take at xs ++ map (found_spot place) l) (sym is)
 
--- what stands from a place on is what stands there, and then what stands from the next place on
+-- what there is from a position on is what is at it, and then what there is from the next position on
 pub spots_step : (t : Tree) (place : ℕ) (rest : List ℕ) → 0 < length rest
     → found_spots t place rest ≡ map (found_spot place) (front t rest) ++ found_spots t (place + 1) (drop 1 rest)
 spots_step t place [] h = absurd (omega (arith, h))
 spots_step t place (b ∷ rest) h = refl
 
--- a place is told
+-- a position is written
 pub place_told : (t : Tree) (text : List ℕ) (all : List Found) (before now : List Found) (next : ℕ)
     → all ≡ before ++ found_spots t next (drop next text) → 0 < length (drop next text) → now ≡ before ++ map (found_spot next) (front t (drop next text))
     → all ≡ now ++ found_spots t (next + 1) (drop (next + 1) text)
@@ -34,7 +34,7 @@ place_told t text all before now next was some is =
     ∙ sym (append_assoc before (map (found_spot next) (front t (drop next text))) (found_spots t (next + 1) (drop (next + 1) text)))
     ∙ ap (λ n. n ++ found_spots t (next + 1) (drop (next + 1) text)) (sym is)
 
--- the token at a place comes first
+-- the token at a position comes first
 pub token_first : (t : Tree) (place : ℕ) (text : List ℕ) (found : Option (ℤ × ℕ)) → 0 < length text → longest t text ≡ found
     → found_tokens t place text ≡ found_token (place, len_of found, found_number found) ∷ found_tokens t (place + len_of found) (drop (len_of found) text)
 token_first t place text found h is =

@@ -1,6 +1,6 @@
 -- What a handle has.
 use Rattle.std.specs.Prelude.{◌≡◌, ℕ, ℤ, List, Option, None, Some, option_map}
-use Rattle.cedar_model.specs.Table.Layouts.{LayoutKind}
+use Rattle.cedarwood.specs.Layouts.{LayoutKind}
 use Rattle.cedarwood.specs.Dictionary.{Dictionary}
 use Rattle.cedarwood.specs.Erasures.{IsErasedUnder}
 use Rattle.cedarwood.specs.State.{State}
@@ -29,11 +29,15 @@ marks_in h = option_map (λ a. (dictionary_in a).marked) (content h)
 abbrev pub trials_in : Handle → Option ℤ
 trials_in h = option_map (λ a. (dictionary_in a).max_trial) (content h)
 
+-- how many blocks one search for places in it tries at most
+abbrev pub search_limit_in : Handle → Option ℕ
+search_limit_in h = option_map (λ a. (dictionary_in a).search_limit) (content h)
+
 abbrev pub content_tree : Option AnyCedar → Tree
 content_tree None = empty_tree
 content_tree (Some a) = (dictionary_in a).state.tree
 
--- the tree that answers come from. A closed handle answers as one that holds no key
+-- the tree that results come from. A closed handle gives those of one that holds no key
 abbrev pub tree_in : Handle → Tree
 tree_in h = content_tree (content h)
 

@@ -1,11 +1,13 @@
 -- What a cut of least cost writes into a buffer.
-use Rattle.std.specs.Prelude.{◌≡◌, ℕ, ◌<◌, ◌≤◌, ◌^◌, Bool, true, false, List, ◌++◌, length, map, drop}
-use Rattle.cedar_tree.specs.Tree.{Tree}
-use Rattle.cedar_words.specs.Words.{character_price, IsAheadCapped, IsCheapestBy, IsCut, IsLeastCapped, Token}
+use Rattle.std.specs.Prelude.{◌≡◌, ℕ, ◌<◌, ◌≤◌, ◌^◌, Bool, true, false, List}
+use Rattle.std.specs.Prelude.{◌++◌, length, map, drop}
+use Rattle.cedarwood.specs.Tree.{Tree}
+use Rattle.cedar_words.specs.Words.{character_price, IsAheadCapped, IsCheapestBy}
+use Rattle.cedar_words.specs.Words.{IsCut, IsLeastCapped, Token}
 use Rattle.cedar_c.specs.Scans.{found_token}
 use Rattle.cedar_c.specs.declared.scans.Found.{Found}
 
--- what a byte without a number costs at each place of a text: the same at all, or so that a character costs once
+-- what a byte without a number costs at each position of a text: the same at all, or so that a character costs once
 abbrev pub prices : Bool → ℕ → List ℕ → ℕ → ℕ
 prices false unknown text = λ _. unknown
 prices true unknown text = character_price unknown text
@@ -19,12 +21,12 @@ pub record IsLeastCut (tree : Tree) (unknown : ℕ → ℕ) (text : List ℕ) (t
   pub capped : IsLeastCapped tree unknown text tokens
   pub ahead : IsAheadCapped tree unknown text tokens
 
--- the first places have the tokens of such a cut, the others what they had; `needed` is how many tokens there are
+-- the first elements have the tokens of such a cut, the others what they had; `needed` is how many tokens there are
 abbrev pub WritesLeastCut : Tree → (ℕ → ℕ) → List ℕ → List Found → List Found → ℕ → Type 0
 WritesLeastCut tree unknown text before after needed = (tokens : List Token) × IsLeastCut tree unknown text tokens
     × (needed ≡ length tokens) × (needed ≤ length before) × (after ≡ map found_token tokens ++ drop needed before)
 
--- `needed` is how many tokens such a cut has, and there are fewer places
-abbrev pub LacksPlacesForCut : Tree → (ℕ → ℕ) → List ℕ → List Found → ℕ → Type 0
-LacksPlacesForCut tree unknown text places needed =
+-- `needed` is how many tokens such a cut has, and there are fewer elements
+abbrev pub LacksRoomForCut : Tree → (ℕ → ℕ) → List ℕ → List Found → ℕ → Type 0
+LacksRoomForCut tree unknown text places needed =
     (tokens : List Token) × IsLeastCut tree unknown text tokens × (needed ≡ length tokens) × (length places < needed)

@@ -1,12 +1,14 @@
--- A page of entries with their keys, written into two buffers: places, and the bytes of the keys.
-use Rattle.std.specs.Prelude.{◌≡◌, ◌⊎◌, ◌+◌, ◌-◌, ◌<◌, ◌++◌, ℕ, suc, zero, false, true, List, [], ◌∷◌, drop, if◌then◌else◌, length, nat_eq, nat_lt, None, Option, Some, IfSome}
+-- A page of entries with their keys, written into two buffers: elements, and the bytes of the keys.
+use Rattle.std.specs.Prelude.{◌≡◌, ◌⊎◌, ◌+◌, ◌-◌, ◌<◌, ◌++◌, ℕ, suc, zero, false, true}
+use Rattle.std.specs.Prelude.{List, [], ◌∷◌, drop, if◌then◌else◌, length, nat_eq, nat_lt}
+use Rattle.std.specs.Prelude.{None, Option, Some, IfSome}
 use Rattle.std.specs.List.{filter, starts_with}
 use Rattle.std.specs.Cmp.Lexicographic.{slice_cmp}
 use Rattle.std.specs.Ordering.{is_gt, nat_cmp}
-use Rattle.cedar_model.specs.Table.TableFields.{Fields}
-use Rattle.cedar_tree.specs.Queries.{Entry, walk}
-use Rattle.cedar_tree.specs.State.{State}
-use Rattle.cedar_tree.specs.Tree.{Tree}
+use Rattle.cedarwood.specs.TableFields.{Fields}
+use Rattle.cedarwood.specs.Queries.{Entry, walk}
+use Rattle.cedarwood.specs.State.{State}
+use Rattle.cedarwood.specs.Tree.{Tree}
 use Rattle.cedar_walk.specs.declared.visits.Numbered.{Numbered}
 use Rattle.cedar_walk.specs.Ranges.{entries_with}
 use Rattle.cedar_walk.specs.Visits.{path_to}
@@ -33,7 +35,7 @@ abbrev pub following : Tree → List ℕ → List ℕ → List Entry
 following t prefix [] = entries_with t prefix
 following t prefix (b ∷ behind) = entries_behind_key t (b ∷ behind)
 
--- the first of some entries, as long as their keys begin with a prefix, and there are places and room for bytes
+-- the first of some entries, as long as their keys begin with a prefix, and there are elements and room for bytes
 abbrev pub page_of : List ℕ → ℕ → ℕ → List Entry → List Entry
 page_of prefix zero room es = []
 page_of prefix (suc places) room [] = []
@@ -41,7 +43,7 @@ page_of prefix (suc places) room (e ∷ es) =
     if nat_lt room (length e.0) then [] else
     if starts_with nat_eq e.0 prefix then e ∷ page_of prefix places (room - length e.0) es else []
 
--- where the keys of some entries stand if they are written one after another from a place on
+-- where the keys of some entries are if they are written one after another from a position on
 abbrev pub spots_of : ℕ → List Entry → List Found
 spots_of place [] = []
 spots_of place (e ∷ es) = record { place = place; length = length e.0; value = e.1 } ∷ spots_of (place + length e.0) es
@@ -52,7 +54,7 @@ bytes_lacking zero room es = None
 bytes_lacking (suc places) room [] = None
 bytes_lacking (suc places) room (e ∷ es) = if nat_lt room (length e.0) then Some (length e.0) else None
 
--- a page of these entries is written, of which there are `count`: the first places have where their keys stand, and the others are as they
+-- a page of these entries is written, of which there are `count`: the first elements have where their keys are, and the others are as they
 -- were; the first bytes are those of the keys, and the others may be anything
 pub record WritesPage (prefix : List ℕ) (entries : List Entry) (found told : List Found) (bytes written : List ℕ) (count : ℕ) : Type 0 where
   pub number : count ≡ length (page_of prefix (length found) (length bytes) entries)
@@ -68,7 +70,7 @@ WritesNothing found told bytes written count counted = (told ≡ found) × (writ
 abbrev pub CanGoOnBehind : State → List ℕ → Type 0
 CanGoOnBehind s behind = (behind ≡ []) ⊎ (s.ordered ≡ true)
 
--- a page of these entries is written, or it is told how many bytes the first key needs that finds no room; `count` and `needed` are the
+-- a page of these entries is written, or how many bytes the first key needs that finds no room; `count` and `needed` are the
 -- numbers before, `counted` and `wanted` those behind
 pub record TellsPage (prefix : List ℕ) (entries : List Entry) (found told : List Found) (bytes written : List ℕ) (count counted needed wanted status : ℕ) : Type 0 where
   pub page : bytes_lacking (length found) (length bytes) entries ≡ None → (status ≡ OK) × WritesPage prefix entries found told bytes written counted × (wanted ≡ needed)

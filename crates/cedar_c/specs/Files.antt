@@ -1,14 +1,21 @@
--- What a file's bytes are of, and the numbers that a refused one is answered by.
-use Rattle.std.specs.Prelude.{◌≡◌, ◌⊎◌, ℕ, Bool, true, false, ◌==◌, List, [], ◌∷◌, slice_get, take, None, Option, Some}
-use Rattle.cedar_model.specs.Table.Layouts.{LayoutKind}
-use Rattle.cedar_model.specs.Table.TableFields.{Fields}
-use Rattle.cedar_format.specs.Format.{header_at, header_refusal, size_refusal}
-use Rattle.cedar_format.specs.Tables.{IsTableFile, table_bytes}
+-- What a file's bytes are of, and the numbers that are returned for a refused one.
+use Rattle.std.specs.Prelude.{◌≡◌, ◌⊎◌, ℕ, Bool, true, false, ◌==◌, List, [], ◌∷◌}
+use Rattle.std.specs.Prelude.{slice_get, take, None, Option, Some}
+use Rattle.cedarwood.specs.Layouts.{LayoutKind}
+use Rattle.cedarwood.specs.TableFields.{Fields}
+use Rattle.cedarwood.specs.Format.{header_at, header_refusal, size_refusal}
+use Rattle.cedarwood.specs.Tables.{IsTableFile, table_bytes}
 use Rattle.cedarwood.specs.Limits.{most_slots}
 use Rattle.cedar_c.specs.Layouts.{dictionary_in, layout_if}
 use Rattle.cedar_c.specs.declared.any.AnyCedar.{AnyCedar}
-use Rattle.cedar_c.specs.declared.status.TheConstants.{MEMORY, FILE_TRUNCATED, FILE_MAGIC, FILE_VERSION, FILE_BYTE_ORDER, FILE_LAYOUT, FILE_HEADER, FILE_MEMORY_LIMIT, FILE_CORRUPT, FILE_TRAILING, FILE_UNREAD}
-use Rattle.cedar_format.specs.Refusal.{Refusal, first_refusal, Truncated, InvalidMagic, UnsupportedVersion, UnsupportedByteOrder, LayoutMismatch, InvalidHeader, AllocationLimitExceeded, AllocationFailed, CorruptData, TrailingData, Failed}
+use Rattle.cedar_c.specs.declared.status.TheConstants.{MEMORY, FILE_TRUNCATED, FILE_MAGIC}
+use Rattle.cedar_c.specs.declared.status.TheConstants.{FILE_VERSION, FILE_BYTE_ORDER, FILE_LAYOUT}
+use Rattle.cedar_c.specs.declared.status.TheConstants.{FILE_HEADER, FILE_MEMORY_LIMIT, FILE_CORRUPT}
+use Rattle.cedar_c.specs.declared.status.TheConstants.{FILE_TRAILING, FILE_UNREAD}
+use Rattle.cedarwood.specs.Refusal.{Refusal, first_refusal, Truncated, InvalidMagic}
+use Rattle.cedarwood.specs.Refusal.{UnsupportedVersion, UnsupportedByteOrder, LayoutMismatch}
+use Rattle.cedarwood.specs.Refusal.{InvalidHeader, AllocationLimitExceeded, AllocationFailed}
+use Rattle.cedarwood.specs.Refusal.{CorruptData, TrailingData, Failed}
 
 -- whether a file's byte of its layout is there, and names the reduced one
 abbrev pub is_reduced_byte : Option ℕ → Bool
@@ -48,7 +55,7 @@ early_refusal layout slots limit bytes = first_refusal (header_refusal layout (t
 abbrev pub TellsHeader : Refusal → ℕ → Type 0
 TellsHeader r status = (status ≡ file_status r) ⊎ (status ≡ MEMORY)
 
--- just the number of a refusal is told
+-- just the number of a refusal is returned
 abbrev pub TellsJust : Refusal → ℕ → Type 0
 TellsJust r status = status ≡ file_status r
 

@@ -1,8 +1,9 @@
 -- What calls that open a handle say.
-use Rattle.std.specs.Prelude.{◌≡◌, ◌≢◌, ◌⊎◌, ◌↔◌, ◌≤ℤ◌, ◌<ℤ◌, ℕ, ℤ, pos, Bool, List, None, Some, IfSome}
-use Rattle.cedar_format.specs.Format.{header_answer}
-use Rattle.cedar_model.specs.Table.Layouts.{LayoutKind, layout_byte}
-use Rattle.cedarwood.specs.Words.{IsEmpty, IsOnTable, IsSorted}
+use Rattle.std.specs.Prelude.{◌≡◌, ◌≢◌, ◌⊎◌, ◌↔◌, ◌≤ℤ◌, ◌<ℤ◌, ℕ, ℤ, pos, Bool}
+use Rattle.std.specs.Prelude.{List, None, Some, IfSome}
+use Rattle.cedarwood.specs.Format.{header_answer}
+use Rattle.cedarwood.specs.Layouts.{LayoutKind, layout_byte}
+use Rattle.cedarwood.specs.Words.{IsEmpty, IsOnTable, IsSorted, no_search_limit}
 use Rattle.cedarwood.specs.Limits.{most_slots}
 use Rattle.cedarwood.specs.declared.builder.CedarBuilder.{CedarBuilder}
 use Rattle.cedar_c.specs.Content.{content, layout_in}
@@ -13,42 +14,43 @@ use Rattle.cedar_c.specs.Status.{TellsFault, TellsPosition}
 use Rattle.cedar_c.specs.declared.any.AnyCedar.{AnyCedar}
 use Rattle.cedar_c.specs.declared.handle.Handle.{Handle}
 use Rattle.cedar_c.specs.declared.pairs.Pair.{Pair}
-use Rattle.cedar_c.specs.declared.status.TheConstants.{OK, MEMORY, SLOT_LIMIT, INVALID_MAX_TRIAL, FILE_CORRUPT, FILE_UNREAD}
+use Rattle.cedar_c.specs.declared.status.TheConstants.{OK, MEMORY, SLOT_LIMIT, INVALID_MAX_TRIAL}
+use Rattle.cedar_c.specs.declared.status.TheConstants.{FILE_CORRUPT, FILE_UNREAD}
 
--- by OK the handle is opened with an empty dictionary of a layout and settings, in the place of what it had; by another status it is as it was
+-- if OK is returned, the handle is opened with an empty dictionary of a layout and settings, in place of what it had; else it is as it was
 pub record OpensNew (kind : LayoutKind) (ordered : Bool) (trials : ℤ) (before after : Handle) (status : ℕ) : Type 0 where
-  pub made : status ≡ OK → (settings : CedarBuilder) × (settings.ordered ≡ ordered) × (settings.max_trial ≡ trials)
+  pub made : status ≡ OK → (settings : CedarBuilder) × (settings.ordered ≡ ordered) × (settings.max_trial ≡ trials) × (settings.search_limit ≡ no_search_limit)
       × ((a : AnyCedar) × (content after ≡ Some a) × IsEmpty settings (dictionary_in a))
   pub layout : status ≡ OK → layout_in after ≡ Some kind
   -- a number of trials below 1 is refused, and no other one
   pub invalid : (status ≡ INVALID_MAX_TRIAL) ↔ (trials <ℤ pos 1)
   pub refused : (status ≡ OK) ⊎ (((status ≡ INVALID_MAX_TRIAL) ⊎ (status ≡ MEMORY)) × (content after ≡ content before))
 
--- by OK the handle is opened with a dictionary of just these pairs, which come sorted or in any order, in the place of what it had; by
--- another status it is as it was. `found` and `told` are the position before and after
+-- if OK is returned, the handle is opened with a dictionary of just these pairs, which come sorted or in any order, in place of what it
+-- had; by another status it is as it was. `found` and `told` are the position before and after
 pub record OpensBuilt (kind : LayoutKind) (is_sorted ordered : Bool) (trials : ℤ) (pairs : List Pair) (before after : Handle) (found told status : ℕ) : Type 0 where
-  pub made : status ≡ OK → (settings : CedarBuilder) × (settings.ordered ≡ ordered) × (settings.max_trial ≡ trials)
+  pub made : status ≡ OK → (settings : CedarBuilder) × (settings.ordered ≡ ordered) × (settings.max_trial ≡ trials) × (settings.search_limit ≡ no_search_limit)
       × ((a : AnyCedar) × (content after ≡ Some a) × IsSorted (layout_of a) settings (entries_in pairs) (dictionary_in a))
   pub layout : status ≡ OK → layout_in after ≡ Some kind
   pub invalid : trials <ℤ pos 1 → status ≡ INVALID_MAX_TRIAL
-  -- the first fault of the pairs is told, unless memory was wanted before it was found
+  -- the first fault of the pairs is returned, unless memory was wanted before it was found
   pub faulty : pos 1 ≤ℤ trials → IfSome (build_fault is_sorted (entries_in pairs)) (TellsFault found told status)
   -- without a fault slots are wanted only where there might not be enough
   pub refused : pos 1 ≤ℤ trials → build_fault is_sorted (entries_in pairs) ≡ None
       → (status ≡ OK) ⊎ (status ≡ MEMORY) ⊎ ((status ≡ SLOT_LIMIT) × MayWantSlots most_slots pairs)
   pub kept : (status ≡ OK) ⊎ (content after ≡ content before)
-  -- only an error that tells a position writes it
+  -- only an error that has a position writes it
   pub stays : TellsPosition status ⊎ (told ≡ found)
 
--- by OK the handle is opened with the dictionary that a file's bytes are of, in the place of what it had; by another status it is as it was
+-- if OK is returned, the handle is opened with the dictionary that a file's bytes are of, in place of what it had; else it is as it was
 pub record OpensLoaded (kind : LayoutKind) (limit : ℕ) (bytes : List ℕ) (before after : Handle) (status : ℕ) : Type 0 where
   pub loaded : status ≡ OK → (a : AnyCedar) × (content after ≡ Some a) × IsFileOf (dictionary_in a).table bytes
   pub stands : status ≡ OK → (a : AnyCedar) × (content after ≡ Some a) × IsOnTable most_slots (dictionary_in a)
   pub layout : status ≡ OK → layout_in after ≡ Some kind
   pub refused : (status ≡ OK) ⊎ (content after ≡ content before)
-  -- where a header is refused nothing else is told, but for want of memory
+  -- where a header is refused nothing else is returned, but for want of memory
   pub header : IfSome (header_answer (layout_byte kind) most_slots limit bytes) (λ r. TellsHeader r status)
-  -- before memory is asked for just this refusal's number is told
+  -- before memory is asked for just this refusal's number is returned
   pub early : IfSome (early_refusal (layout_byte kind) most_slots limit bytes) (λ r. status ≡ file_status r)
   -- behind a header that passes they are of this table, or of no well-formed one, or memory was wanted
   pub behind : header_answer (layout_byte kind) most_slots limit bytes ≡ None

@@ -1,9 +1,10 @@
 -- Pairs and keys of C's.
-use Rattle.std.specs.Prelude.{◌≡◌, ◌*◌, ◌<◌, ◌≤◌, ℕ, Bool, true, false, ℤ, List, [], ◌∷◌, ◌++◌, length, map, take, Option, None}
+use Rattle.std.specs.Prelude.{◌≡◌, ◌*◌, ◌<◌, ◌≤◌, ℕ, Bool, true, false, ℤ, List, [], ◌∷◌}
+use Rattle.std.specs.Prelude.{◌++◌, length, map, take, Option, None}
 use Rattle.std.specs.Borrow.{Bor}
 use Rattle.cedarwood.specs.declared.error.CedarError.{CedarError}
-use Rattle.cedar_tree.specs.Tree.{number_at}
-use Rattle.cedar_tree.specs.Queries.{Entry, asc, prefixes}
+use Rattle.cedarwood.specs.Tree.{number_at}
+use Rattle.cedarwood.specs.Queries.{Entry, asc, prefixes}
 use Rattle.cedarwood.specs.Builds.{all_stored, first_fault, path_at}
 use Rattle.cedarwood.specs.SortedInput.{fault_from}
 use Rattle.cedarwood.specs.State.{State}

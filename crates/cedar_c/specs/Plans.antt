@@ -1,11 +1,12 @@
 -- The dictionary of a store whose file somebody else keeps: what the plans say that its calls write down.
-use Rattle.std.specs.Prelude.{◌≡◌, ◌⊎◌, ℕ, ℤ, ◌+◌, ◌<◌, ◌≤◌, ◌^◌, Bool, true, false, List, [], ◌∷◌, Some}
+use Rattle.std.specs.Prelude.{◌≡◌, ◌⊎◌, ℕ, ℤ, ◌+◌, ◌<◌, ◌≤◌, ◌^◌, Bool, true}
+use Rattle.std.specs.Prelude.{false, List, [], ◌∷◌, Some}
 use Rattle.cedar_journal.specs.declared.format.Format.{Format}
 use Rattle.cedar_journal.specs.declared.format.Format.TheVariants.{Plain, Summed}
 use Rattle.cedar_journal.specs.declared.records.Extent.{Extent}
 use Rattle.cedar_journal.specs.Files.{HasExtent}
 use Rattle.cedar_journal.specs.Formats.{overhead}
-use Rattle.cedar_disk.specs.Calls.{Call, opened, seen_after}
+use Rattle.cedar_plan.specs.Calls.{Call, open_call, seen_after}
 use Rattle.cedar_plan.specs.Safety.{CrashLeaves, IsAtRest}
 use Rattle.cedar_plan.specs.Works.{AreCarriedOut, Work, all_done}
 use Rattle.cedar_salvage.specs.Whole.{cuts_records, TakesLong}
@@ -13,22 +14,24 @@ use Rattle.cedar_store.specs.Causes.{LoadCause}
 use Rattle.cedar_store.specs.Files.{IsEither, record_count, state_of}
 use Rattle.cedar_store.specs.declared.error.DurableError.{DurableError}
 use Rattle.cedar_store.specs.declared.error.DurableError.TheVariants as error
-use Rattle.cedarwood.specs.State.{erased, State, stored}
+use Rattle.cedarwood.specs.State.{after_erase, after_put, State}
 use Rattle.cedar_c.specs.Status.{status_of}
-use Rattle.cedar_c.specs.declared.status.TheConstants.{OK, MEMORY, SLOT_LIMIT, NO_ROOM, OTHER, STORE_CORRUPT, STORE_DAMAGED, STORE_FOREIGN, STORE_FULL, STORE_TOO_LONG}
+use Rattle.cedar_c.specs.declared.status.TheConstants.{OK, MEMORY, SLOT_LIMIT, NO_ROOM, OTHER}
+use Rattle.cedar_c.specs.declared.status.TheConstants.{STORE_CORRUPT, STORE_DAMAGED, STORE_FOREIGN}
+use Rattle.cedar_c.specs.declared.status.TheConstants.{STORE_FULL, STORE_TOO_LONG}
 
 -- the format of records that have a sum or not
 abbrev pub format_if : Bool → Format
 format_if false = Plain
 format_if true = Summed
 
--- after these calls the file is at rest, its records are of this format and end here, and it stands for this state of a dictionary
+-- after these calls the file is at rest, its records are of this format and end here, and it represents this state of a dictionary
 pub record IsKept (calls : List Call) (format : Format) (end : ℕ) (s : State) : Type 0 where
   pub rest : IsAtRest calls format end
   pub same : state_of (seen_after calls) ≡ Some s
 
--- Works that change the state which a file stands for whose records are of this format, and where they end. The file has one record more then.
--- A crash at any moment, also where one of them fails, leaves a file that stands for the one state or for the other.
+-- Works that change the state which a file represents whose records are of this format, and where they end. The file has one record more
+-- then. A crash at any moment, also where one of them fails, leaves a file that represents the one state or the other.
 pub record IsChangePlan (works : List Work) (format : Format) (from to : ℕ) (before after : State) : Type 0 where
   pub kept : (calls : List Call) → IsKept calls format from before → IsKept (all_done works calls) format to after
   pub counted : (calls : List Call) (n : ℕ) → IsKept calls format from before → record_count (seen_after calls) ≡ Some n
@@ -37,17 +40,17 @@ pub record IsChangePlan (works : List Work) (format : Format) (from to : ℕ) (b
 
 -- so those of a pair that is put, and of a key that is erased
 abbrev pub IsPutPlan : List Work → Format → ℕ → ℕ → State → List ℕ → ℤ → Type 0
-IsPutPlan works format from to s key value = IsChangePlan works format from to s (stored s key value)
+IsPutPlan works format from to s key value = IsChangePlan works format from to s (after_put s key value)
 
 abbrev pub IsErasurePlan : List Work → Format → ℕ → ℕ → State → List ℕ → Type 0
-IsErasurePlan works format from to s key = IsChangePlan works format from to s (erased s key)
+IsErasurePlan works format from to s key = IsChangePlan works format from to s (after_erase s key)
 
--- Works that make a file of these bytes ready for changes, which was synced and then read: its records are of this format then, end here, and
--- are as many as before. A crash at any moment, also where one of them fails, leaves a file that stands for the same state.
+-- Works that make a file of these bytes ready for changes, which was synced and then read: its records are of this format then, end here,
+-- and are as many as before. A crash at any moment, also where one of them fails, leaves a file that represents the same state.
 pub record IsOpening (bytes : List ℕ) (works : List Work) (format : Format) (end : ℕ) (s : State) : Type 0 where
-  pub kept : IsKept (all_done works (opened bytes ∷ [])) format end s
-  pub counted : record_count (seen_after (all_done works (opened bytes ∷ []))) ≡ record_count bytes
-  pub any_moment : (later : List Call) → AreCarriedOut works (opened bytes ∷ []) later → CrashLeaves (opened bytes ∷ []) later (λ c. state_of c ≡ Some s)
+  pub kept : IsKept (all_done works (open_call bytes ∷ [])) format end s
+  pub counted : record_count (seen_after (all_done works (open_call bytes ∷ []))) ≡ record_count bytes
+  pub any_moment : (later : List Call) → AreCarriedOut works (open_call bytes ∷ []) later → CrashLeaves (open_call bytes ∷ []) later (λ c. state_of c ≡ Some s)
 
 -- the number of why a file wasn't read as a dictionary
 abbrev pub store_status : DurableError → ℕ
@@ -57,13 +60,13 @@ store_status (error.Damaged at) = STORE_DAMAGED
 store_status (error.Refused e) = status_of e
 store_status _ = OTHER
 
--- where a damaged record begins, which an error tells; or what stood there
+-- where a damaged record begins, which an error writes; or what was written there before
 abbrev pub damage_of : ℕ → DurableError → ℕ
 damage_of found (error.Damaged at) = at
 damage_of found _ = found
 
--- The number says why a file of these bytes wasn't read as a dictionary, and what is told then is where a damaged record begins, or what was
--- found there.
+-- The number says why a file of these bytes wasn't read as a dictionary, and what is written then is where a damaged record begins, or what
+-- was found there.
 abbrev pub TellsWhy : List ℕ → ℕ → ℕ → ℕ → Type 0
 TellsWhy bytes found told status = (e : DurableError) × LoadCause bytes e × (status ≡ store_status e) × (told ≡ damage_of found e)
 
@@ -71,7 +74,7 @@ TellsWhy bytes found told status = (e : DurableError) × LoadCause bytes e × (s
 abbrev pub MayCut : List ℕ → Type 0
 MayCut bytes = (extent : Extent) × HasExtent bytes extent × ((cuts_records bytes extent ≡ true) ⊎ TakesLong bytes extent)
 
--- the number says why no record of this format was made of a payload of n bytes, for a file whose records end here, in so many places
+-- the number says why no record of this format was made of a payload of n bytes, for a file whose records end here, in so many elements
 abbrev pub LacksRecord : Format → ℕ → ℕ → ℕ → ℕ → Type 0
 LacksRecord format end n places status =
     ((status ≡ STORE_FULL) × (2 ^ 60 ≤ end)) ⊎ ((status ≡ STORE_TOO_LONG) × (2 ^ 32 ≤ n)) ⊎ ((status ≡ NO_ROOM) × (places < n + overhead format + 1))

@@ -1,6 +1,6 @@
 -- What a dictionary that is lent for reading has.
 use Rattle.std.specs.Prelude.{ℕ, Option, option_map}
-use Rattle.cedar_model.specs.Table.Layouts.{LayoutKind}
+use Rattle.cedarwood.specs.Layouts.{LayoutKind}
 use Rattle.cedarwood.specs.Dictionary.{Dictionary}
 use Rattle.cedarwood.specs.Tree.{Tree}
 use Rattle.cedar_c.specs.Content.{content_figure, content_tree}
@@ -16,7 +16,7 @@ shown_in r = r.shown.value
 abbrev pub shown_layout : Reading → Option LayoutKind
 shown_layout r = option_map layout_of (shown_in r)
 
--- the tree that answers come from. A closed one answers as one that holds no key
+-- the tree that results come from. A closed one gives those of one that holds no key
 abbrev pub shown_tree : Reading → Tree
 shown_tree r = content_tree (shown_in r)
 

@@ -9,12 +9,12 @@ use Rattle.cedar_c.specs.Status.{status_of}
 use Rattle.cedar_c.specs.declared.handle.Handle.{Handle}
 use Rattle.cedar_c.specs.declared.status.TheConstants.{OK}
 
--- the number of what a call of the dictionary answered
+-- the number of what a call of the dictionary returned
 abbrev pub status_after : Result (Unit {0}) CedarError → ℕ
 status_after (Ok done) = OK
 status_after (Err e) = status_of e
 
--- the dictionary is shrunk, or this number tells why not
+-- the dictionary is shrunk, or this number says why not
 abbrev pub Shrinks : Handle → Handle → ℕ → Type 0
 Shrinks before after status = (r : Result (Unit {0}) CedarError) × (status ≡ status_after r)
     × ChangesBy (λ a b. IsShrunk (layout_of a) most_slots (dictionary_in a) (dictionary_in b) r) before after

@@ -1,9 +1,21 @@
--- The numbers that C is answered.
+-- The numbers that calls from C return.
 use Rattle.std.specs.Prelude.{◌≡◌, ◌⊎◌, ℕ, List, [], ◌∷◌, ◌==◌, codes, if◌then◌else◌, None}
-use Rattle.cedar_c.specs.declared.status.TheConstants.{OK, CLOSED, MEMORY, SLOT_LIMIT, EMPTY_KEY, NUL_BYTE, INVALID_VALUE, INVALID_MAX_TRIAL, DUPLICATE_KEY, KEYS_NOT_SORTED, NO_ROOM, NOT_ASCENDING, FILE_TRUNCATED, FILE_MAGIC, FILE_VERSION, FILE_BYTE_ORDER, FILE_LAYOUT, FILE_HEADER, FILE_MEMORY_LIMIT, FILE_CORRUPT, FILE_TRAILING, FILE_UNREAD, STORE_CORRUPT, STORE_DAMAGED, STORE_DEVICE, STORE_FAILED, STORE_FOREIGN, STORE_FULL, STORE_KEPT, STORE_LOCKED, STORE_NO_ROOM, STORE_READ_ONLY, STORE_TOO_LONG}
+use Rattle.cedar_c.specs.declared.status.TheConstants.{OK, CLOSED, MEMORY, SLOT_LIMIT, EMPTY_KEY}
+use Rattle.cedar_c.specs.declared.status.TheConstants.{NUL_BYTE, INVALID_VALUE, INVALID_MAX_TRIAL}
+use Rattle.cedar_c.specs.declared.status.TheConstants.{DUPLICATE_KEY, KEYS_NOT_SORTED, NO_ROOM}
+use Rattle.cedar_c.specs.declared.status.TheConstants.{NOT_ASCENDING, FILE_TRUNCATED, FILE_MAGIC}
+use Rattle.cedar_c.specs.declared.status.TheConstants.{FILE_VERSION, FILE_BYTE_ORDER, FILE_LAYOUT}
+use Rattle.cedar_c.specs.declared.status.TheConstants.{FILE_HEADER, FILE_MEMORY_LIMIT, FILE_CORRUPT}
+use Rattle.cedar_c.specs.declared.status.TheConstants.{FILE_TRAILING, FILE_UNREAD, STORE_CORRUPT}
+use Rattle.cedar_c.specs.declared.status.TheConstants.{STORE_DAMAGED, STORE_DEVICE, STORE_FAILED}
+use Rattle.cedar_c.specs.declared.status.TheConstants.{STORE_FOREIGN, STORE_FULL, STORE_KEPT}
+use Rattle.cedar_c.specs.declared.status.TheConstants.{STORE_LOCKED, STORE_NO_ROOM, STORE_READ_ONLY}
+use Rattle.cedar_c.specs.declared.status.TheConstants.{STORE_TOO_LONG}
 use Rattle.cedarwood.specs.Tree.{Tree, number_at}
 use Rattle.cedarwood.specs.declared.error.CedarError.{CedarError}
-use Rattle.cedarwood.specs.declared.error.CedarError.TheVariants.{EmptyKey, NulByte, InvalidValue, InvalidMaxTrial, DuplicateKey, KeysNotSorted, Memory, SlotLimit}
+use Rattle.cedarwood.specs.declared.error.CedarError.TheVariants.{EmptyKey, NulByte, InvalidValue}
+use Rattle.cedarwood.specs.declared.error.CedarError.TheVariants.{InvalidMaxTrial, DuplicateKey}
+use Rattle.cedarwood.specs.declared.error.CedarError.TheVariants.{KeysNotSorted, Memory, SlotLimit}
 
 -- the number of an error
 abbrev pub status_of : CedarError → ℕ
@@ -20,22 +32,23 @@ status_of (KeysNotSorted i) = KEYS_NOT_SORTED
 abbrev pub LacksOnlyNew : Tree → List ℕ → ℕ → Type 0
 LacksOnlyNew t key status = (status ≡ OK) ⊎ (((status ≡ MEMORY) ⊎ (status ≡ SLOT_LIMIT)) × (number_at t key ≡ None))
 
--- the position that an error tells, which is a pair's index where keys don't ascend; or what stood there
+-- the position that an error writes, which is a pair's index where keys don't ascend; or what was written there before
 abbrev pub position_of : ℕ → CedarError → ℕ
 position_of before (NulByte p) = p
 position_of before (DuplicateKey i) = i
 position_of before (KeysNotSorted i) = i
 position_of before e = before
 
--- the numbers of errors that tell a position
+-- the numbers of errors that have a position
 abbrev pub TellsPosition : ℕ → Type 0
 TellsPosition status = (status ≡ NUL_BYTE) ⊎ (status ≡ DUPLICATE_KEY) ⊎ (status ≡ KEYS_NOT_SORTED)
 
--- the number of this error is told, and its position, or want of memory. `found` and `told` are the position before and after
+-- the number of this error is returned, and its position written, or want of memory is returned. `found` and `told` are the position before
+-- and after
 abbrev pub TellsFault : ℕ → ℕ → ℕ → CedarError → Type 0
 TellsFault found told status e = (status ≡ MEMORY) ⊎ ((status ≡ status_of e) × (told ≡ position_of found e))
 
--- each number that is answered, with its text: the library's own text of that error where it has one, without numbers
+-- each number that is returned, with its text: the library's own text of that error where it has one, without numbers
 abbrev pub texts_by_status : List (ℕ × List ℕ)
 texts_by_status =
     (OK, codes "done")

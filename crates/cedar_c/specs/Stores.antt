@@ -1,7 +1,7 @@
 -- What a call says that stores many pairs.
 use Rattle.std.specs.Prelude.{◌≡◌, ◌<◌, ◌≤◌, ℕ, List, length, take, None, option_map}
-use Rattle.cedar_tree.specs.Tree.{number_at}
-use Rattle.cedar_tree.specs.Queries.{Entry}
+use Rattle.cedarwood.specs.Tree.{number_at}
+use Rattle.cedarwood.specs.Queries.{Entry}
 use Rattle.cedarwood.specs.Builds.{all_stored, path_at}
 use Rattle.cedarwood.specs.declared.error.CedarError.{CedarError}
 use Rattle.cedar_c.specs.Content.{content, state_in, tree_in}
@@ -18,6 +18,6 @@ abbrev pub HoldsPart : Handle → Handle → List Entry → Type 0
 HoldsPart before after entries = (m : ℕ) × (m < length entries)
     × (state_in after ≡ option_map (λ s. all_stored s (take m entries)) (state_in before)) × (number_at (tree_in after) (path_at entries m) ≡ None)
 
--- nothing has changed, and this fault is told. `found` and `told` are the position before and after
+-- nothing has changed, and this fault is returned. `found` and `told` are the position before and after
 abbrev pub RefusesAll : Handle → Handle → ℕ → ℕ → ℕ → CedarError → Type 0
 RefusesAll before after found told status e = (content after ≡ content before) × TellsFault found told status e

@@ -1,43 +1,53 @@
 -- The words of clauses, from one place.
-pub use Rattle.cedar_bulk.specs.Sorted.{entries_of}
+pub use Rattle.cedarwood.specs.Sorted.{entries_of}
 pub use Rattle.cedar_c.specs.Changes.{IsRecord}
-pub use Rattle.cedar_c.specs.Content.{capacity_in, ChangesBy, content, ErasesUnder, layout_in, marks_in, size_in, state_in, tree_in}
-pub use Rattle.cedar_c.specs.Content.{trials_in}
-pub use Rattle.cedar_c.specs.Cuts.{IsLeastCut, LacksPlacesForCut, prices, WritesLeastCut}
-pub use Rattle.cedar_c.specs.Entries.{bytes_lacking, EndsPage, entries_behind_key, PageOf, TellsEntries, TellsPage, visited_key, WritesNothing, WritesPage}
-pub use Rattle.cedar_c.specs.Files.{early_refusal, file_in, file_status, is_reduced_byte, IsFileOf, LacksOrCorrupt, TellsNoTable}
+pub use Rattle.cedar_c.specs.Content.{capacity_in, ChangesBy, content, ErasesUnder}
+pub use Rattle.cedar_c.specs.Content.{layout_in, marks_in, search_limit_in, size_in}
+pub use Rattle.cedar_c.specs.Content.{state_in, tree_in, trials_in}
+pub use Rattle.cedar_c.specs.Cuts.{IsLeastCut, LacksRoomForCut, prices, WritesLeastCut}
+pub use Rattle.cedar_c.specs.Entries.{bytes_lacking, EndsPage, entries_behind_key, PageOf}
+pub use Rattle.cedar_c.specs.Entries.{TellsEntries, TellsPage, visited_key, WritesNothing}
+pub use Rattle.cedar_c.specs.Entries.{WritesPage}
+pub use Rattle.cedar_c.specs.Files.{early_refusal, file_in, file_status, is_reduced_byte}
+pub use Rattle.cedar_c.specs.Files.{IsFileOf, LacksOrCorrupt, TellsNoTable}
 pub use Rattle.cedar_c.specs.Files.{layout_named, minor_of, TellsHeader, TellsJust}
 pub use Rattle.cedar_c.specs.Groups.{AddsChange, group_head, IsGroup, LacksGroup}
 pub use Rattle.cedar_c.specs.Layouts.{dictionary_in, HasToGrow, layout_if, layout_of}
 pub use Rattle.cedar_c.specs.Lending.{as_shown, LendsCedar, LendsSeen}
-pub use Rattle.cedar_c.specs.Matches.{filled_from, filled_matches, Fit, front_keys, lengthened, longer, match_of, predicted_keys}
+pub use Rattle.cedar_c.specs.Matches.{all_longer, filled_from, filled_matches, Fit, front_keys}
+pub use Rattle.cedar_c.specs.Matches.{longer, match_of, predicted_keys}
 pub use Rattle.cedar_c.specs.Opens.{OpensBuilt, OpensLoaded, OpensNew}
-pub use Rattle.cedar_c.specs.Pairs.{build_fault, entries_in, keys_in, MayWantSlots, named_keys, StoresFront, StoresPart, taken_pair}
-pub use Rattle.cedar_c.specs.Plans.{damage_of, format_if, IsChangePlan, IsErasurePlan, IsOpening, IsPutPlan, LacksChange, LacksRecord, MayCut, TellsWhy, store_status}
+pub use Rattle.cedar_c.specs.Pairs.{build_fault, entries_in, keys_in, MayWantSlots, named_keys}
+pub use Rattle.cedar_c.specs.Pairs.{StoresFront, StoresPart, taken_pair}
+pub use Rattle.cedar_c.specs.Plans.{damage_of, format_if, IsChangePlan, IsErasurePlan}
+pub use Rattle.cedar_c.specs.Plans.{IsOpening, IsPutPlan, LacksChange, LacksRecord, MayCut}
+pub use Rattle.cedar_c.specs.Plans.{TellsWhy, store_status}
 pub use Rattle.cedar_c.specs.Readings.{shown_figure, shown_in, shown_layout, shown_tree}
-pub use Rattle.cedar_c.specs.Scans.{found_keywords, found_spot, found_spots, found_token, found_tokens, WritesOn, WritesPiece}
+pub use Rattle.cedar_c.specs.Scans.{found_keywords, found_spot, found_spots, found_token}
+pub use Rattle.cedar_c.specs.Scans.{found_tokens, WritesOn, WritesPiece}
 pub use Rattle.cedar_c.specs.Shrinks.{Shrinks}
-pub use Rattle.cedar_c.specs.Status.{LacksOnlyNew, position_of, status_of, status_text, TellsFault, TellsPosition}
+pub use Rattle.cedar_c.specs.Status.{LacksOnlyNew, position_of, status_of, status_text}
+pub use Rattle.cedar_c.specs.Status.{TellsFault, TellsPosition}
 pub use Rattle.cedar_c.specs.Stores.{HoldsFront, HoldsPart, RefusesAll}
 pub use Rattle.cedar_c.specs.declared.any.AnyCedar.{AnyCedar}
-pub use Rattle.cedar_format.specs.Format.{header_answer}
-pub use Rattle.cedar_format.specs.Refusal.{refusal_of}
-pub use Rattle.cedar_format.specs.Tables.{IsTableFile, table_bytes}
+pub use Rattle.cedarwood.specs.Format.{header_answer}
+pub use Rattle.cedarwood.specs.Refusal.{refusal_of}
+pub use Rattle.cedarwood.specs.Tables.{IsTableFile, table_bytes}
 pub use Rattle.cedar_journal.specs.Files.{HasExtent}
 pub use Rattle.cedar_journal.specs.Formats.{frame_of, opening, overhead}
 pub use Rattle.cedar_journal.specs.Records.{length_bytes}
 pub use Rattle.cedar_journal.specs.declared.format.Format.{Format}
 pub use Rattle.cedar_journal.specs.declared.format.Format.TheVariants.{Plain, Summed}
-pub use Rattle.cedar_model.specs.Meaning.WellFormed.{IsWellFormed, tree_of}
-pub use Rattle.cedar_model.specs.Table.Layouts.{default_layout, layout_byte, reduced_layout}
+pub use Rattle.cedarwood.specs.WellFormed.{IsWellFormed, tree_of}
+pub use Rattle.cedarwood.specs.Layouts.{default_layout, layout_byte, reduced_layout}
 pub use Rattle.cedar_plan.specs.Plans.{works_of}
 pub use Rattle.cedar_plan.specs.Works.{append_works, end_of, format_in}
 pub use Rattle.cedar_salvage.specs.Whole.{CutsNone}
 pub use Rattle.cedar_store.specs.Causes.{LoadCause}
 pub use Rattle.cedar_store.specs.Changes.{erase_at, put_at}
 pub use Rattle.cedar_store.specs.Files.{record_count, state_of}
-pub use Rattle.cedar_tree.specs.Queries.{asc, prefixes, used, walk}
-pub use Rattle.cedar_tree.specs.Tree.{Tree}
+pub use Rattle.cedarwood.specs.Queries.{asc, prefixes, slots_of_tree, walk}
+pub use Rattle.cedarwood.specs.Tree.{Tree}
 pub use Rattle.cedar_walk.specs.Visits.{ComesToFirst, IsNumberedBelow}
 pub use Rattle.cedarwood.specs.Batches.{held_in_turn, keys_erased}
 pub use Rattle.cedarwood.specs.Builds.{all_stored, first_fault, outcome}
@@ -45,14 +55,15 @@ pub use Rattle.cedarwood.specs.Dictionary.{capacity_after}
 pub use Rattle.cedarwood.specs.Fault.{fault, IsShortage}
 pub use Rattle.cedarwood.specs.OnTable.{IsOnTable}
 pub use Rattle.cedarwood.specs.Queries.{front, predict}
-pub use Rattle.cedarwood.specs.RangeWalks.{IsRangePlace, ranged}
+pub use Rattle.cedarwood.specs.RangeWalks.{entries_left, IsRangePlace}
 pub use Rattle.cedarwood.specs.Ranges.{longest_front}
-pub use Rattle.cedarwood.specs.Room.{LacksRoom}
+pub use Rattle.cedarwood.specs.Room.{LacksRoom, SetsSearchLimit}
 pub use Rattle.cedarwood.specs.Shrinking.{IsShrunk}
-pub use Rattle.cedarwood.specs.State.{erased, stored}
+pub use Rattle.cedarwood.specs.State.{after_erase, after_put}
 pub use Rattle.cedarwood.specs.Tree.{number_at}
 pub use Rattle.cedarwood.specs.Updates.{IsUpdate}
-pub use Rattle.cedarwood.specs.Words.{IsCleared, IsEmpty, IsErasedUnder, IsSlotLimit, IsSorted, most_slots}
+pub use Rattle.cedarwood.specs.Words.{IsCleared, IsEmpty, IsErasedUnder, IsSlotLimit}
+pub use Rattle.cedarwood.specs.Words.{IsSorted, most_slots}
 pub use Rattle.cedarwood.specs.Words.{key_fault, value_fault}
 pub use Rattle.std.specs.Borrow.{sem}
 pub use Rattle.std.specs.List.{starts_with}

@@ -1,7 +1,11 @@
 //! A dictionary of either layout: each call goes to the one that is there.
 
-ghost use Rattle.std.specs.Prelude.{◌*◌, ◌+◌, ◌-◌, ◌/◌, ◌<◌, ◌↔◌, ◌≡◌, ◌≤◌, Err, IfErr, IfOk, IfSome, IsOk, IsSome, IsTrue, length, OnErr, OnOk};
-ghost use Rattle.cedar_c.specs.Words.{capacity_after, default_layout, dictionary_in, erased, fault, IsEmpty, IsUpdate, LacksRoom, layout_if, layout_of, most_slots, number_at, outcome, prefixes, reduced_layout, used, walk};
+ghost use Rattle.std.specs.Prelude.{◌*◌, ◌+◌, ◌-◌, ◌/◌, ◌<◌, ◌↔◌, ◌≡◌, ◌≤◌, Err, IfErr, IfOk};
+ghost use Rattle.std.specs.Prelude.{IfSome, IsOk, IsSome, IsTrue, length, OnErr, OnOk};
+ghost use Rattle.cedar_c.specs.Words.{after_erase, capacity_after, default_layout, dictionary_in};
+ghost use Rattle.cedar_c.specs.Words.{fault, IsEmpty, IsUpdate, LacksRoom, layout_if, layout_of};
+ghost use Rattle.cedar_c.specs.Words.{most_slots, number_at, outcome, prefixes, reduced_layout};
+ghost use Rattle.cedar_c.specs.Words.{slots_of_tree, walk};
 
 use cedarwood::{Cedar, CedarBuilder, CedarError, ReducedCedar};
 use std::alloc::Global;
@@ -62,9 +66,10 @@ impl AnyCedar {
 
     pub(crate) fn erase_bytes(&mut self, key: &[u8]) -> bool
         ensures answer { IsTrue result ↔ IsSome (number_at (dictionary_in self.old).state.tree key.now) }
-        ensures after { (dictionary_in self.new).state ≡ erased (dictionary_in self.old).state key.now }
+        ensures after { (dictionary_in self.new).state ≡ after_erase (dictionary_in self.old).state key.now }
         ensures size { ((dictionary_in self.new).size ≡ (dictionary_in self.old).size) × ((dictionary_in self.new).capacity ≡ (dictionary_in self.old).capacity) }
         ensures max_trial { (dictionary_in self.new).max_trial ≡ (dictionary_in self.old).max_trial }
+        ensures search_limit { (dictionary_in self.new).search_limit ≡ (dictionary_in self.old).search_limit }
         ensures layout { layout_of self.new ≡ layout_of self.old }
     {
         match self {
@@ -77,6 +82,7 @@ impl AnyCedar {
         ensures state { (dictionary_in self.new).state ≡ (dictionary_in self.old).state }
         ensures marked { (dictionary_in self.new).marked ≡ (dictionary_in self.old).marked }
         ensures max_trial { (dictionary_in self.new).max_trial ≡ (dictionary_in self.old).max_trial }
+        ensures search_limit { (dictionary_in self.new).search_limit ≡ (dictionary_in self.old).search_limit }
         ensures layout { layout_of self.new ≡ layout_of self.old }
         ensures size { (dictionary_in self.new).size ≡ (dictionary_in self.old).size }
         ensures capacity { OnOk result ((dictionary_in self.new).capacity ≡ capacity_after blocks (dictionary_in self.old).size (dictionary_in self.old).capacity) }
@@ -104,7 +110,7 @@ impl AnyCedar {
 
     pub(crate) fn used_node_slots(&self) -> usize
         ensures marked { result ≡ 1 + length (prefixes (dictionary_in self.now).state.tree) + length (walk (dictionary_in self.now).marked) }
-        ensures by_default { layout_of self.now ≡ default_layout → result ≡ used (dictionary_in self.now).state.tree }
+        ensures by_default { layout_of self.now ≡ default_layout → result ≡ slots_of_tree (dictionary_in self.now).state.tree }
     {
         match self {
             AnyCedar::Default(cedar) => cedar.used_node_slots(),

@@ -1,7 +1,12 @@
 //! A dictionary of pairs, made at once: of pairs whose keys ascend, or of pairs in any order.
 
-ghost use Rattle.std.specs.Prelude.{◌*◌, ◌≡◌, ◌≤◌, ◌⊎◌, Err, false, IfErr, IfOk, IfSome, length, None, Some, true};
-ghost use Rattle.cedar_c.specs.Words.{AnyCedar, asc, build_fault, content, default_layout, dictionary_in, entries_in, entries_of, IsSlotLimit, IsSorted, layout_if, layout_in, layout_of, MayWantSlots, most_slots, OpensBuilt, prefixes, reduced_layout, TellsFault, TellsPosition};
+ghost use Rattle.std.specs.Prelude.{◌*◌, ◌≡◌, ◌≤◌, ◌⊎◌, Err, false, IfErr, IfOk, IfSome};
+ghost use Rattle.std.specs.Prelude.{length, None, Some, true};
+ghost use Rattle.cedar_c.specs.Words.{AnyCedar, asc, build_fault, content, default_layout};
+ghost use Rattle.cedar_c.specs.Words.{dictionary_in, entries_in, entries_of, IsSlotLimit, IsSorted};
+ghost use Rattle.cedar_c.specs.Words.{layout_if, layout_in, layout_of, MayWantSlots, most_slots};
+ghost use Rattle.cedar_c.specs.Words.{OpensBuilt, prefixes, reduced_layout, TellsFault};
+ghost use Rattle.cedar_c.specs.Words.{TellsPosition};
 
 use crate::any::AnyCedar;
 use crate::handle::Handle;

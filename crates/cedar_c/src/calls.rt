@@ -1,7 +1,14 @@
 //! The calls that make, copy, change and query a dictionary.
 
-ghost use Rattle.std.specs.Prelude.{◌*◌, ◌-◌, ◌<◌, ◌↔◌, ◌≡◌, ◌≤◌, ◌⊎◌, IfSome, IsSome, IsTrue, length, None, option_map, pos, Some, true};
-ghost use Rattle.cedar_c.specs.Words.{AnyCedar, capacity_in, ChangesBy, content, default_layout, dictionary_in, erased, ErasesUnder, fault, IsCleared, IsEmpty, IsErasedUnder, LacksOnlyNew, layout_if, layout_in, layout_of, longest_front, match_of, most_slots, number_at, OpensNew, position_of, reduced_layout, shown_in, shown_tree, size_in, state_in, status_of, stored, TellsPosition, tree_in, trials_in};
+ghost use Rattle.std.specs.Prelude.{◌*◌, ◌-◌, ◌<◌, ◌↔◌, ◌≡◌, ◌≤◌, ◌⊎◌, IfSome, IsSome, IsTrue};
+ghost use Rattle.std.specs.Prelude.{length, None, option_map, pos, Some, true};
+ghost use Rattle.cedar_c.specs.Words.{after_erase, after_put, AnyCedar, capacity_in, ChangesBy};
+ghost use Rattle.cedar_c.specs.Words.{content, default_layout, dictionary_in, ErasesUnder, fault};
+ghost use Rattle.cedar_c.specs.Words.{IsCleared, IsEmpty, IsErasedUnder, LacksOnlyNew, layout_if};
+ghost use Rattle.cedar_c.specs.Words.{layout_in, layout_of, longest_front, match_of, most_slots};
+ghost use Rattle.cedar_c.specs.Words.{number_at, OpensNew, position_of, reduced_layout};
+ghost use Rattle.cedar_c.specs.Words.{search_limit_in, shown_in, shown_tree, size_in, state_in};
+ghost use Rattle.cedar_c.specs.Words.{status_of, TellsPosition, tree_in, trials_in};
 
 use crate::any::AnyCedar;
 use crate::handle::Handle;
@@ -60,8 +67,8 @@ pub extern "C" fn cedar_new_with(
     ordered: bool,
     max_trial: i32,
 ) -> u32
-    //= The call opens a handle with an empty dictionary of 256 slots and the settings that are given, or the default ones. [also
-    //  cedar_new_reduced, cedar_new; by made]
+    //= The call opens a handle with an empty dictionary of 256 slots and the settings that are given, or the default ones. Nothing bounds
+    //  a search in it. [also cedar_new_reduced, cedar_new; by made]
     //= It fails for lack of memory, and for a `max_trial` exactly if that is below 1. Then the handle has what it had. [also
     //  cedar_new_reduced, cedar_new; by refused, invalid]
     ensures opens { OpensNew default_layout ordered max_trial handle.old handle.new result }
@@ -128,7 +135,7 @@ pub extern "C" fn cedar_update(
 
     //= It returns the number of the pair's first fault, with the position of a byte 0, or stores the value. [with faulty; also
     //  cedar_insert]
-    ensures ok { result ≡ OK → state_in handle.new ≡ option_map (λ s. stored s key.now value) (state_in handle.old) }
+    ensures ok { result ≡ OK → state_in handle.new ≡ option_map (λ s. after_put s key.now value) (state_in handle.old) }
 
     //= After any error the tree is as it was, and after a pair's fault the whole dictionary. [with unchanged; also cedar_insert]
     ensures err { (result ≡ OK) ⊎ (state_in handle.new ≡ state_in handle.old) }
@@ -151,8 +158,10 @@ pub extern "C" fn cedar_update(
     //  cedar_build_unsorted.opens, cedar_build_unsorted_reduced.opens; by stays]
     ensures stays { TellsPosition result ⊎ (position.new ≡ position.old) }
 
-    //= `max_trial` doesn't change. [also cedar_insert, cedar_update_all, cedar_erase, cedar_erase_all]
+    //= `max_trial` and the search limit don't change. [with search_limit; also cedar_insert, cedar_update_all, cedar_erase,
+    //  cedar_erase_all]
     ensures trials { trials_in handle.new ≡ trials_in handle.old }
+    ensures search_limit { search_limit_in handle.new ≡ search_limit_in handle.old }
     ensures refused { IsSome (content handle.old) → fault key.now value ≡ None → LacksOnlyNew (tree_in handle.old) key.now result }
 {
     if !handle.is_open() {
@@ -179,7 +188,7 @@ pub extern "C" fn cedar_insert(
     position: &mut usize,
 ) -> u32
     ensures closed { (result ≡ CLOSED) ↔ (content handle.old ≡ None) }
-    ensures ok { result ≡ OK → state_in handle.new ≡ option_map (λ s. stored s key.now value) (state_in handle.old) }
+    ensures ok { result ≡ OK → state_in handle.new ≡ option_map (λ s. after_put s key.now value) (state_in handle.old) }
     ensures err { (result ≡ OK) ⊎ (state_in handle.new ≡ state_in handle.old) }
     ensures unchanged { IsSome (fault key.now value) → content handle.new ≡ content handle.old }
     ensures layout { layout_in handle.new ≡ layout_in handle.old }
@@ -194,6 +203,7 @@ pub extern "C" fn cedar_insert(
         → 256 * length key.now ≤ capacity_in handle.old - size_in handle.old → result ≡ OK }
     ensures stays { TellsPosition result ⊎ (position.new ≡ position.old) }
     ensures trials { trials_in handle.new ≡ trials_in handle.old }
+    ensures search_limit { search_limit_in handle.new ≡ search_limit_in handle.old }
     ensures untold { (result ≡ OK) ⊎ ((held.new ≡ held.old) × (before.new ≡ before.old)) }
     ensures refused { IsSome (content handle.old) → fault key.now value ≡ None → LacksOnlyNew (tree_in handle.old) key.now result }
 {
@@ -218,10 +228,11 @@ pub extern "C" fn cedar_insert(
 pub extern "C" fn cedar_erase(handle: &mut Handle, key: &[u8]) -> bool
     //= An erasure returns whether the key was held. The tree is then `cut`, and there are as many slots as before. [with after, size]
     ensures answer { IsTrue result ↔ IsSome (number_at (tree_in handle.old) key.now) }
-    ensures after { state_in handle.new ≡ option_map (λ s. erased s key.now) (state_in handle.old) }
+    ensures after { state_in handle.new ≡ option_map (λ s. after_erase s key.now) (state_in handle.old) }
     ensures size { (size_in handle.new ≡ size_in handle.old) × (capacity_in handle.new ≡ capacity_in handle.old) }
     ensures layout { layout_in handle.new ≡ layout_in handle.old }
     ensures trials { trials_in handle.new ≡ trials_in handle.old }
+    ensures search_limit { search_limit_in handle.new ≡ search_limit_in handle.old }
 {
     if !handle.is_open() {
         return false;
@@ -240,7 +251,7 @@ pub extern "C" fn cedar_get(handle: &mut Reading, key: &[u8], value: &mut i32) -
     ensures absent { number_at (shown_tree handle.old) key.now ≡ None → value.new ≡ value.old }
 
     //= Look-ups, figures, walks, scans, tokens, saves and lists of keys don't change the handle. [also cedar_len, cedar_used_slots,
-    //  cedar_capacity, cedar_spare_blocks, cedar_is_reduced, cedar_prefixes, cedar_predictions, cedar_prefixes_from,
+    //  cedar_capacity, cedar_spare_blocks, cedar_search_limit, cedar_is_reduced, cedar_prefixes, cedar_predictions, cedar_prefixes_from,
     //  cedar_predictions_from, cedar_scan, cedar_segment, cedar_keywords, cedar_cheapest, cedar_save, cedar_keys, cedar_contains,
     //  cedar_longest_prefix, cedar_clone, cedar_entries_from]
     ensures kept { handle.new ≡ handle.old }
@@ -352,6 +363,7 @@ impl AnyCedar {
 /// `CLOSED` if the handle that is copied is closed, and `MEMORY` if an allocation was refused. Then the handle is as it was.
 #[unsafe(no_mangle)]
 pub extern "C" fn cedar_clone(original: &mut Reading, alloc: Global, handle: &mut Handle) -> u32
+    //= It returns `CLOSED` exactly if the handle that is copied is closed.
     ensures closed { (result ≡ CLOSED) ↔ (shown_in original.old ≡ None) }
 
     //= A clone has an equal dictionary, whose table is equal field by field. It fails only for lack of memory; then the handle has what it
@@ -394,6 +406,7 @@ impl AnyCedar {
 /// `CLOSED` if the handle is closed: then nothing is written.
 #[unsafe(no_mangle)]
 pub extern "C" fn cedar_erase_prefix(handle: &mut Handle, prefix: &[u8], erased: &mut usize) -> u32
+    //= `cedar_erase_prefix` and `cedar_shrink` return `CLOSED` exactly if the handle is closed. [also cedar_shrink]
     ensures closed { (result ≡ CLOSED) ↔ (content handle.old ≡ None) }
 
     //= An erasure by a prefix removes all keys that begin with it, and no other one, and writes how many these were. It is refused only if

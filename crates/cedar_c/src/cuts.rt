@@ -1,7 +1,9 @@
 //! The cut of least cost of a whole text, written into a buffer of the caller's.
 
-ghost use Rattle.std.specs.Prelude.{◌++◌, ◌<◌, ◌↔◌, ◌≡◌, ◌≤◌, ◌⊎◌, drop, IfSome, length, map, None, set};
-ghost use Rattle.cedar_c.specs.Words.{dictionary_in, found_token, IsLeastCut, LacksPlacesForCut, prices, shown_in, shown_tree, WritesLeastCut};
+ghost use Rattle.std.specs.Prelude.{◌++◌, ◌<◌, ◌↔◌, ◌≡◌, ◌≤◌, ◌⊎◌, drop, IfSome};
+ghost use Rattle.std.specs.Prelude.{length, map, None, set};
+ghost use Rattle.cedar_c.specs.Words.{dictionary_in, found_token, IsLeastCut, LacksRoomForCut};
+ghost use Rattle.cedar_c.specs.Words.{prices, shown_in, shown_tree, WritesLeastCut};
 
 use crate::any::AnyCedar;
 use crate::reading::Reading;
@@ -11,15 +13,16 @@ use cedar_words::{cheapest, cheapest_by_characters};
 use cedarwood::{Layout, Trie};
 use std::alloc::Global;
 
-/// Cuts a whole text into keys and single bytes whose costs have the least sum, writes these tokens into the first places of a buffer, and
-/// how many they are. A key costs its value. A byte without a value is written with the value -1 and costs `unknown`; if `by_characters`,
-/// one that continues a character of UTF-8 costs nothing. Of cuts that cost the same it picks the one with the longer token where they
-/// first differ, and with a key rather than a byte. A sum above 2^64 - 1 counts as 2^64 - 1, which no least sum of a text of fewer than 2^32
-/// bytes reaches. There are never more tokens than bytes. It allocates 9 bytes for each byte of the text, and a list of the tokens.
+/// Cuts a whole text into keys and single bytes whose costs have the least sum, writes these tokens into the first elements of a buffer,
+/// and how many they are. A key costs its value. A byte without a value is written with the value -1 and costs `unknown`; if
+/// `by_characters`, one that continues a character of UTF-8 costs nothing. Of cuts that cost the same it picks the one with the longer
+/// token where they first differ, and with a key rather than a byte. A sum above 2^64 - 1 counts as 2^64 - 1, which no least sum of a text
+/// of fewer than 2^32 bytes reaches. There are never more tokens than bytes. It allocates 9 bytes for each byte of the text, and a list of
+/// the tokens.
 ///
 /// # Errors
-/// `CLOSED` if the handle is closed, `NO_ROOM` if there are more tokens than the buffer has places: then it writes how many; `MEMORY` if an
-/// allocation was refused. After an error the buffer is as it was.
+/// `CLOSED` if the handle is closed, `NO_ROOM` if there are more tokens than the buffer has elements: then it writes how many; `MEMORY` if
+/// an allocation was refused. After an error the buffer is as it was.
 #[unsafe(no_mangle)]
 pub extern "C" fn cedar_cheapest(
     handle: &mut Reading,
@@ -34,12 +37,12 @@ pub extern "C" fn cedar_cheapest(
     //  and otherwise `MEMORY`. After any error the buffer is as it was. [with refused, cut, room]
     ensures closed { (result ≡ CLOSED) ↔ (shown_in handle.old ≡ None) }
 
-    //= It writes the tokens of the text's cut of least cost, as `cheapest` or `cheapest_by_characters` has it, into the first places of a
+    //= It writes the tokens of the text's cut of least cost, as `cheapest` or `cheapest_by_characters` has it, into the first elements of a
     //  buffer, and doesn't change the others. In a text of any length this cut comes first among those that cost as little and no more than
     //  2^64 - 1. `needed` is how many tokens there are, and doesn't change if neither `OK` nor `NO_ROOM` is returned. [with room, stays; by
     //  IsLeastCut, prices]
     ensures cut { result ≡ OK → WritesLeastCut (shown_tree handle.old) (prices by_characters unknown text.now) text.now found.old found.new needed.new }
-    ensures room { result ≡ NO_ROOM → LacksPlacesForCut (shown_tree handle.old) (prices by_characters unknown text.now) text.now found.old needed.new }
+    ensures room { result ≡ NO_ROOM → LacksRoomForCut (shown_tree handle.old) (prices by_characters unknown text.now) text.now found.old needed.new }
     ensures refused { (result ≡ OK) ⊎ (((result ≡ CLOSED) ⊎ (result ≡ MEMORY) ⊎ (result ≡ NO_ROOM)) × (found.new ≡ found.old)) }
     ensures stays { (result ≡ OK) ⊎ (result ≡ NO_ROOM) ⊎ (needed.new ≡ needed.old) }
     ensures kept { handle.new ≡ handle.old }
@@ -55,7 +58,7 @@ pub extern "C" fn cedar_cheapest(
 }
 
 impl AnyCedar {
-    /// Writes the tokens of a text's cut of least cost into the first places of a buffer, and how many they are.
+    /// Writes the tokens of a text's cut of least cost into the first elements of a buffer, and how many they are.
     fn cheapest(
         &self,
         alloc: Global,
@@ -66,7 +69,7 @@ impl AnyCedar {
         needed: &mut usize,
     ) -> u32
         ensures cut { result ≡ OK → WritesLeastCut (dictionary_in self.now).state.tree (prices by_characters unknown text.now) text.now found.old found.new needed.new }
-        ensures room { result ≡ NO_ROOM → LacksPlacesForCut (dictionary_in self.now).state.tree (prices by_characters unknown text.now) text.now found.old needed.new }
+        ensures room { result ≡ NO_ROOM → LacksRoomForCut (dictionary_in self.now).state.tree (prices by_characters unknown text.now) text.now found.old needed.new }
         ensures refused { (result ≡ OK) ⊎ (((result ≡ MEMORY) ⊎ (result ≡ NO_ROOM)) × (found.new ≡ found.old)) }
         ensures stays { (result ≡ OK) ⊎ (result ≡ NO_ROOM) ⊎ (needed.new ≡ needed.old) }
     {
@@ -109,7 +112,7 @@ fn either_cut<L: Layout, const SLOTS: usize>(
     }
 }
 
-/// Writes some tokens into the first places of a buffer, if it has room for all, and how many they are.
+/// Writes some tokens into the first elements of a buffer, if it has room for all, and how many they are.
 fn write_whole(
     tokens: &[(usize, usize, Option<i32>)],
     found: &mut [Found],
@@ -129,7 +132,7 @@ fn write_whole(
     OK
 }
 
-/// Writes a token at a place.
+/// Writes a token at an index.
 fn put_token(found: &mut [Found], at: usize, token: (usize, usize, Option<i32>))
     requires { at < length found.old }
     ensures { found.new ≡ set found.old at (found_token token) }

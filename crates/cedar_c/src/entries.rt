@@ -1,7 +1,11 @@
 //! Entries with their keys, a page of them a call.
 
-ghost use Rattle.std.specs.Prelude.{◌++◌, ◌+◌, ◌-◌, ◌↔◌, ◌≡◌, ◌≤◌, [], IfSome, IsSome, IsTrue, length, nat_eq, None, take, true};
-ghost use Rattle.cedar_c.specs.Words.{bytes_lacking, ComesToFirst, EndsPage, entries_behind_key, IsNumberedBelow, IsRangePlace, IsWellFormed, number_at, PageOf, ranged, shown_in, starts_with, TellsEntries, TellsPage, tree_of, visited_key, WritesNothing, WritesPage};
+ghost use Rattle.std.specs.Prelude.{◌++◌, ◌+◌, ◌-◌, ◌↔◌, ◌≡◌, ◌≤◌, [], IfSome, IsSome, IsTrue};
+ghost use Rattle.std.specs.Prelude.{length, nat_eq, None, take, true};
+ghost use Rattle.cedar_c.specs.Words.{bytes_lacking, ComesToFirst, EndsPage, entries_behind_key};
+ghost use Rattle.cedar_c.specs.Words.{entries_left, IsNumberedBelow, IsRangePlace, IsWellFormed};
+ghost use Rattle.cedar_c.specs.Words.{number_at, PageOf, shown_in, starts_with, TellsEntries};
+ghost use Rattle.cedar_c.specs.Words.{TellsPage, tree_of, visited_key, WritesNothing, WritesPage};
 
 use crate::any::AnyCedar;
 use crate::reading::Reading;
@@ -76,7 +80,7 @@ fn write_page<T: Walked>(
 ) -> usize
     requires well_formed { IsWellFormed T.slots (T.shown trie.now) }
     requires place { IsRangePlace (T.shown trie.now) start.now first }
-    ensures { WritesPage prefix.now (ranged (T.shown trie.now) start.now first) found.old found.new bytes.old bytes.new result }
+    ensures { WritesPage prefix.now (entries_left (T.shown trie.now) start.now first) found.old found.new bytes.old bytes.new result }
 {
     let mut next = first;
     let mut used = 0;
@@ -110,7 +114,7 @@ fn lack<T: Walked>(
 ) -> Option<usize>
     requires well_formed { IsWellFormed T.slots (T.shown trie.now) }
     requires place { IsRangePlace (T.shown trie.now) start.now first }
-    ensures { result ≡ bytes_lacking places room (ranged (T.shown trie.now) start.now first) }
+    ensures { result ≡ bytes_lacking places room (entries_left (T.shown trie.now) start.now first) }
 {
     let at = first?;
     let len = key_length(trie, start, at);
@@ -134,7 +138,7 @@ fn tell_page<T: Walked>(
 ) -> u32
     requires well_formed { IsWellFormed T.slots (T.shown trie.now) }
     requires place { IsRangePlace (T.shown trie.now) start.now first }
-    ensures { TellsPage prefix.now (ranged (T.shown trie.now) start.now first) found.old found.new keys.old keys.new count.old count.new need.old need.new result }
+    ensures { TellsPage prefix.now (entries_left (T.shown trie.now) start.now first) found.old found.new keys.old keys.new count.old count.new need.old need.new result }
 {
     match lack(trie, start, first, found.len(), keys.len()) {
         Some(len) => {
@@ -215,15 +219,15 @@ impl AnyCedar {
 }
 
 /// Writes a page of the entries whose keys begin with a prefix and come after `behind`, in iteration order: where their keys begin, how
-/// long they are and their values into the places, and the keys one after another into the bytes. It writes how many they are: as many as
-/// there are places and room for. With a place or more, 0 says that no key with the prefix comes next: if `behind` is empty or begins with
-/// the prefix, none is left then. If `behind` is empty, the page begins with the first entry. It looks `behind` up, visits no entry before
-/// the page, and allocates nothing.
+/// long they are and their values into the elements, and the keys one after another into the bytes. It writes how many they are: as many as
+/// there are elements and room for. With an element or more, 0 says that no key with the prefix comes next: if `behind` is empty or begins
+/// with the prefix, none is left then. If `behind` is empty, the page begins with the first entry. It looks `behind` up, visits no entry
+/// before the page, and allocates nothing.
 ///
 /// # Errors
 /// `CLOSED` if the handle is closed; `NOT_ASCENDING` if `behind` isn't empty and the labels of the dictionary don't ascend; `NO_ROOM` if
-/// there is a place and the next key has more bytes than there is room for: then it writes how many. That next key may be one without the
-/// prefix, after the last one with it or before the first. After an error nothing else is written.
+/// there is an element and the next key has more bytes than there is room for: then it writes how many. That next key may be one without
+/// the prefix, after the last one with it or before the first. After an error nothing else is written.
 #[unsafe(no_mangle)]
 pub extern "C" fn cedar_entries_from(
     handle: &mut Reading,
@@ -237,12 +241,12 @@ pub extern "C" fn cedar_entries_from(
     ensures closed { (result ≡ CLOSED) ↔ (shown_in handle.old ≡ None) }
 
     //= A page of entries has those after a key by bytes, or from the first one on if no key is given, in iteration order, as long as their
-    //  keys begin with the prefix, and there are places and room for their bytes. `count` is how many. Each place has where its key is, its
-    //  length and its value, and the other places don't change. The keys are one after another in the first bytes. [by page, TellsEntries,
-    //  following, page_of]
+    //  keys begin with the prefix, and there are elements and room for their bytes. `count` is how many. Each element has where its key is,
+    //  its length and its value, and the other elements don't change. The keys are one after another in the first bytes. [by page,
+    //  TellsEntries, following, page_of]
     //= It is refused exactly if the handle is closed, with `NOT_ASCENDING` if a key is given and labels don't ascend, and otherwise with
-    //  `NO_ROOM` if there is a place and the first key to come, with the prefix or without it, has more bytes than there is room for: `need`
-    //  is how many. Then nothing else is written. [with closed, closed_stays]
+    //  `NO_ROOM` if there is an element and the first key to come, with the prefix or without it, has more bytes than there is room for:
+    //  `need` is how many. Then nothing else is written. [with closed, closed_stays]
     ensures page { IfSome (shown_in handle.old) (PageOf prefix.now behind.now found.old found.new keys.old keys.new count.old count.new need.old need.new result) }
     ensures closed_stays { result ≡ CLOSED → WritesNothing found.old found.new keys.old keys.new count.old count.new × (need.new ≡ need.old) }
     ensures kept { handle.new ≡ handle.old }

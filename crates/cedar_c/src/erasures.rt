@@ -1,7 +1,10 @@
 //! Many keys removed in one call.
 
-ghost use Rattle.std.specs.Prelude.{◌++◌, ◌+◌, ◌≡◌, drop, IfSome, length, None, option_map, set, take};
-ghost use Rattle.cedar_c.specs.Words.{capacity_in, content, dictionary_in, held_in_turn, keys_erased, layout_in, layout_of, named_keys, size_in, state_in, tree_in, trials_in, walk};
+ghost use Rattle.std.specs.Prelude.{◌++◌, ◌+◌, ◌≡◌, drop, IfSome, length, None};
+ghost use Rattle.std.specs.Prelude.{option_map, set, take};
+ghost use Rattle.cedar_c.specs.Words.{capacity_in, content, dictionary_in, held_in_turn};
+ghost use Rattle.cedar_c.specs.Words.{keys_erased, layout_in, layout_of, named_keys};
+ghost use Rattle.cedar_c.specs.Words.{search_limit_in, size_in, state_in, tree_in, trials_in, walk};
 
 use crate::any::AnyCedar;
 use crate::handle::Handle;
@@ -29,6 +32,7 @@ fn erase_all<L: Layout, const SLOTS: usize>(
     ensures after { trie.new.state ≡ keys_erased trie.old.state (named_keys keys.now) }
     ensures size { (trie.new.size ≡ trie.old.size) × (trie.new.capacity ≡ trie.old.capacity) }
     ensures max_trial { trie.new.max_trial ≡ trie.old.max_trial }
+    ensures search_limit { trie.new.search_limit ≡ trie.old.search_limit }
 {
     let before = trie.len();
     for index in 0..keys.len() {
@@ -71,6 +75,7 @@ impl AnyCedar {
         ensures after { (dictionary_in self.new).state ≡ keys_erased (dictionary_in self.old).state (named_keys keys.now) }
         ensures size { ((dictionary_in self.new).size ≡ (dictionary_in self.old).size) × ((dictionary_in self.new).capacity ≡ (dictionary_in self.old).capacity) }
         ensures max_trial { (dictionary_in self.new).max_trial ≡ (dictionary_in self.old).max_trial }
+        ensures search_limit { (dictionary_in self.new).search_limit ≡ (dictionary_in self.old).search_limit }
         ensures layout { layout_of self.new ≡ layout_of self.old }
     {
         match self {
@@ -81,8 +86,8 @@ impl AnyCedar {
 }
 
 /// Removes some keys, one after another, and returns how many of them were held. `held[i]` becomes whether `keys[i]` was held then, for as
-/// many keys as there is room for; places after the last key stay. If the table is large, a few keys are looked up in step before they are
-/// removed, which is faster if they come in no order. It allocates nothing. On a closed handle it does nothing.
+/// many keys as there is room for; elements after the last key stay. If the table is large, a few keys are looked up in step before they
+/// are removed, which is faster if they come in no order. It allocates nothing. On a closed handle it does nothing.
 #[unsafe(no_mangle)]
 pub extern "C" fn cedar_erase_all(handle: &mut Handle, keys: &[Key<'_>], held: &mut [bool]) -> usize
     //= `cedar_erase_all` removes all of some keys, as erasures one after another do, and returns how many keys fewer are held. There are as
@@ -97,6 +102,7 @@ pub extern "C" fn cedar_erase_all(handle: &mut Handle, keys: &[Key<'_>], held: &
     ensures size { (size_in handle.new ≡ size_in handle.old) × (capacity_in handle.new ≡ capacity_in handle.old) }
     ensures layout { layout_in handle.new ≡ layout_in handle.old }
     ensures trials { trials_in handle.new ≡ trials_in handle.old }
+    ensures search_limit { search_limit_in handle.new ≡ search_limit_in handle.old }
 {
     if !handle.is_open() {
         return 0;

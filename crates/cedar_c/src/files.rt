@@ -1,7 +1,12 @@
 //! A dictionary's file, in memory of the caller's.
 
 ghost use Rattle.std.specs.Prelude.{◌≡◌, ◌≢◌, ℕ, IfErr, IfOk, IfSome, IsErrAnd, None, slice_get};
-ghost use Rattle.cedar_c.specs.Words.{default_layout, dictionary_in, early_refusal, file_status, header_answer, is_reduced_byte, IsFileOf, IsOnTable, IsSlotLimit, IsTableFile, LacksOrCorrupt, layout_byte, layout_if, layout_named, layout_of, most_slots, OpensLoaded, reduced_layout, refusal_of, TellsHeader, TellsJust, TellsNoTable};
+ghost use Rattle.cedar_c.specs.Words.{default_layout, dictionary_in, early_refusal, file_status};
+ghost use Rattle.cedar_c.specs.Words.{header_answer, is_reduced_byte, IsFileOf, IsOnTable};
+ghost use Rattle.cedar_c.specs.Words.{IsSlotLimit, IsTableFile, LacksOrCorrupt, layout_byte};
+ghost use Rattle.cedar_c.specs.Words.{layout_if, layout_named, layout_of, most_slots, OpensLoaded};
+ghost use Rattle.cedar_c.specs.Words.{reduced_layout, refusal_of, TellsHeader, TellsJust};
+ghost use Rattle.cedar_c.specs.Words.{TellsNoTable};
 
 use crate::any::AnyCedar;
 use crate::handle::Handle;

@@ -1,7 +1,9 @@
 //! The changes of a store that go to the disk together, as one record.
 
-ghost use Rattle.std.specs.Prelude.{◌≡◌, ◌⊎◌, ◌+◌, ◌<◌, ◌≤◌, ◌^◌, ◌++◌, ◌∷◌, ℕ, List, [], IfErr, OnOk, drop, length, take};
-ghost use Rattle.cedar_c.specs.Words.{format_if, frame_of, group_head, IsGroup, LacksGroup, length_bytes, opening, works_of, Plain, Summed};
+ghost use Rattle.std.specs.Prelude.{◌≡◌, ◌⊎◌, ◌+◌, ◌<◌, ◌≤◌, ◌^◌, ◌++◌, ◌∷◌, ℕ, List, []};
+ghost use Rattle.std.specs.Prelude.{IfErr, OnOk, drop, length, take};
+ghost use Rattle.cedar_c.specs.Words.{format_if, frame_of, group_head, IsGroup, LacksGroup};
+ghost use Rattle.cedar_c.specs.Words.{length_bytes, opening, works_of, Plain, Summed};
 
 use crate::planned::go_on;
 use crate::records::format_if;
@@ -13,12 +15,12 @@ use crc32c::crc32c_joined;
 
 /// Makes one record of those of several changes, and writes the plan by which it is appended where the records end; then they end
 /// elsewhere. The record has a sum if those of the file have one. The records of the changes have none. They are in the buffer from its
-/// seventh place on, or from its eleventh if the file's records have sums, one after another, each without its last byte, as
-/// `cedar_plan_put` and `cedar_plan_erase` have written them, and have so many bytes together. The place after them is written to as well.
+/// seventh byte on, or from its eleventh if the file's records have sums, one after another, each without its last byte, as
+/// `cedar_plan_put` and `cedar_plan_erase` have written them, and have so many bytes together. The byte after them is written to as well.
 ///
 /// # Errors
 /// `STORE_FULL` if the records end after 2^60 bytes, `STORE_TOO_LONG` if those of the changes have 2^32 - 1 bytes or more, `NO_ROOM` if the
-/// buffer has fewer than 7 places more, or 11 with a sum. Then nothing changes.
+/// buffer has fewer than 7 elements more, or 11 with a sum. Then nothing changes.
 #[unsafe(no_mangle)]
 pub extern "C" fn cedar_plan_group(
     size: usize,
@@ -27,13 +29,13 @@ pub extern "C" fn cedar_plan_group(
     buffer: &mut [u8],
     plan: &mut Plan,
 ) -> u32
-    //= Once the plan of a group is carried out, a file that stood for some dictionary stands for the one with all changes of the group, in
-    //  their order, on the disk, and has one record more. A crash at any moment, even if a step fails, leaves the one or the other. [by
+    //= Once the plan of a group is carried out, a file that represented some dictionary represents the one with all changes of the group,
+    //  in their order, on the disk, and has one record more. A crash at any moment, even if a step fails, leaves the one or the other. [by
     //  IsGroup, IsChangePlan]
     ensures planned { result ≡ OK → IsGroup (works_of buffer.new plan.new) (format_if is_summed) end.old end.new
         (take size (drop (group_head (format_if is_summed)) buffer.old)) }
 
-    //= A group is refused exactly if the records end too far back, its record would be too long, or the buffer has too few places. Then
+    //= A group is refused exactly if the records end too far back, its record would be too long, or the buffer has too few elements. Then
     //  nothing changes. [with untold]
     ensures refused { (result ≡ OK) ⊎ LacksGroup (format_if is_summed) end.old size (length buffer.old) result }
     ensures untold { (result ≡ OK) ⊎ ((end.new ≡ end.old) × (plan.new ≡ plan.old) × (buffer.new ≡ buffer.old)) }
@@ -55,7 +57,7 @@ fn head_len(format: Format) -> usize
     format.overhead() + 1
 }
 
-/// Whether records of so many bytes can be made one, for a file with records of this format that end here, in so many places.
+/// Whether records of so many bytes can be made one, for a file with records of this format that end here, in so many elements.
 fn check_room(format: Format, size: usize, end: usize, places: usize) -> Result<(), u32>
     ensures room { OnOk result (end < 2 ^ 60) }
     ensures short { OnOk result (size + 1 < 2 ^ 32) }

@@ -10,12 +10,12 @@ use crate::status::{CLOSED, MEMORY, NO_ROOM, OK};
 use cedarwood::{Layout, Trie};
 use std::alloc::Global;
 
-/// Writes the bytes of all keys into the first places of a buffer, one key after another in iteration order, and how many bytes they are:
+/// Writes the bytes of all keys into the first elements of a buffer, one key after another in iteration order, and how many bytes they are:
 /// `cedar_predictions` of the empty text finds each key's value and length in the same order. It allocates a copy of them.
 ///
 /// # Errors
-/// `CLOSED` if the handle is closed, `NO_ROOM` if the keys have more bytes than the buffer has places: then it writes how many; `MEMORY` if
-/// an allocation was refused. After an error the buffer is as it was.
+/// `CLOSED` if the handle is closed, `NO_ROOM` if the keys have more bytes than the buffer has elements: then it writes how many; `MEMORY`
+/// if an allocation was refused. After an error the buffer is as it was.
 #[unsafe(no_mangle)]
 pub extern "C" fn cedar_keys(
     handle: &mut Reading,

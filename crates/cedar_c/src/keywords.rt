@@ -1,14 +1,15 @@
 //! The keywords of a text, of which a buffer takes as many as it has room for.
 
 ghost use Rattle.std.specs.Prelude.{◌<◌, ◌≡◌, ◌≤◌, ◌⊎◌, IsSome, length, None, take};
-ghost use Rattle.cedar_c.specs.Words.{dictionary_in, found_keywords, shown_in, shown_tree, WritesOn, WritesPiece};
+ghost use Rattle.cedar_c.specs.Words.{dictionary_in, found_keywords, shown_in};
+ghost use Rattle.cedar_c.specs.Words.{shown_tree, WritesOn, WritesPiece};
 
 use crate::any::AnyCedar;
 use crate::reading::Reading;
 use crate::scans::{Found, put_at};
 use cedar_words::LongestPrefix;
 
-/// Writes the keywords of a text from a place on, as far as there is room.
+/// Writes the keywords of a text from a position on, as far as there is room.
 fn keywords<T: LongestPrefix>(trie: &T, text: &[u8], next: &mut usize, found: &mut [Found]) -> usize
     ensures told { WritesPiece (found_keywords (T.tree trie.now)) text.now next.old next.new (take result found.new) }
     ensures full { (length text.now ≤ next.new) ⊎ (result ≡ length found.new) }
@@ -22,8 +23,8 @@ fn keywords<T: LongestPrefix>(trie: &T, text: &[u8], next: &mut usize, found: &m
     count
 }
 
-/// Passes the token at a place of a text. If it is a key, this is written after the first `count` places of a buffer. It returns how many
-/// places are written then.
+/// Passes the token at a position of a text. If it is a key, this is written after the first `count` elements of a buffer. It returns how
+/// many elements are written then.
 fn pass_token<T: LongestPrefix>(
     trie: &T,
     text: &[u8],
@@ -65,9 +66,9 @@ impl AnyCedar {
     }
 }
 
-/// Writes the keywords of a text from a place on, leftmost longest: of the keys that begin first the longest, and so on from its end. It
+/// Writes the keywords of a text from a position on, leftmost longest: of the keys that begin first the longest, and so on from its end. It
 /// ends where the text or the room does, and `next` is the end of the last one then, so that a call from there goes on. It returns how many
-/// places of the buffer it wrote; what the others have then is left open. It allocates nothing.
+/// elements of the buffer it wrote; what the others have then is left open. It allocates nothing.
 #[unsafe(no_mangle)]
 pub extern "C" fn cedar_keywords(
     handle: &mut Reading,
@@ -75,7 +76,7 @@ pub extern "C" fn cedar_keywords(
     next: &mut usize,
     found: &mut [Found],
 ) -> usize
-    //= Keywords are written in this way too, from a place on where a token begins: those from the old `next` on are those that were
+    //= Keywords are written in this way too, from a position on where a token begins: those from the old `next` on are those that were
     //  written, and then those from the new one on. [by found_keywords]
     ensures told { IsSome (shown_in handle.old) → WritesPiece (found_keywords (shown_tree handle.old)) text.now next.old next.new (take result found.new) }
     ensures full { (length text.now ≤ next.new) ⊎ (result ≡ length found.new) }

@@ -1,7 +1,8 @@
 //! Walks of a dictionary in pieces: a call goes on where the one before it ended.
 
 ghost use Rattle.std.specs.Prelude.{◌+◌, ◌<◌, ◌^◌, ◌≡◌, [], drop, false, IsTrue, length, take};
-ghost use Rattle.cedar_c.specs.Words.{dictionary_in, filled_matches, Fit, front, front_keys, lengthened, predict, predicted_keys, shown_tree};
+ghost use Rattle.cedar_c.specs.Words.{all_longer, dictionary_in, filled_matches, Fit, front};
+ghost use Rattle.cedar_c.specs.Words.{front_keys, predict, predicted_keys, shown_tree};
 
 use crate::any::AnyCedar;
 use crate::reading::Reading;
@@ -24,12 +25,12 @@ fn pass<F: Finds>(walk: &mut F, count: usize) -> bool
     true
 }
 
-/// Writes what a walk finds into the places of a buffer, until it is full or nothing is left, and returns how many it wrote. Each key has
+/// Writes what a walk finds into the elements of a buffer, until it is full or nothing is left, and returns how many it wrote. Each key has
 /// `more` bytes more than the walk says.
 fn fill_page<F: Finds>(walk: &mut F, more: usize, matches: &mut [Match]) -> usize
     requires { Fit more (F.left walk.old) }
     ensures count { result ≡ length (take (length matches.old) (F.left walk.old)) }
-    ensures filled { matches.new ≡ filled_matches matches.old (lengthened more (F.left walk.old)) }
+    ensures filled { matches.new ≡ filled_matches matches.old (all_longer more (F.left walk.old)) }
 {
     let mut count = 0;
     while count < matches.len() {
@@ -42,12 +43,12 @@ fn fill_page<F: Finds>(walk: &mut F, more: usize, matches: &mut [Match]) -> usiz
     count
 }
 
-/// Writes what a walk finds from a place of it on, as far as there is room, which is then the place to go on at.
+/// Writes what a walk finds from a position of it on, as far as there is room, which is then the position to go on at.
 fn go_on<F: Finds>(walk: &mut F, more: usize, next: &mut usize, matches: &mut [Match]) -> usize
     requires count { length (F.left walk.old) < 2 ^ 64 }
     requires fit { Fit more (F.left walk.old) }
     ensures count { result ≡ length (take (length matches.old) (drop next.old (F.left walk.old))) }
-    ensures filled { matches.new ≡ filled_matches matches.old (lengthened more (drop next.old (F.left walk.old))) }
+    ensures filled { matches.new ≡ filled_matches matches.old (all_longer more (drop next.old (F.left walk.old))) }
     ensures next { next.new ≡ next.old + result }
 {
     if !pass(walk, *next) {
@@ -58,7 +59,7 @@ fn go_on<F: Finds>(walk: &mut F, more: usize, next: &mut usize, matches: &mut [M
     count
 }
 
-/// Writes the keys that a text begins with from a place of the walk on.
+/// Writes the keys that a text begins with from a position of the walk on.
 fn go_on_prefixes<L: Layout, const SLOTS: usize>(
     trie: &Trie<L, SLOTS, Global>,
     text: &[u8],
@@ -73,7 +74,7 @@ fn go_on_prefixes<L: Layout, const SLOTS: usize>(
     go_on(&mut trie.common_prefix_iter_bytes(text), 1, next, matches)
 }
 
-/// Writes the keys that begin with a text from a place of the walk on.
+/// Writes the keys that begin with a text from a position of the walk on.
 fn go_on_predictions<L: Layout, const SLOTS: usize>(
     trie: &Trie<L, SLOTS, Global>,
     text: &[u8],
@@ -127,7 +128,7 @@ pub extern "C" fn cedar_prefixes_from(
     next: &mut usize,
     matches: &mut [Match],
 ) -> usize
-    //= A walk in pieces writes what such a walk has after the first `next`, as far as there are places, and doesn't change the others. It
+    //= A walk in pieces writes what such a walk has after the first `next`, as far as there are elements, and doesn't change the others. It
     //  returns how many it wrote and adds that to `next`. [with filled, next; also cedar_predictions_from]
     ensures count { result ≡ length (take (length matches.old) (drop next.old (front (shown_tree handle.old) text.now))) }
     ensures filled { matches.new ≡ filled_matches matches.old (drop next.old (front_keys (shown_tree handle.old) text.now)) }

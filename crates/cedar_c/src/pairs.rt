@@ -1,7 +1,12 @@
 //! Many pairs in one call.
 
-ghost use Rattle.std.specs.Prelude.{◌↔◌, ◌≡◌, ◌⊎◌, Err, IfErr, IfSome, IsSome, map, None, OnErr, OnOk, option_map};
-ghost use Rattle.cedar_c.specs.Words.{all_stored, content, dictionary_in, entries_in, first_fault, HoldsFront, HoldsPart, IsShortage, layout_in, layout_of, most_slots, RefusesAll, size_in, state_in, StoresFront, StoresPart, taken_pair, TellsPosition, trials_in};
+ghost use Rattle.std.specs.Prelude.{◌↔◌, ◌≡◌, ◌⊎◌, Err, IfErr, IfSome, IsSome, map, None};
+ghost use Rattle.std.specs.Prelude.{OnErr, OnOk, option_map};
+ghost use Rattle.cedar_c.specs.Words.{all_stored, content, dictionary_in, entries_in, first_fault};
+ghost use Rattle.cedar_c.specs.Words.{HoldsFront, HoldsPart, IsShortage, layout_in, layout_of};
+ghost use Rattle.cedar_c.specs.Words.{most_slots, RefusesAll, search_limit_in, size_in, state_in};
+ghost use Rattle.cedar_c.specs.Words.{StoresFront, StoresPart, taken_pair, TellsPosition};
+ghost use Rattle.cedar_c.specs.Words.{trials_in};
 
 use crate::any::AnyCedar;
 use crate::handle::Handle;
@@ -45,6 +50,7 @@ fn store_all<L: Layout, const SLOTS: usize>(
     ensures limit { result ≡ Err CedarError.SlotLimit → trie.new.size ≡ SLOTS }
     ensures part { OnErr result ((trie.new ≡ trie.old) ⊎ StoresPart trie.old.state trie.new.state (entries_in pairs.now)) }
     ensures max_trial { trie.new.max_trial ≡ trie.old.max_trial }
+    ensures search_limit { trie.new.search_limit ≡ trie.old.search_limit }
 {
     match take_pairs(alloc, pairs) {
         Some(taken) => trie.build_bytes(taken.as_slice()),
@@ -62,6 +68,7 @@ impl AnyCedar {
         ensures limit { result ≡ Err CedarError.SlotLimit → (dictionary_in self.new).size ≡ most_slots }
         ensures part { OnErr result ((self.new ≡ self.old) ⊎ StoresPart (dictionary_in self.old).state (dictionary_in self.new).state (entries_in pairs.now)) }
         ensures max_trial { (dictionary_in self.new).max_trial ≡ (dictionary_in self.old).max_trial }
+        ensures search_limit { (dictionary_in self.new).search_limit ≡ (dictionary_in self.old).search_limit }
     {
         match self {
             AnyCedar::Default(cedar) => store_all(cedar, alloc, pairs),
@@ -99,6 +106,7 @@ pub extern "C" fn cedar_update_all(
     ensures part { (result ≡ OK) ⊎ (content handle.new ≡ content handle.old) ⊎ HoldsPart handle.old handle.new (entries_in pairs.now) }
     ensures stays { TellsPosition result ⊎ (position.new ≡ position.old) }
     ensures trials { trials_in handle.new ≡ trials_in handle.old }
+    ensures search_limit { search_limit_in handle.new ≡ search_limit_in handle.old }
 {
     if !handle.is_open() {
         return CLOSED;

@@ -1,8 +1,17 @@
 //! The dictionary of a store, whose file C keeps (`c/store.c`): each call writes down a plan, and C carries it out before it acknowledges
 //! the change. These exports are the library's own, and no program sees them.
 
-ghost use Rattle.std.specs.Prelude.{◌≡◌, ◌≢◌, ◌⊎◌, ◌↔◌, ◌+◌, ◌<◌, ◌≤◌, ◌^◌, ◌++◌, ◌∷◌, ℕ, List, false, IfErr, IfOk, IfSome, IsFalse, IsSome, IsTrue, None, Some, length, option_map, take, true};
-ghost use Rattle.cedar_c.specs.Words.{AddsChange, append_works, content, CutsNone, damage_of, dictionary_in, end_of, erase_at, erased, fault, Format, format_if, format_in, frame_of, HasExtent, IsChangePlan, IsErasurePlan, IsOpening, IsPutPlan, LacksChange, LacksRecord, layout_if, layout_in, layout_of, LoadCause, MayCut, number_at, opening, overhead, Plain, position_of, put_at, record_count, state_in, state_of, status_of, store_status, stored, TellsWhy, tree_in, works_of};
+ghost use Rattle.std.specs.Prelude.{◌≡◌, ◌≢◌, ◌⊎◌, ◌↔◌, ◌+◌, ◌<◌, ◌≤◌, ◌^◌, ◌++◌, ◌∷◌, ℕ, List};
+ghost use Rattle.std.specs.Prelude.{false, IfErr, IfOk, IfSome, IsFalse, IsSome, IsTrue, None};
+ghost use Rattle.std.specs.Prelude.{Some, length, option_map, take, true};
+ghost use Rattle.cedar_c.specs.Words.{AddsChange, after_erase, after_put, append_works, content};
+ghost use Rattle.cedar_c.specs.Words.{CutsNone, damage_of, dictionary_in, end_of, erase_at, fault};
+ghost use Rattle.cedar_c.specs.Words.{Format, format_if, format_in, frame_of, HasExtent};
+ghost use Rattle.cedar_c.specs.Words.{IsChangePlan, IsErasurePlan, IsOpening, IsPutPlan};
+ghost use Rattle.cedar_c.specs.Words.{LacksChange, LacksRecord, layout_if, layout_in, layout_of};
+ghost use Rattle.cedar_c.specs.Words.{LoadCause, MayCut, number_at, opening, overhead, Plain};
+ghost use Rattle.cedar_c.specs.Words.{position_of, put_at, record_count, state_in, state_of};
+ghost use Rattle.cedar_c.specs.Words.{status_of, store_status, TellsWhy, tree_in, works_of};
 
 use crate::any::AnyCedar;
 use crate::handle::Handle;
@@ -17,14 +26,14 @@ use cedar_store::{DurableError, count_records, words_of};
 use cedarwood::CedarError;
 use std::alloc::Global;
 
-/// Opens a handle with the dictionary that a file's bytes stand for. If the handle is open, the new one replaces the old one. The file was
-/// synced, and then read. It writes the plan by which the file is made ready, whose bytes it writes into the first places of a buffer, where
-/// the records end then, how many there are, and whether they have sums. The plan of a file that is at rest has no step.
+/// Opens a handle with the dictionary that a file's bytes represent. If the handle is open, the new one replaces the old one. The file was
+/// synced, and then read. It writes the plan by which the file is made ready, whose bytes it writes into the first elements of a buffer,
+/// where the records end then, how many there are, and whether they have sums. The plan of a file that is at rest has no step.
 ///
 /// # Errors
-/// `NO_ROOM` if the buffer has fewer than 14 places, `STORE_FOREIGN` if the file is of another kind, `STORE_CORRUPT` if one of its records
-/// is no change, `MEMORY` and `SLOT_LIMIT`. `STORE_DAMAGED` if somebody else has changed a record; it writes where that begins. Then the
-/// handle is as it was, and nothing else is written.
+/// `NO_ROOM` if the buffer has fewer than 14 elements, `STORE_FOREIGN` if the file is of another kind, `STORE_CORRUPT` if one of its
+/// records is no change, `MEMORY` and `SLOT_LIMIT`. `STORE_DAMAGED` if somebody else has changed a record; it writes where that begins.
+/// Then the handle is as it was, and nothing else is written.
 #[unsafe(no_mangle)]
 pub extern "C" fn cedar_plan_open(
     handle: &mut Handle,
@@ -38,18 +47,18 @@ pub extern "C" fn cedar_plan_open(
     buffer: &mut [u8],
     plan: &mut Plan,
 ) -> u32
-    //= A store that is opened has the dictionary that the file's bytes stand for, of the layout that was given. [with layout]
+    //= A store that is opened has the dictionary that the file's bytes represent, of the layout that was given. [with layout]
     ensures stands { result ≡ OK → (state_of bytes.now ≡ state_in handle.new) × IsSome (content handle.new) }
     ensures layout { result ≡ OK → layout_in handle.new ≡ Some (layout_if is_reduced) }
 
-    //= Once the plan of an opening is carried out, the file is at rest, on the disk, stands for that dictionary, and has as many records as
-    //  before. A crash at any moment, even if a step fails, leaves a file that stands for it. [by IsOpening]
+    //= Once the plan of an opening is carried out, the file is at rest, on the disk, represents that dictionary, and has as many records as
+    //  before. A crash at any moment, even if a step fails, leaves a file that represents it. [by IsOpening]
     ensures ready { result ≡ OK → IfSome (state_in handle.new) (IsOpening bytes.now (works_of buffer.new plan.new) (format_if is_summed.new) end.new) }
 
     //= An opening writes how many records the file has.
     ensures counted { result ≡ OK → record_count bytes.now ≡ Some records.new }
 
-    //= A file is refused by its number as foreign, corrupt or damaged exactly as by a store, with the place of the damage, or for lack of
+    //= A file is refused by its number as foreign, corrupt or damaged exactly as by a store, with the position of the damage, or for lack of
     //  memory or slots. Then the handle has what it had, and no plan is written. [with kept, told; by LoadCause]
     ensures refused { (result ≡ OK) ⊎ ((result ≡ NO_ROOM) × (length buffer.old < 14)) ⊎ TellsWhy bytes.now damaged_at.old damaged_at.new result }
     ensures kept { (result ≡ OK) ⊎ (content handle.new ≡ content handle.old) }
@@ -89,12 +98,12 @@ pub extern "C" fn cedar_plan_may_cut_records(bytes: &[u8]) -> bool
 }
 
 /// Stores a value at a key, and writes whether the key was held before, and with which value. It writes the change's record into the first
-/// places of a buffer, whose other places may be written to as well, and the plan by which that is appended where the records end; then
+/// elements of a buffer, whose other elements may be written to as well, and the plan by which that is appended where the records end; then
 /// they end elsewhere. The record has a sum if those of the file have one. One that waits for those of a group has none.
 ///
 /// # Errors
 /// `CLOSED`, and the number of the pair's first fault; `STORE_FULL` if the records end after 2^60 bytes; `STORE_TOO_LONG` if the key has
-/// 2^32 - 5 bytes or more; `NO_ROOM` if the buffer has fewer places than the key has bytes and 11 more, or 15 with a sum; `MEMORY` and
+/// 2^32 - 5 bytes or more; `NO_ROOM` if the buffer has fewer elements than the key has bytes and 11 more, or 15 with a sum; `MEMORY` and
 /// `SLOT_LIMIT`. Then the dictionary holds what it held, and nothing is reported.
 #[unsafe(no_mangle)]
 pub extern "C" fn cedar_plan_put(
@@ -115,16 +124,16 @@ pub extern "C" fn cedar_plan_put(
 
     //= A put that returns `OK` has stored the value, and writes whether the key was held, and with which value. After an error the tree is
     //  as it was, and nothing is reported. [with kept, held, before, untold, layout]
-    ensures stored { result ≡ OK → state_in handle.new ≡ option_map (λ s. stored s key.now value) (state_in handle.old) }
+    ensures stored { result ≡ OK → state_in handle.new ≡ option_map (λ s. after_put s key.now value) (state_in handle.old) }
     ensures kept { (result ≡ OK) ⊎ (state_in handle.new ≡ state_in handle.old) }
     ensures held { result ≡ OK → IsTrue held.new ↔ IsSome (number_at (tree_in handle.old) key.now) }
     ensures before { result ≡ OK → IfSome (number_at (tree_in handle.old) key.now) (λ v. before.new ≡ v) }
     ensures untold { (result ≡ OK) ⊎ ((held.new ≡ held.old) × (before.new ≡ before.old) × (end.new ≡ end.old) × (plan.new ≡ plan.old)) }
     ensures layout { layout_in handle.new ≡ layout_in handle.old }
 
-    //= Once the plan of a put is carried out, a file that stood for the dictionary from before it stands for the one with it, on the disk,
-    //  and has one record more. A crash at any moment, even if a step fails, leaves the one or the other. [by IsChangePlan]
-    ensures planned { result ≡ OK → IfSome (state_in handle.old) (λ s. IsChangePlan (works_of buffer.new plan.new) (format_if is_summed) end.old end.new s (stored s key.now value)) }
+    //= Once the plan of a put is carried out, a file that represented the dictionary from before it represents the one with it, on the
+    //  disk, and has one record more. A crash at any moment, even if a step fails, leaves the one or the other. [by IsChangePlan]
+    ensures planned { result ≡ OK → IfSome (state_in handle.old) (λ s. IsChangePlan (works_of buffer.new plan.new) (format_if is_summed) end.old end.new s (after_put s key.now value)) }
 
     //= What a put without a sum that returns `OK` has written is the record of its change, which may follow those of a group without its
     //  last byte. The same holds of an erasure of a key that was held. [also cedar_plan_erase]
@@ -173,17 +182,18 @@ pub extern "C" fn cedar_plan_erase(
 
     //= An erasure that returns `OK` writes whether the key was held, and has removed it. After an error, and if the key wasn't held, the
     //  tree is as it was. [with missed, kept, held, untold, layout]
-    ensures erased { result ≡ OK → IsTrue held.new → state_in handle.new ≡ option_map (λ s. erased s key.now) (state_in handle.old) }
+    ensures erased { result ≡ OK → IsTrue held.new → state_in handle.new ≡ option_map (λ s. after_erase s key.now) (state_in handle.old) }
     ensures missed { result ≡ OK → IsFalse held.new → (state_in handle.new ≡ state_in handle.old) × (end.new ≡ end.old) × (plan.new ≡ plan.old) }
     ensures kept { (result ≡ OK) ⊎ (state_in handle.new ≡ state_in handle.old) }
     ensures held { result ≡ OK → IsTrue held.new ↔ IsSome (number_at (tree_in handle.old) key.now) }
     ensures untold { (result ≡ OK) ⊎ ((held.new ≡ held.old) × (end.new ≡ end.old) × (plan.new ≡ plan.old)) }
     ensures layout { layout_in handle.new ≡ layout_in handle.old }
 
-    //= Once the plan of an erasure is carried out, a file that stood for the dictionary from before it stands for the one without the key,
-    //  on the disk, and has one record more. A crash at any moment, even if a step fails, leaves the one or the other. [by IsChangePlan]
+    //= Once the plan of an erasure is carried out, a file that represented the dictionary from before it represents the one without the
+    //  key, on the disk, and has one record more. A crash at any moment, even if a step fails, leaves the one or the other. [by
+    //  IsChangePlan]
     ensures planned { result ≡ OK → IsTrue held.new
-        → IfSome (state_in handle.old) (λ s. IsChangePlan (works_of buffer.new plan.new) (format_if is_summed) end.old end.new s (erased s key.now)) }
+        → IfSome (state_in handle.old) (λ s. IsChangePlan (works_of buffer.new plan.new) (format_if is_summed) end.old end.new s (after_erase s key.now)) }
 
     ensures recorded { result ≡ OK → IsTrue held.new → IsFalse is_summed → AddsChange (erase_at key.now) (take (length key.now + 6) buffer.new) }
 
@@ -239,7 +249,7 @@ fn has_sums(extent: Extent) -> bool
     }
 }
 
-/// The dictionary that a file's bytes stand for, on the heap, and how far the file goes.
+/// The dictionary that a file's bytes represent, on the heap, and how far the file goes.
 fn replay_on_heap(
     alloc: Global,
     is_reduced: bool,
@@ -260,7 +270,7 @@ fn replay_on_heap(
 }
 
 impl AnyCedar {
-    /// The dictionary that a file's bytes stand for, and how far the file goes.
+    /// The dictionary that a file's bytes represent, and how far the file goes.
     #[tactic(auto, using(cedarwood::proofs::DictionaryLemmas::default_limit))]
     fn replay_file(
         alloc: Global,
@@ -300,7 +310,7 @@ impl AnyCedar {
         position: &mut usize,
     ) -> u32
         ensures open { result ≢ CLOSED }
-        ensures stored { result ≡ OK → (dictionary_in self.new).state ≡ stored (dictionary_in self.old).state key.now value }
+        ensures stored { result ≡ OK → (dictionary_in self.new).state ≡ after_put (dictionary_in self.old).state key.now value }
         ensures kept { (result ≡ OK) ⊎ ((dictionary_in self.new).state ≡ (dictionary_in self.old).state) }
         ensures held { result ≡ OK → IsTrue held.new ↔ IsSome (number_at (dictionary_in self.old).state.tree key.now) }
         ensures before { result ≡ OK → IfSome (number_at (dictionary_in self.old).state.tree key.now) (λ v. before.new ≡ v) }
@@ -343,7 +353,7 @@ impl AnyCedar {
         held: &mut bool,
     ) -> u32
         ensures open { result ≢ CLOSED }
-        ensures erased { result ≡ OK → IsTrue held.new → (dictionary_in self.new).state ≡ erased (dictionary_in self.old).state key.now }
+        ensures erased { result ≡ OK → IsTrue held.new → (dictionary_in self.new).state ≡ after_erase (dictionary_in self.old).state key.now }
         ensures missed { result ≡ OK → IsFalse held.new → ((dictionary_in self.new).state ≡ (dictionary_in self.old).state) × (end.new ≡ end.old) × (plan.new ≡ plan.old) }
         ensures kept { (result ≡ OK) ⊎ ((dictionary_in self.new).state ≡ (dictionary_in self.old).state) }
         ensures held { result ≡ OK → IsTrue held.new ↔ IsSome (number_at (dictionary_in self.old).state.tree key.now) }

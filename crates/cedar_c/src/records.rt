@@ -1,7 +1,9 @@
 //! The records of changes, written into a buffer of the caller's.
 
-ghost use Rattle.std.specs.Prelude.{◌==◌, ◌≡◌, ◌+◌, ◌<◌, ◌^◌, ◌++◌, ◌∷◌, ℕ, IfErr, IfOk, IfSome, IsOk, List, None, OnOk, length, position};
-ghost use Rattle.cedar_c.specs.Words.{erase_at, fault, format_if, frame_of, IsRecord, key_fault, LacksRecord, opening, overhead, put_at, value_fault};
+ghost use Rattle.std.specs.Prelude.{◌==◌, ◌≡◌, ◌+◌, ◌<◌, ◌^◌, ◌++◌, ◌∷◌, ℕ, IfErr, IfOk, IfSome};
+ghost use Rattle.std.specs.Prelude.{IsOk, List, None, OnOk, length, position};
+ghost use Rattle.cedar_c.specs.Words.{erase_at, fault, format_if, frame_of, IsRecord, key_fault};
+ghost use Rattle.cedar_c.specs.Words.{LacksRecord, opening, overhead, put_at, value_fault};
 
 use crate::save::copy_whole;
 use crate::status::{MEMORY, NO_ROOM, OK, STORE_FULL, STORE_TOO_LONG};
@@ -11,8 +13,8 @@ use cedar_store::{erase_payload, put_payload};
 use cedarwood::{CedarError, MAX_VALUE, MIN_VALUE};
 use std::alloc::Global;
 
-/// Writes the record of a put into the first places of a buffer, for a file with records of this format that end here, and returns how many
-/// bytes it has. The pair has no fault.
+/// Writes the record of a put into the first elements of a buffer, for a file with records of this format that end here, and returns how
+/// many bytes it has. The pair has no fault.
 ///
 /// # Errors
 /// The number of why there is none: the records end too far back, the payload is too long, the buffer is too short, or an allocation was
@@ -58,7 +60,7 @@ pub(crate) fn write_erasure(
     }
 }
 
-/// Writes the record of a payload into the first places of a buffer, for a file with records of this format that end here.
+/// Writes the record of a payload into the first elements of a buffer, for a file with records of this format that end here.
 fn write_record(
     alloc: Global,
     format: Format,
@@ -96,10 +98,10 @@ pub(crate) fn format_if(is_summed: bool) -> Format
     }
 }
 
-/// Writes some bytes into the first places of a buffer.
+/// Writes some bytes into the first elements of a buffer.
 ///
 /// # Errors
-/// `NO_ROOM` if the buffer has fewer places.
+/// `NO_ROOM` if the buffer has fewer elements.
 pub(crate) fn place(bytes: &[u8], buffer: &mut [u8]) -> Result<(), u32>
     ensures written { OnOk result ((rest : List ℕ) × (buffer.new ≡ bytes.now ++ rest)) }
     ensures refused { IfErr result (λ status. (status ≡ NO_ROOM) × (length buffer.old < length bytes.now)) }

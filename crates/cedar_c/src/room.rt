@@ -1,10 +1,14 @@
-//! Memory allocated ahead, and memory freed.
+//! Memory allocated ahead, memory freed, and how many blocks a search for places tries.
 
 ghost use Rattle.std.specs.Prelude.{◌*◌, ◌+◌, ◌-◌, ◌<◌, ◌↔◌, ◌≡◌, ◌≤◌, ◌⊎◌, IsSome, None, OnErr};
-ghost use Rattle.cedar_c.specs.Words.{capacity_after, capacity_in, content, dictionary_in, HasToGrow, IsShrunk, layout_in, layout_of, marks_in, most_slots, Shrinks, size_in, state_in, trials_in};
+ghost use Rattle.cedar_c.specs.Words.{capacity_after, capacity_in, ChangesBy, content};
+ghost use Rattle.cedar_c.specs.Words.{dictionary_in, HasToGrow, IsShrunk, layout_in, layout_of};
+ghost use Rattle.cedar_c.specs.Words.{marks_in, most_slots, search_limit_in, SetsSearchLimit};
+ghost use Rattle.cedar_c.specs.Words.{shown_figure, Shrinks, size_in, state_in, trials_in};
 
 use crate::any::AnyCedar;
 use crate::handle::Handle;
+use crate::reading::Reading;
 use crate::status::{CLOSED, MEMORY, OK, SLOT_LIMIT};
 use cedarwood::CedarError;
 
@@ -21,11 +25,12 @@ pub extern "C" fn cedar_reserve(handle: &mut Handle, blocks: usize) -> u32
     ensures closed { (result ≡ CLOSED) ↔ (content handle.old ≡ None) }
 
     //= `cedar_reserve` of n blocks leaves n blocks spare. State, marks, settings, layout and slots in use don't change. There are then as
-    //  many slots as if n blocks had come into use, and if n were spare nothing changes at all. [with marks, trials, layout, size,
-    //  capacity, spare, enough, asks_nothing]
+    //  many slots as if n blocks had come into use, and if n were spare nothing changes at all. [with marks, trials, search_limit,
+    //  layout, size, capacity, spare, enough, asks_nothing]
     ensures state { state_in handle.new ≡ state_in handle.old }
     ensures marks { marks_in handle.new ≡ marks_in handle.old }
     ensures trials { trials_in handle.new ≡ trials_in handle.old }
+    ensures search_limit { search_limit_in handle.new ≡ search_limit_in handle.old }
     ensures layout { layout_in handle.new ≡ layout_in handle.old }
     ensures size { size_in handle.new ≡ size_in handle.old }
     ensures capacity { result ≡ OK → capacity_in handle.new ≡ capacity_after blocks (size_in handle.old) (capacity_in handle.old) }
@@ -48,6 +53,7 @@ impl AnyCedar {
         ensures state { (dictionary_in self.new).state ≡ (dictionary_in self.old).state }
         ensures marked { (dictionary_in self.new).marked ≡ (dictionary_in self.old).marked }
         ensures max_trial { (dictionary_in self.new).max_trial ≡ (dictionary_in self.old).max_trial }
+        ensures search_limit { (dictionary_in self.new).search_limit ≡ (dictionary_in self.old).search_limit }
         ensures layout { layout_of self.new ≡ layout_of self.old }
         ensures size { (dictionary_in self.new).size ≡ (dictionary_in self.old).size }
         ensures capacity { result ≡ OK → (dictionary_in self.new).capacity ≡ capacity_after blocks (dictionary_in self.old).size (dictionary_in self.old).capacity }
@@ -107,6 +113,55 @@ impl AnyCedar {
         match self {
             AnyCedar::Default(cedar) => cedar.shrink_to_fit(),
             AnyCedar::Reduced(cedar) => cedar.shrink_to_fit(),
+        }
+    }
+}
+
+/// Lets one search for places try `blocks` blocks of slots at most. On a closed handle it does nothing.
+#[unsafe(no_mangle)]
+pub extern "C" fn cedar_set_search_limit(handle: &mut Handle, blocks: usize)
+    //= `cedar_set_search_limit` sets how many blocks one search tries at most, and changes nothing else that a contract sees. A closed
+    //  handle stays closed. [with closed, layout; by set, SetsSearchLimit]
+    ensures set { IsSome (content handle.old) → ChangesBy (λ a b. SetsSearchLimit (dictionary_in a) (dictionary_in b) blocks) handle.old handle.new }
+    ensures closed { content handle.old ≡ None → content handle.new ≡ None }
+    ensures layout { layout_in handle.new ≡ layout_in handle.old }
+{
+    if !handle.is_open() {
+        return;
+    }
+    handle.held.lend().set_search_limit(blocks);
+}
+
+/// How many blocks of slots one search for places tries at most.
+#[unsafe(no_mangle)]
+pub extern "C" fn cedar_search_limit(handle: &mut Reading) -> usize
+    //= `cedar_search_limit` returns how many blocks one search tries at most.
+    ensures answer { result ≡ shown_figure (λ d. d.search_limit) handle.old }
+    ensures kept { handle.new ≡ handle.old }
+{
+    if !handle.is_open() {
+        return 0;
+    }
+    handle.shown.see().dictionary().search_limit()
+}
+
+impl AnyCedar {
+    fn set_search_limit(&mut self, blocks: usize)
+        ensures set { SetsSearchLimit (dictionary_in self.old) (dictionary_in self.new) blocks }
+        ensures layout { layout_of self.new ≡ layout_of self.old }
+    {
+        match self {
+            AnyCedar::Default(cedar) => cedar.set_search_limit(blocks),
+            AnyCedar::Reduced(cedar) => cedar.set_search_limit(blocks),
+        }
+    }
+
+    fn search_limit(&self) -> usize
+        ensures { result ≡ (dictionary_in self.now).search_limit }
+    {
+        match self {
+            AnyCedar::Default(cedar) => cedar.search_limit(),
+            AnyCedar::Reduced(cedar) => cedar.search_limit(),
         }
     }
 }

@@ -1,6 +1,7 @@
 //! A dictionary's file, written into a buffer of the caller's.
 
-ghost use Rattle.std.specs.Prelude.{◌++◌, ◌<◌, ◌↔◌, ◌≡◌, ◌≤◌, ◌⊎◌, drop, IfSome, length, None, take};
+ghost use Rattle.std.specs.Prelude.{◌++◌, ◌<◌, ◌↔◌, ◌≡◌, ◌≤◌, ◌⊎◌, drop, IfSome};
+ghost use Rattle.std.specs.Prelude.{length, None, take};
 ghost use Rattle.cedar_c.specs.Words.{file_in, minor_of, shown_in, table_bytes};
 
 use crate::any::AnyCedar;
@@ -9,12 +10,12 @@ use crate::status::{CLOSED, MEMORY, NO_ROOM, OK};
 use cedarwood::{Layout, Trie, Watched};
 use std::alloc::Global;
 
-/// Writes the dictionary's file into the first places of a buffer, and how many bytes it has. The file lists the slots and blocks that are
-/// in use, or all of them if `is_full`, as format 1.0 does. It allocates a copy of the file.
+/// Writes the dictionary's file into the first elements of a buffer, and how many bytes it has. The file lists the slots and blocks that
+/// are in use, or all of them if `is_full`, as format 1.0 does. It allocates a copy of the file.
 ///
 /// # Errors
-/// `CLOSED` if the handle is closed, `NO_ROOM` if the file has more bytes than the buffer has places: then it writes how many; `MEMORY` if
-/// an allocation was refused. After an error the buffer is as it was.
+/// `CLOSED` if the handle is closed, `NO_ROOM` if the file has more bytes than the buffer has elements: then it writes how many; `MEMORY`
+/// if an allocation was refused. After an error the buffer is as it was.
 #[unsafe(no_mangle)]
 pub extern "C" fn cedar_save(
     handle: &mut Reading,
@@ -27,7 +28,7 @@ pub extern "C" fn cedar_save(
     //  After any error the buffer is as it was. [with room, refused; also cedar_keys]
     ensures closed { (result ≡ CLOSED) ↔ (shown_in handle.old ≡ None) }
 
-    //= A save writes the bytes of the dictionary's table, in 1.1 or in 1.0, into the first places of a buffer, and doesn't change the
+    //= A save writes the bytes of the dictionary's table, in 1.1 or in 1.0, into the first elements of a buffer, and doesn't change the
     //  others. `needed` is how many they are. [with needed]
     ensures saved { result ≡ OK → IfSome (shown_in handle.old) (λ a. buffer.new ≡ file_in is_full a ++ drop needed.new buffer.old) }
     ensures needed { (result ≡ OK) ⊎ (result ≡ NO_ROOM) → IfSome (shown_in handle.old) (λ a. needed.new ≡ length (file_in is_full a)) }
@@ -46,7 +47,7 @@ pub extern "C" fn cedar_save(
 }
 
 impl AnyCedar {
-    /// Writes the dictionary's file into the first places of a buffer, and how many bytes it has.
+    /// Writes the dictionary's file into the first elements of a buffer, and how many bytes it has.
     fn save(&self, alloc: Global, is_full: bool, buffer: &mut [u8], needed: &mut usize) -> u32
         ensures saved { result ≡ OK → buffer.new ≡ file_in is_full self.now ++ drop needed.new buffer.old }
         ensures needed { (result ≡ OK) ⊎ (result ≡ NO_ROOM) → needed.new ≡ length (file_in is_full self.now) }
@@ -112,7 +113,7 @@ fn file_v1_0<L: Layout, const SLOTS: usize>(
     }
 }
 
-/// Writes some bytes into the first places of a buffer, if it has room for all, and how many they are.
+/// Writes some bytes into the first elements of a buffer, if it has room for all, and how many they are.
 pub(crate) fn copy_whole(bytes: &[u8], buffer: &mut [u8], needed: &mut usize) -> u32
     ensures needed { needed.new ≡ length bytes.now }
     ensures written { result ≡ OK → (buffer.new ≡ bytes.now ++ drop (length bytes.now) buffer.old) × (length bytes.now ≤ length buffer.old) }
@@ -126,7 +127,7 @@ pub(crate) fn copy_whole(bytes: &[u8], buffer: &mut [u8], needed: &mut usize) ->
     OK
 }
 
-/// Writes some bytes into the first places of a buffer, as far as there is room, and returns how many they are.
+/// Writes some bytes into the first elements of a buffer, as far as there is room, and returns how many they are.
 pub(crate) fn copy_front(bytes: &[u8], buffer: &mut [u8]) -> usize
     ensures count { result ≡ length bytes.now }
     ensures copied { buffer.new ≡ take (length buffer.old) bytes.now ++ drop (length bytes.now) buffer.old }

@@ -1,7 +1,9 @@
 //! Long texts, of which a buffer takes as much as it has room for: a call goes on where the one before it ended.
 
-ghost use Rattle.std.specs.Prelude.{◌++◌, ◌+◌, ◌<◌, ◌^◌, ◌∷◌, ◌≡◌, ◌≤◌, ◌⊎◌, drop, IfSome, IsSome, length, map, None, set, take};
-ghost use Rattle.cedar_c.specs.Words.{dictionary_in, Fit, found_spot, found_spots, found_tokens, front, shown_in, shown_tree, Tree, WritesPiece};
+ghost use Rattle.std.specs.Prelude.{◌++◌, ◌+◌, ◌<◌, ◌^◌, ◌∷◌, ◌≡◌, ◌≤◌, ◌⊎◌, drop, IfSome};
+ghost use Rattle.std.specs.Prelude.{IsSome, length, map, None, set, take};
+ghost use Rattle.cedar_c.specs.Words.{dictionary_in, Fit, found_spot, found_spots, found_tokens};
+ghost use Rattle.cedar_c.specs.Words.{front, shown_in, shown_tree, Tree, WritesPiece};
 
 use crate::any::AnyCedar;
 use crate::reading::Reading;
@@ -10,7 +12,7 @@ use cedar_words::LongestPrefix;
 use cedarwood::{Layout, Trie};
 use std::alloc::Allocator;
 
-/// A key or token at a place of a text.
+/// A key or token at a position of a text.
 #[repr(C)]
 #[derive(Clone, Copy)]
 pub struct Found {
@@ -23,8 +25,8 @@ pub struct Found {
 trait Scanned: LongestPrefix {
     ghost scanned: { Self → Tree };
 
-    /// Writes the keys that a text begins with after the first `count` places of a buffer, as those of the place where the text begins, and
-    /// returns how many places are written then. None says that there is no room for them.
+    /// Writes the keys that a text begins with after the first `count` elements of a buffer, as those of the position where the text begins,
+    /// and returns how many elements are written then. None says that there is no room for them.
     fn tell_fronts(
         &self,
         text: &[u8],
@@ -58,7 +60,7 @@ impl<L: Layout, const SLOTS: usize, A: Allocator + Copy> Scanned for Trie<L, SLO
     }
 }
 
-/// Writes what a walk finds after the first `count` places.
+/// Writes what a walk finds after the first `count` elements.
 fn tell<F: Finds>(walk: &mut F, place: usize, found: &mut [Found], count: usize) -> Option<usize>
     requires room { count ≤ length found.old }
     requires fit { Fit 1 (F.left walk.old) }
@@ -91,7 +93,7 @@ pub(crate) fn put_at(found: &mut [Found], at: usize, place: usize, front: (i32, 
     };
 }
 
-/// Writes the keys in a text from a place on, as those of whole places, as far as there is room.
+/// Writes the keys in a text from a position on, as those of whole positions, as far as there is room.
 fn scan<T: Scanned>(trie: &T, text: &[u8], next: &mut usize, found: &mut [Found]) -> usize
     ensures told { WritesPiece (found_spots (T.scanned trie.now)) text.now next.old next.new (take result found.new) }
     ensures full { (length text.now ≤ next.new) ⊎ (length found.new < result + length (front (T.scanned trie.now) (drop next.new text.now))) }
@@ -109,7 +111,7 @@ fn scan<T: Scanned>(trie: &T, text: &[u8], next: &mut usize, found: &mut [Found]
     count
 }
 
-/// Writes the tokens of a text from a place on, as far as there is room.
+/// Writes the tokens of a text from a position on, as far as there is room.
 fn cut<T: LongestPrefix>(trie: &T, text: &[u8], next: &mut usize, found: &mut [Found]) -> usize
     ensures told { WritesPiece (found_tokens (T.tree trie.now)) text.now next.old next.new (take result found.new) }
     ensures full { (length text.now ≤ next.new) ⊎ (result ≡ length found.new) }
@@ -126,7 +128,7 @@ fn cut<T: LongestPrefix>(trie: &T, text: &[u8], next: &mut usize, found: &mut [F
     count
 }
 
-/// The token at a place, where a text begins.
+/// The token at a position, where a text begins.
 fn token_at<T: LongestPrefix>(trie: &T, text: &[u8], place: usize) -> Found
     requires { 0 < length text.now }
     ensures first { found_tokens (T.tree trie.now) place text.now ≡ result ∷ found_tokens (T.tree trie.now) (place + result.length) (drop result.length text.now) }
@@ -172,9 +174,9 @@ impl AnyCedar {
     }
 }
 
-/// Writes the keys in a text from a place on: place after place, and at each the shortest first. Those of a place are written by the same
-/// call: if there is no room left for them, the walk ends, and `next` is this place, so that a call from there goes on. Otherwise it ends
-/// after the text. It returns how many places of the buffer it wrote; what the others have then is left open.
+/// Writes the keys in a text from a position on: position after position, and at each the shortest first. Those of a position are written by
+/// the same call: if there is no room left for them, the walk ends, and `next` is this position, so that a call from there goes on.
+/// Otherwise it ends after the text. It returns how many elements of the buffer it wrote; what the others have then is left open.
 #[unsafe(no_mangle)]
 pub extern "C" fn cedar_scan(
     handle: &mut Reading,
@@ -182,11 +184,11 @@ pub extern "C" fn cedar_scan(
     next: &mut usize,
     found: &mut [Found],
 ) -> usize
-    //= A scan writes the keys that occur in a text from `next` on, place after place: those from the old `next` on are those that were
-    //  written, and then those from the new one on. [by found_spots]
+    //= A scan writes the keys that occur in a text from `next` on, position after position: those from the old `next` on are those that
+    //  were written, and then those from the new one on. [by found_spots]
     ensures told { IsSome (shown_in handle.old) → WritesPiece (found_spots (shown_tree handle.old)) text.now next.old next.new (take result found.new) }
 
-    //= A scan ends where the text does, or where the keys of a place don't fit in the room left. Tokens and keywords end where the text or
+    //= A scan ends where the text does, or where the keys of a position don't fit in the room left. Tokens and keywords end where the text or
     //  the room does. [also cedar_segment, cedar_keywords]
     ensures full { (length text.now ≤ next.new) ⊎ (length found.new < result + length (front (shown_tree handle.old) (drop next.new text.now))) }
 
@@ -204,9 +206,9 @@ pub extern "C" fn cedar_scan(
     handle.shown.see().dictionary().scan(text, next, found)
 }
 
-/// Writes the tokens of a text from a place on, where one begins: at each place the longest key that begins there, or otherwise one byte,
-/// with the value -1. It ends where the text or the room does, and `next` is where the next token begins, so that a call from there goes
-/// on. It returns how many places of the buffer it wrote; what the others have then is left open.
+/// Writes the tokens of a text from a position on, where one begins: at each position the longest key that begins there, or otherwise one
+/// byte, with the value -1. It ends where the text or the room does, and `next` is where the next token begins, so that a call from there
+/// goes on. It returns how many elements of the buffer it wrote; what the others have then is left open.
 #[unsafe(no_mangle)]
 pub extern "C" fn cedar_segment(
     handle: &mut Reading,
@@ -214,7 +216,7 @@ pub extern "C" fn cedar_segment(
     next: &mut usize,
     found: &mut [Found],
 ) -> usize
-    //= A cut writes the tokens in this way too, with -1 for no value, from a place on where one begins. [by found_tokens]
+    //= A cut writes the tokens in this way too, with -1 for no value, from a position on where one begins. [by found_tokens]
     ensures told { IsSome (shown_in handle.old) → WritesPiece (found_tokens (shown_tree handle.old)) text.now next.old next.new (take result found.new) }
     ensures full { (length text.now ≤ next.new) ⊎ (result ≡ length found.new) }
     ensures within { (result ≤ length found.new) × (next.old ≤ next.new) }

@@ -1,7 +1,8 @@
 //! A dictionary that is lent for reading, as a pointer that C can copy.
 
 ghost use Rattle.std.specs.Prelude.{◌≡◌, ℕ, Option, Some, IsSome};
-ghost use Rattle.cedar_c.specs.FieldWords.{any_code, AnyCedar, coded_option, held_lends, shown_owns};
+ghost use Rattle.cedar_c.specs.FieldWords.{any_code, AnyCedar, coded_option};
+ghost use Rattle.cedar_c.specs.FieldWords.{held_lends, shown_owns};
 
 use crate::any::AnyCedar;
 use std::marker::{Model, Send};

@@ -39,7 +39,7 @@ pub(crate) const KEYS_NOT_SORTED: u32 = 9;
 /// An error that has no number yet.
 pub(crate) const OTHER: u32 = 10;
 
-/// The buffer has too few places.
+/// The buffer has too few elements.
 pub(crate) const NO_ROOM: u32 = 11;
 
 /// A walk can't go on after a key, since the labels of the dictionary don't ascend.
@@ -137,12 +137,12 @@ pub(crate) fn tell(error: CedarError, position: &mut usize) -> u32
     }
 }
 
-/// Writes the text of a status into the first places of a buffer, as far as there is room, and returns how many bytes it has. It has no
+/// Writes the text of a status into the first elements of a buffer, as far as there is room, and returns how many bytes it has. It has no
 /// byte 0 at its end.
 #[unsafe(no_mangle)]
 pub extern "C" fn cedar_status_text(status: u32, text: &mut [u8]) -> usize
     //= Each status has its text (`status_text`), and all other numbers have one. The call writes the text's first bytes, as far as there
-    //  are places, doesn't change the other places, and returns the text's length. [with written]
+    //  are elements, doesn't change the other elements, and returns the text's length. [with written]
     ensures count { result ≡ length (status_text status) }
     ensures written { text.new ≡ take (length text.old) (status_text status) ++ drop (length (status_text status)) text.old }
 {

@@ -1,7 +1,9 @@
 //! Walks of a dictionary, written into a buffer of the caller's.
 
 ghost use Rattle.std.specs.Prelude.{◌+◌, ◌<◌, ◌^◌, ◌∷◌, ◌≡◌, [], length, List, MatchOption, ℕ, ℤ};
-ghost use Rattle.cedar_c.specs.Words.{dictionary_in, filled_from, filled_matches, Fit, front, front_keys, lengthened, longer, predict, predicted_keys, shown_tree};
+ghost use Rattle.cedar_c.specs.Words.{all_longer, dictionary_in, filled_from, filled_matches};
+ghost use Rattle.cedar_c.specs.Words.{Fit, front, front_keys, longer, predict};
+ghost use Rattle.cedar_c.specs.Words.{predicted_keys, shown_tree};
 
 use crate::any::AnyCedar;
 use crate::reading::Reading;
@@ -44,13 +46,13 @@ impl<'a, T: Walked> Finds for PrefixPredictIter<'a, T> {
     }
 }
 
-/// Writes what a walk finds into the first places, as far as there are any, and returns how many it found. Each key has `more` bytes more
+/// Writes what a walk finds into the first elements, as far as there are any, and returns how many it found. Each key has `more` bytes more
 /// than the walk gives for it.
 fn fill<F: Finds>(walk: &mut F, more: usize, matches: &mut [Match]) -> usize
     requires count { length (F.left walk.old) < 2 ^ 64 }
     requires fit { Fit more (F.left walk.old) }
     ensures count { result ≡ length (F.left walk.old) }
-    ensures filled { matches.new ≡ filled_matches matches.old (lengthened more (F.left walk.old)) }
+    ensures filled { matches.new ≡ filled_matches matches.old (all_longer more (F.left walk.old)) }
 {
     let mut count = 0;
     while let Some(found) = walk.next_found() {
@@ -60,7 +62,7 @@ fn fill<F: Finds>(walk: &mut F, more: usize, matches: &mut [Match]) -> usize
     count
 }
 
-/// Writes what was found, and has `more` bytes than that, at a place, if there is this place.
+/// Writes what was found, and has `more` bytes than that, at an index, if there is this element.
 #[inline(always)]
 pub(crate) fn put_at(matches: &mut [Match], place: usize, found: (i32, usize), more: usize)
     requires { found.1 + more < 2 ^ 64 }
@@ -128,13 +130,13 @@ impl AnyCedar {
     }
 }
 
-/// Writes the keys that a text begins with into the first places of a buffer, shortest first, as many as there is room for, and returns how
-/// many the text has: for each the value and the length. It is one walk.
+/// Writes the keys that a text begins with into the first elements of a buffer, shortest first, as many as there is room for, and returns
+/// how many the text has: for each the value and the length. It is one walk.
 #[unsafe(no_mangle)]
 pub extern "C" fn cedar_prefixes(handle: &mut Reading, text: &[u8], matches: &mut [Match]) -> usize
     //= A walk writes the value and the length of each key that a text begins with, or of each key that begins with it, into the first
-    //  places of a buffer, as far as there are places, and doesn't change the others. It returns how many there are (`front`, `predict`).
-    //  [with filled; also cedar_predictions; by front_keys, predicted_keys]
+    //  elements of a buffer, as far as there are elements, and doesn't change the others. It returns how many there are (`front`,
+    //  `predict`). [with filled; also cedar_predictions; by front_keys, predicted_keys]
     ensures count { result ≡ length (front (shown_tree handle.old) text.now) }
     ensures filled { matches.new ≡ filled_matches matches.old (front_keys (shown_tree handle.old) text.now) }
     ensures kept { handle.new ≡ handle.old }
@@ -145,8 +147,8 @@ pub extern "C" fn cedar_prefixes(handle: &mut Reading, text: &[u8], matches: &mu
     handle.shown.see().dictionary().prefixes(text, matches)
 }
 
-/// Writes the keys that begin with a text into the first places of a buffer, in iteration order, as many as there is room for, and returns
-/// how many there are: for each the value, and the length of the whole key. It is one walk.
+/// Writes the keys that begin with a text into the first elements of a buffer, in iteration order, as many as there is room for, and
+/// returns how many there are: for each the value, and the length of the whole key. It is one walk.
 #[unsafe(no_mangle)]
 pub extern "C" fn cedar_predictions(
     handle: &mut Reading,

@@ -4,22 +4,22 @@ use Rattle.std.specs.Prelude.{MatchOption}
 use Rattle.std.specs.List.{remove, slice_get, AllByRecursion}
 use Rattle.std.specs.declared.result.Result.{Result}
 use Rattle.std.proofs.lemmas.List.{map-append}
-use Rattle.cedar_tree.specs.Tree.{Tree, empty_tree, number_at}
-use Rattle.cedar_tree.specs.Queries.{asc, exact, front, predict}
-use Rattle.cedar_tree.specs.State.{State, erased, stored}
+use Rattle.cedarwood.specs.Tree.{Tree, empty_tree, number_at}
+use Rattle.cedarwood.specs.Queries.{asc, exact, front, predict}
+use Rattle.cedarwood.specs.State.{State, after_erase, after_put}
 use Rattle.cedarwood.specs.Words.{entries_of}
 use Rattle.cedarwood.specs.Ranges.{entries_since, entries_with, longest_front}
 use Rattle.cedarwood.specs.RangeWalks.{entries_between}
-use Rattle.cedar_model.specs.Meaning.WellFormed.{tree_of}
-use Rattle.cedar_model.specs.Table.Layouts.{LayoutKind, default_layout, layout_byte}
-use Rattle.cedar_model.specs.Table.TableFields.{Fields}
-use Rattle.cedar_format.specs.declared.error.CedarPersistenceError.{CedarPersistenceError}
-use Rattle.cedar_format.specs.declared.error.CedarPersistenceError.TheVariants as errors
-use Rattle.cedar_format.specs.declared.header.Header.{Header}
-use Rattle.cedar_format.specs.Format.{header_answer, header_at}
-use Rattle.cedar_format.specs.Reading.{LacksTable}
-use Rattle.cedar_format.specs.Refusal.{Refusal, refusal, refusal_of}
-use Rattle.cedar_format.proofs.OneTable.{one_formed_table}
+use Rattle.cedarwood.specs.WellFormed.{tree_of}
+use Rattle.cedarwood.specs.Layouts.{LayoutKind, default_layout, layout_byte}
+use Rattle.cedarwood.specs.TableFields.{Fields}
+use Rattle.cedarwood.specs.CedarPersistenceError.{CedarPersistenceError}
+use Rattle.cedarwood.specs.CedarPersistenceError.TheVariants as errors
+use Rattle.cedarwood.specs.Header.{Header}
+use Rattle.cedarwood.specs.Format.{header_answer, header_at}
+use Rattle.cedarwood.specs.Reading.{LacksTable}
+use Rattle.cedarwood.specs.Refusal.{Refusal, refusal, refusal_of}
+use Rattle.cedarwood.proofs.OneTable.{one_formed_table}
 use Rattle.cedarwood.specs.Batches.{held_in_turn, keys_erased}
 use Rattle.cedarwood.specs.Builds.{all_stored, first_fault}
 use Rattle.cedarwood.specs.Dictionary.{Dictionary}
@@ -30,7 +30,7 @@ use Rattle.cedarwood.specs.OnTable.{IsOnTable}
 use Rattle.cedarwood.specs.SortedInput.{fault_from}
 use Rattle.cedar_calls.specs.Agreement.{AreSameCalls, IsSameCall, IsSameChange, IsSameQuestion}
 use Rattle.cedar_calls.specs.Making.{IsLoad, Joins}
-use Rattle.cedar_calls.specs.Plain.{Said, all_said, at_state, batch_says, faultless_front, held_each, call_says, change_says, changed_state, counted, done, found, held, listed, IsLoadless, IsMet, kept_at_fault, matched, missing, reply_says, said, said_load, selected, states_after, states_of, unless_fault, unloaded, numbered, walked, was}
+use Rattle.cedar_calls.specs.Plain.{PlainAnswer, plain_answers, at_state, batch_says, faultless_front, held_each, call_says, change_says, changed_state, counted, done, found, held, listed, IsLoadless, IsMet, kept_at_fault, matched, missing, reply_says, plain_answer, plain_load, selected, states_after, states_of, unless_fault, unloaded, numbered, walked, was}
 use Rattle.cedar_calls.specs.Replies.{in_order}
 use Rattle.cedar_calls.specs.Runs.{IsRun, IsStep}
 use Rattle.cedar_calls.specs.declared.call.Call.{Call}
@@ -54,14 +54,14 @@ state_with t o = record { tree = t; ordered = o }
 change_alike : (s : State) (c d : Change) → IsSameChange c d → (change_says s c ≡ change_says s d) × (changed_state s c ≡ changed_state s d)
 change_alike s (change.Update k v) (change.Update l w) h = (
   ap (λ x. unless_fault (fault x v) done) h.0 ∙ ap (λ y. unless_fault (fault l.now y) done) h.1,
-  ap (λ x. kept_at_fault (fault x v) s (stored s x v)) h.0 ∙ ap (λ y. kept_at_fault (fault l.now y) s (stored s l.now y)) h.1,
+  ap (λ x. kept_at_fault (fault x v) s (after_put s x v)) h.0 ∙ ap (λ y. kept_at_fault (fault l.now y) s (after_put s l.now y)) h.1,
 )
 change_alike s (change.Insert k v) (change.Insert l w) h = (
   ap (λ x. unless_fault (fault x v) (was (number_at s.tree x))) h.0 ∙ ap (λ y. unless_fault (fault l.now y) (was (number_at s.tree l.now))) h.1,
-  ap (λ x. kept_at_fault (fault x v) s (stored s x v)) h.0 ∙ ap (λ y. kept_at_fault (fault l.now y) s (stored s l.now y)) h.1,
+  ap (λ x. kept_at_fault (fault x v) s (after_put s x v)) h.0 ∙ ap (λ y. kept_at_fault (fault l.now y) s (after_put s l.now y)) h.1,
 )
-change_alike s (change.Erase k) (change.Erase l) h = (ap (λ x. held (is_some (number_at s.tree x))) h, ap (erased s) h)
-change_alike s (change.EraseFound k) (change.EraseFound l) h = (ap (λ x. was (number_at s.tree x)) h, ap (erased s) h)
+change_alike s (change.Erase k) (change.Erase l) h = (ap (λ x. held (is_some (number_at s.tree x))) h, ap (after_erase s) h)
+change_alike s (change.EraseFound k) (change.EraseFound l) h = (ap (λ x. was (number_at s.tree x)) h, ap (after_erase s) h)
 change_alike s (change.EraseBatch k) (change.EraseBatch l) h = (ap (λ keys. held_each (held_in_turn s keys)) h, ap (keys_erased s) h)
 change_alike s (change.ErasePrefix k) (change.ErasePrefix l) h = (ap (λ x. counted (length (entries_with s.tree x))) h, ap (erased_under s) h)
 change_alike s change.Clear change.Clear h = (refl, refl)
@@ -70,6 +70,7 @@ change_alike s (change.Renew x) (change.Renew y) h = (refl, ap (λ o. state_with
 change_alike s (change.Build p) (change.Build q) h = (ap (λ es. unless_fault (first_fault es) done) h, ap (λ es. kept_at_fault (first_fault es) s (all_stored s es)) h)
 change_alike s (change.UpdateBatch p) (change.UpdateBatch q) h = (ap (batch_says 0) h, ap (λ es. all_stored s (faultless_front es)) h)
 change_alike s (change.Reserve n) (change.Reserve m) h = (refl, refl)
+change_alike s (change.SetSearchLimit n) (change.SetSearchLimit m) h = (refl, refl)
 change_alike s c d h = absurd h
 
 reply_alike : (b : Bool) (s : State) (q r : Question) → IsSameQuestion q r → reply_says b s q ≡ reply_says b s r
@@ -139,9 +140,9 @@ loaded_states : Result Dictionary CedarPersistenceError → List State
 loaded_states (Ok d) = d.state ∷ []
 loaded_states (Err e) = []
 
--- both are answered the same, and both make the same state or none
+-- both get the same results, and both make the same state or none
 LoadsAlike : Result Dictionary CedarPersistenceError → Result Dictionary CedarPersistenceError → Type 0
-LoadsAlike one two = (said_load one ≡ said_load two) × (loaded_states one ≡ loaded_states two)
+LoadsAlike one two = (plain_load one ≡ plain_load two) × (loaded_states one ≡ loaded_states two)
 
 module _ (slots : ℕ) (bytes : List ℕ) where
   decided_alike : (one two : Result Dictionary CedarPersistenceError) → IsDecided table_in slots bytes one → IsDecided table_in slots bytes two
@@ -154,11 +155,11 @@ module _ (slots : ℕ) (bytes : List ℕ) where
   decided_alike (Err e) (Ok d) h g on also = absurd (h.1 g.0 d.table g.1)
   decided_alike (Err e) (Err f) h g on also = (ap unloaded (h.0 ∙ sym g.0), refl)
 
-unloaded_of : Option Refusal → Said
+unloaded_of : Option Refusal → PlainAnswer
 unloaded_of None = missing
 unloaded_of (Some r) = unloaded r
 
-refused_as : (made : Result Dictionary CedarPersistenceError) (r : Refusal) → refusal made ≡ Some r → (said_load made ≡ unloaded r) × (loaded_states made ≡ [])
+refused_as : (made : Result Dictionary CedarPersistenceError) (r : Refusal) → refusal made ≡ Some r → (plain_load made ≡ unloaded r) × (loaded_states made ≡ [])
 unfolding loaded_states unloaded_of
 refused_as (Ok d) r h = absurd cc
 refused_as (Err e) r h = (ap unloaded_of h, refl)
@@ -179,7 +180,7 @@ lacks_met : (h : Header) (e : CedarPersistenceError) → LacksTable h e → IsMe
 lacks_met h (errors.AllocationFailed n) lacks met = met tt
 lacks_met h e lacks met = absurd lacks
 
-told : (kind : LayoutKind) (slots limit : ℕ) (bytes : List ℕ) (made : Result Dictionary CedarPersistenceError) → LoadAnswers table_in kind slots limit bytes made → IsMet (said_load made)
+told : (kind : LayoutKind) (slots limit : ℕ) (bytes : List ℕ) (made : Result Dictionary CedarPersistenceError) → LoadAnswers table_in kind slots limit bytes made → IsMet (plain_load made)
     → Told slots bytes (header_answer (layout_byte kind) slots limit bytes) made
 unfolding Told
 told kind slots limit bytes (Ok d) (inl lacks) met = absurd lacks.0
@@ -187,16 +188,16 @@ told kind slots limit bytes (Err e) (inl lacks) met = absurd (lacks_met (header_
 told kind slots limit bytes made (inr h) met = h
 
 loads_alike : (kind : LayoutKind) (slots limit : ℕ) (bytes : List ℕ) (one two : Result Dictionary CedarPersistenceError) → IsLoad kind slots limit bytes one → IsLoad kind slots limit bytes two
-    → IsMet (said_load one) → IsMet (said_load two) → LoadsAlike one two
+    → IsMet (plain_load one) → IsMet (plain_load two) → LoadsAlike one two
 loads_alike kind slots limit bytes one two h g met also =
     told_alike slots bytes (header_answer (layout_byte kind) slots limit bytes) one two (told kind slots limit bytes one h.0 met) (told kind slots limit bytes two g.0 also) h.1 g.1
 
--- what was loaded stands behind the others
+-- what was loaded comes after the others
 load_joins : (before after : List Dictionary) (made : Result Dictionary CedarPersistenceError) (r : Result (Unit {0}) CedarPersistenceError) → Joins before made r after
-    → (said_load r ≡ said_load made) × (states_of after ≡ states_of before ++ loaded_states made)
+    → (plain_load r ≡ plain_load made) × (states_of after ≡ states_of before ++ loaded_states made)
 unfolding loaded_states
-load_joins before after (Ok d) r j = (ap said_load j.0, ap states_of j.1 ∙ map-append (λ x. x.state) before (d ∷ []))
-load_joins before after (Err e) r j = (ap said_load j.0, ap states_of j.1 ∙ sym (append-nil (states_of before)))
+load_joins before after (Ok d) r j = (ap plain_load j.0, ap states_of j.1 ∙ map-append (λ x. x.state) before (d ∷ []))
+load_joins before after (Err e) r j = (ap plain_load j.0, ap states_of j.1 ∙ sym (append-nil (states_of before)))
 
 -- ---- one step, and a run
 
@@ -214,10 +215,10 @@ later_loadless c calls S (inr s) = inr s
 
 module _ {A B : Type 0} (b : Bool) where
   Agree : Call → Answer A → List Dictionary → Call → Answer B → List Dictionary → Type 0
-  Agree c a after d e end = (said b c a ≡ said b d e) × (states_of after ≡ states_of end)
+  Agree c a after d e end = (plain_answer b c a ≡ plain_answer b d e) × (states_of after ≡ states_of end)
 
   load_step : (layout : LayoutKind) (slots : ℕ) (before after start end : List Dictionary) (c d : Call) (a : Answer A) (e : Answer B) → IsStep layout slots before c a after
-      → IsStep layout slots start d e end → IsSameCall c d → states_of before ≡ states_of start → (IsLoadless c → ⊥) → IsMet (said b c a) → IsMet (said b d e) → Agree c a after d e end
+      → IsStep layout slots start d e end → IsSameCall c d → states_of before ≡ states_of start → (IsLoadless c → ⊥) → IsMet (plain_answer b c a) → IsMet (plain_answer b d e) → Agree c a after d e end
   unfolding Agree LoadsAlike
   load_step layout slots before after start end (call.Load x m) (call.Load y n) (answer.Loaded r) (answer.Loaded q) h g same states load met also =
       let again : IsLoad layout slots m x.now g.0 = subst (λ bytes. IsLoad layout slots m bytes g.0) (sym same.0) (subst (λ limit. IsLoad layout slots limit y.now g.0) (sym same.1) g.1) in
@@ -232,7 +233,7 @@ module _ {A B : Type 0} (b : Bool) where
 
   plain_step : (layout other : LayoutKind) (slots most : ℕ) (before after start end : List Dictionary) (c d : Call) (a : Answer A) (e : Answer B) → IsStep layout slots before c a after
       → IsStep other most start d e end → IsSameCall c d → states_of before ≡ states_of start → IsLoadless c → (b ≡ true → layout ≡ default_layout) → (b ≡ true → other ≡ default_layout)
-      → IsMet (said b c a) → IsMet (said b d e) → Agree c a after d e end
+      → IsMet (plain_answer b c a) → IsMet (plain_answer b d e) → Agree c a after d e end
   unfolding Agree
   plain_step layout other slots most before after start end c d a e h g same states loadless k l met also =
       let both = call_alike b (states_of start) c d same loadless in
@@ -242,7 +243,7 @@ module _ {A B : Type 0} (b : Bool) where
 
   step_agrees : (layout other : LayoutKind) (slots most : ℕ) (before after start end : List Dictionary) (c d : Call) (a : Answer A) (e : Answer B) → IsStep layout slots before c a after
       → IsStep other most start d e end → IsSameCall c d → states_of before ≡ states_of start → IsLoadless c ⊎ ((layout ≡ other) × (slots ≡ most))
-      → (b ≡ true → layout ≡ default_layout) → (b ≡ true → other ≡ default_layout) → IsMet (said b c a) → IsMet (said b d e) → Agree c a after d e end
+      → (b ≡ true → layout ≡ default_layout) → (b ≡ true → other ≡ default_layout) → IsMet (plain_answer b c a) → IsMet (plain_answer b d e) → Agree c a after d e end
   step_agrees layout other slots most before after start end c d a e h g same states (inl loadless) k l met also =
       plain_step layout other slots most before after start end c d a e h g same states loadless k l met also
   step_agrees layout other slots most before after start end c d a e h g same states (inr one) k l met also = elim (load_or_not c) [
@@ -255,14 +256,14 @@ module _ {A B : Type 0} (b : Bool) where
   pub runs_agree_on : (layout other : LayoutKind) (slots most : ℕ) (before after start end : List Dictionary) (calls others : List Call) (answers : List (Answer A)) (replies : List (Answer B))
       → IsRun layout slots before calls answers after → IsRun other most start others replies end → AreSameCalls calls others → states_of before ≡ states_of start
       → AllByRecursion IsLoadless calls ⊎ ((layout ≡ other) × (slots ≡ most)) → (b ≡ true → (layout ≡ default_layout) × (other ≡ default_layout))
-      → AllByRecursion IsMet (all_said b calls answers) → AllByRecursion IsMet (all_said b others replies)
-      → (all_said b calls answers ≡ all_said b others replies) × (states_of after ≡ states_of end)
+      → AllByRecursion IsMet (plain_answers b calls answers) → AllByRecursion IsMet (plain_answers b others replies)
+      → (plain_answers b calls answers ≡ plain_answers b others replies) × (states_of after ≡ states_of end)
   unfolding Agree
   runs_agree_on layout other slots most before after start end [] [] [] [] h g same states loads k met also = (refl, ap states_of h ∙ states ∙ sym (ap states_of g))
   runs_agree_on layout other slots most before after start end (c ∷ calls) (d ∷ others) (a ∷ answers) (e ∷ replies) h g same states loads k met also =
       let s = step_agrees layout other slots most before h.0 start g.0 c d a e h.1 g.1 same.0 states (first_loadless c calls ((layout ≡ other) × (slots ≡ most)) loads) (λ t. (k t).0) (λ t. (k t).1) met.0 also.0 in
       let r = runs_agree_on layout other slots most h.0 after g.0 end calls others answers replies h.2 g.2 same.1 s.1 (later_loadless c calls ((layout ≡ other) × (slots ≡ most)) loads) k met.1 also.1 in
-      (ap (λ x. x ∷ all_said b calls answers) s.0 ∙ ap (λ xs. said b d e ∷ xs) r.0, r.1)
+      (ap (λ x. x ∷ plain_answers b calls answers) s.0 ∙ ap (λ xs. plain_answer b d e ∷ xs) r.0, r.1)
   runs_agree_on layout other slots most before after start end [] [] (a ∷ answers) replies h g same states loads k met also = absurd h
   runs_agree_on layout other slots most before after start end [] [] [] (e ∷ replies) h g same states loads k met also = absurd g
   runs_agree_on layout other slots most before after start end (c ∷ calls) others [] replies h g same states loads k met also = absurd h

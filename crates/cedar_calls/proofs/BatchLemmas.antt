@@ -1,14 +1,12 @@
--- Results of some keys, for each of which there was a place.
-use Rattle.std.proofs.Common.{◌≡◌, ◌<◌, ℕ, suc, List, [], ◌∷◌, ◌++◌, drop, length, map, take, Err, ap, sym, refl, ◌∙◌, append-nil, arith}
+-- Results of some keys, for each of which there was an element.
+use Rattle.std.proofs.Common.{◌≡◌, ◌<◌, ℕ, List, [], ◌++◌, drop, length, map, take, Err, ap, sym, refl, ◌∙◌, append-nil, arith}
 use Rattle.std.proofs.lemmas.List.{drop_all, length-map}
 use Rattle.std.proofs.Math.Seq.{take-length}
-use Rattle.cedar_tree.specs.State.{State, erased}
-use Rattle.cedarwood.specs.Batches.{held_in_turn}
 use Rattle.cedarwood.specs.Dictionary.{Dictionary}
 use Rattle.cedarwood.specs.declared.error.CedarError.TheVariants.{Memory}
 use Rattle.cedar_calls.specs.Changes.{IsErasedBatch}
 
--- where there are as many places as results, nothing but these stands in them
+-- where there are as many elements as results, nothing but these is in them
 pub each_filled : {Y : Type 0} (n : ℕ) (before after held results : List Y) → length before ≡ n → length held ≡ n → length results ≡ n
     → after ≡ results ++ drop n before → (after ≡ results) × (take n (after ++ drop (length after) held) ≡ results)
 each_filled n before after held results room size count h =
@@ -18,22 +16,17 @@ each_filled n before after held results room size count h =
     let none : drop (length after) held ≡ [] = drop_all (length after) held (omega (arith, long, size)) in
     (answered, ap (λ left. take n (after ++ left)) none ∙ ap (take n) (append-nil after) ∙ ap (λ m. take m after) (sym long) ∙ take-length after ∙ answered)
 
--- as many places as keys are places for all of them
+-- as many elements as keys are enough for all of them
 pub all_asked : {X : Type 0} (keys : List X) (n m : ℕ) → length keys ≡ n → m ≡ n → take m keys ≡ keys
 all_asked keys n m count room = ap (λ k. take k keys) (room ∙ sym count) ∙ take-length keys
 
--- where there are as many places as keys, nothing but the answers stands in them
+-- where there are as many elements as keys, nothing but the answers is in them
 pub all_filled : {X Y : Type 0} (f : X → Y) (keys : List X) (n : ℕ) (before after held : List Y) → length keys ≡ n → length before ≡ n → length held ≡ n
     → after ≡ map f (take (length before) keys) ++ drop n before → take n (after ++ drop (length after) held) ≡ map f keys
 all_filled f keys n before after held count room size h =
     let asked = all_asked keys n (length before) count room in
     (each_filled n before after held (map f keys) room size (length-map keys f ∙ count) (h ∙ ap (λ ks. map f ks ++ drop n before) asked)).1
 
--- there is a result for each key
-pub length-held_in_turn : (s : State) (keys : List (List ℕ)) → length (held_in_turn s keys) ≡ length keys
-length-held_in_turn s [] = refl
-length-held_in_turn s (key ∷ keys) = ap suc (length-held_in_turn (erased s key) keys)
-
 -- nothing changes if there is no memory to say what was held
 pub none_erased : {A : Type 0} (d : Dictionary) (keys : List (List ℕ)) → 0 < length keys → IsErasedBatch {A = A} d d keys (Err Memory)
-none_erased d keys some = record { erasures = tt; held = tt; state = tt; size = (refl, refl); max_trial = refl; refused = (refl, refl, some) }
+none_erased d keys some = record { erasures = tt; held = tt; state = tt; size = (refl, refl); max_trial = refl; search_limit = refl; refused = (refl, refl, some) }

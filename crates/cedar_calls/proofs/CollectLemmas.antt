@@ -1,5 +1,5 @@
 -- What is collected, and refused only if there is something to collect.
-use Rattle.std.proofs.Common.{◌≡◌, ◌<◌, ◌↔◌, Bool, true, false, ℕ, zero, suc, List, [], ◌∷◌, ◌++◌, length, length-append, Option, Some, None, is_some, Ok, Err, IfOk, IfErr, IsTrue, arith, refl, sym, subst, ◌∙◌}
+use Rattle.std.proofs.Common.{◌≡◌, ◌<◌, ◌↔◌, Bool, true, false, List, [], ◌∷◌, ◌++◌, length, length-append, Option, Some, None, is_some, Ok, Err, IfOk, IfErr, IsTrue, arith, refl, sym, subst, ◌∙◌}
 use Rattle.std.specs.Prelude.{MatchOption, Vec}
 use Rattle.std.specs.declared.result.Result.{Result}
 use Rattle.std.proofs.lemmas.Bool.{false≢true, true≢false}
@@ -14,10 +14,6 @@ some_of front rest all whole some = subst (λ xs. 0 < length xs) whole (omega (a
 pub some_if_not_empty : {X : Type 0} (xs : List X) (b : Bool) → (IsTrue b ↔ (xs ≡ [])) → b ≡ false → 0 < length xs
 some_if_not_empty [] b h is = absurd (false≢true (sym is ∙ h.1 refl))
 some_if_not_empty (x ∷ xs) b h is = omega arith
-
-pub positive : (n : ℕ) → (n ≡ 0 → ⊥) → 0 < n
-positive zero h = absurd (h refl)
-positive (suc n) h = omega arith
 
 -- a first item that was given, and none
 pub some_first : {X : Type 0} (has later : List X) (given : Option X) → is_some given ≡ true → MatchOption given ((has ≡ []) × (later ≡ [])) (λ x. has ≡ x ∷ later) → 0 < length has

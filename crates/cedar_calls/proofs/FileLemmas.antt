@@ -2,13 +2,13 @@
 use Rattle.std.proofs.Common.{◌≡◌, ℕ, List, [], ◌∷◌, ◌++◌, Option, Some, Ok, Err, ap, sym, subst, ◌∙◌}
 use Rattle.std.specs.Borrow.{Bor}
 use Rattle.std.specs.declared.result.Result.{Result}
-use Rattle.cedar_tree.specs.State.{State}
-use Rattle.cedar_model.specs.Meaning.WellFormed.{tree_of}
-use Rattle.cedar_model.specs.Table.Layouts.{LayoutKind}
-use Rattle.cedar_model.specs.Table.TableFields.{Fields}
-use Rattle.cedar_format.specs.declared.error.CedarPersistenceError.{CedarPersistenceError}
-use Rattle.cedar_format.specs.Tables.{IsTableFile}
-use Rattle.cedar_format.proofs.OneTable.{one_formed_table}
+use Rattle.cedarwood.specs.State.{State}
+use Rattle.cedarwood.specs.WellFormed.{tree_of}
+use Rattle.cedarwood.specs.Layouts.{LayoutKind}
+use Rattle.cedarwood.specs.TableFields.{Fields}
+use Rattle.cedarwood.specs.CedarPersistenceError.{CedarPersistenceError}
+use Rattle.cedarwood.specs.Tables.{IsTableFile}
+use Rattle.cedarwood.proofs.OneTable.{one_formed_table}
 use Rattle.cedarwood.specs.Dictionary.{Dictionary}
 use Rattle.cedarwood.specs.OnTable.{IsOnTable}
 use Rattle.cedarwood.proofs.LoadLemmas.{loaded_saves_again}
@@ -24,7 +24,7 @@ some_is x y h = cc
 abbrev state_on : Fields → State
 state_on T = record { tree = tree_of T; ordered = T.ordered }
 
--- two dictionaries that stand on the table of the same bytes have one state
+-- two dictionaries that are kept in the table of the same bytes have one state
 same_state : (slots v w : ℕ) (d e : Dictionary) (bytes : List ℕ) → IsOnTable slots d → IsTableFile v slots d.table bytes → IsOnTable slots e → IsTableFile w slots e.table bytes → e.state ≡ d.state
 same_state slots v w d e bytes on file also loaded =
     let same = one_formed_table slots v w d.table e.table file.formed loaded.formed file.fits loaded.fits (sym file.spelled ∙ loaded.spelled) in

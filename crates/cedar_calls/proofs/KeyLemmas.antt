@@ -1,12 +1,12 @@
 -- What a key holds after a change.
 use Rattle.std.proofs.Common.{◌≡◌, nat_eq, Bool, true, false, ℕ, ℤ, List, [], ◌∷◌, Option, Some, None, cond, fold, refl, ap, sym, ◌∙◌, true≢false}
 use Rattle.std.specs.List.{Contains, filter, starts_with}
-use Rattle.cedar_tree.specs.Tree.{Tree, cut, number_at, put, IsSoundBelow}
-use Rattle.cedar_tree.specs.Queries.{Entry, is_path, last_at, walk}
-use Rattle.cedar_tree.specs.State.{State, erased, stored}
-use Rattle.cedar_tree.proofs.EntryLemmas.Built.{is_path_itself, same_path}
-use Rattle.cedar_tree.proofs.TreeLemmas.{number_at-cut_other, number_at-cut_same, number_at-empty, number_at-put_other, number_at-put_same, sound-cut}
-use Rattle.cedar_tree.proofs.MemberLemmas.{contains_first_or_later, contains_none, either_part, into_filter, walk_from_held}
+use Rattle.cedarwood.specs.Tree.{Tree, cut, number_at, put, IsSoundBelow}
+use Rattle.cedarwood.specs.Queries.{Entry, is_path, last_at, walk}
+use Rattle.cedarwood.specs.State.{State, after_erase, after_put}
+use Rattle.cedarwood.proofs.EntryLemmas.Built.{is_path_itself, same_path}
+use Rattle.cedarwood.proofs.TreeLemmas.{number_at-cut_other, number_at-cut_same, number_at-empty, number_at-put_other, number_at-put_same, sound-cut}
+use Rattle.cedarwood.proofs.MemberLemmas.{contains_first_or_later, contains_none, either_part, into_filter, walk_from_held}
 use Rattle.cedarwood.specs.declared.error.CedarError.{CedarError}
 use Rattle.cedarwood.specs.Words.{entries_of, keys_of}
 use Rattle.cedarwood.specs.Batches.{keys_erased}
@@ -34,7 +34,7 @@ cut_goes t k q sound false e = number_at-cut_other t k q sound (apart q k e)
 pub keys_go_out : (s : State) (keys : List (List ℕ)) (q : List ℕ) → IsSoundBelow s.tree.children → number_at (keys_erased s keys).tree q ≡ held_unless_among q (number_at s.tree q) keys
 keys_go_out s [] q sound = refl
 keys_go_out s (k ∷ keys) q sound =
-    keys_go_out (erased s k) keys q (sound-cut s.tree k sound) ∙ ap (λ n. held_unless_among q n keys) (cut_goes s.tree k q sound (is_path q k) refl)
+    keys_go_out (after_erase s k) keys q (sound-cut s.tree k sound) ∙ ap (λ n. held_unless_among q n keys) (cut_goes s.tree k q sound (is_path q k) refl)
 
 -- ---- entries erased one after another
 
@@ -42,7 +42,7 @@ keys_go_out s (k ∷ keys) q sound =
 stays_none : (s : State) (es : List Entry) (q : List ℕ) → IsSoundBelow s.tree.children → number_at s.tree q ≡ None → number_at (all_erased s es).tree q ≡ None
 stays_none s [] q sound h = h
 stays_none s (e ∷ es) q sound h =
-    stays_none (erased s e.0) es q (sound-cut s.tree e.0 sound) (cut_goes s.tree e.0 q sound (is_path q e.0) refl ∙ ap (cond (is_path q e.0) None) h ∙ none_or_none (is_path q e.0))
+    stays_none (after_erase s e.0) es q (sound-cut s.tree e.0 sound) (cut_goes s.tree e.0 q sound (is_path q e.0) refl ∙ ap (cond (is_path q e.0) None) h ∙ none_or_none (is_path q e.0))
   where
     none_or_none : (b : Bool) → cond {A = Option ℤ} b None None ≡ None
     none_or_none true = refl
@@ -53,8 +53,8 @@ erased_one : (s : State) (es : List Entry) (q : List ℕ) (v : ℤ) → IsSoundB
 erased_one s [] q v sound there = absurd (contains_none (q, v) there)
 erased_one s (e ∷ es) q v sound there =
     either_part (contains_first_or_later e es (q, v) there)
-    (λ first. stays_none (erased s e.0) es q (sound-cut s.tree e.0 sound) (ap (λ (x : Entry). number_at (cut s.tree x.0) q) first ∙ number_at-cut_same s.tree q sound))
-    (λ later. erased_one (erased s e.0) es q v (sound-cut s.tree e.0 sound) later)
+    (λ first. stays_none (after_erase s e.0) es q (sound-cut s.tree e.0 sound) (ap (λ (x : Entry). number_at (cut s.tree x.0) q) first ∙ number_at-cut_same s.tree q sound))
+    (λ later. erased_one (after_erase s e.0) es q v (sound-cut s.tree e.0 sound) later)
 
 -- and at any other key is held what was
 erased_others : (s : State) (p q : List ℕ) (es : List Entry) → IsSoundBelow s.tree.children → starts_with nat_eq q p ≡ false
@@ -64,7 +64,7 @@ erased_others s p q (e ∷ es) sound apart_from =
     (elim (starts_with nat_eq e.0 p) as (λ b. starts_with nat_eq e.0 p ≡ b
     → number_at (all_erased s (cond b (e ∷ filter (λ x. starts_with nat_eq x.0 p) es) (filter (λ x. starts_with nat_eq x.0 p) es))).tree q ≡ number_at s.tree q) [
       | true ↦ λ begins.
-          erased_others (erased s e.0) p q es (sound-cut s.tree e.0 sound) apart_from
+          erased_others (after_erase s e.0) p q es (sound-cut s.tree e.0 sound) apart_from
           ∙ number_at-cut_other s.tree e.0 q sound (λ same. true≢false (sym begins ∙ ap (λ k. starts_with nat_eq k p) (sym same) ∙ apart_from))
       | false ↦ λ _. erased_others s p q es sound apart_from
     ]) refl
@@ -91,8 +91,8 @@ at_fault None s s' q n h = h
 at_fault (Some e) s s' q n h = refl
 
 key_goes : (s : State) (c : Change) (q : List ℕ) → IsSoundBelow s.tree.children → number_at (changed_state s c).tree q ≡ held_after q (number_at s.tree q) c
-key_goes s (change.Update k v) q sound = at_fault (fault k.now v) s (stored s k.now v) q (cond (is_path q k.now) (Some v) (number_at s.tree q)) (put_goes s.tree s.ordered k.now v q (is_path q k.now) refl)
-key_goes s (change.Insert k v) q sound = at_fault (fault k.now v) s (stored s k.now v) q (cond (is_path q k.now) (Some v) (number_at s.tree q)) (put_goes s.tree s.ordered k.now v q (is_path q k.now) refl)
+key_goes s (change.Update k v) q sound = at_fault (fault k.now v) s (after_put s k.now v) q (cond (is_path q k.now) (Some v) (number_at s.tree q)) (put_goes s.tree s.ordered k.now v q (is_path q k.now) refl)
+key_goes s (change.Insert k v) q sound = at_fault (fault k.now v) s (after_put s k.now v) q (cond (is_path q k.now) (Some v) (number_at s.tree q)) (put_goes s.tree s.ordered k.now v q (is_path q k.now) refl)
 key_goes s (change.Erase k) q sound = cut_goes s.tree k.now q sound (is_path q k.now) refl
 key_goes s (change.EraseFound k) q sound = cut_goes s.tree k.now q sound (is_path q k.now) refl
 key_goes s (change.EraseBatch keys) q sound = keys_go_out s (keys_of keys.now) q sound
@@ -101,6 +101,7 @@ key_goes s change.Clear q sound = number_at-empty q
 key_goes s change.Shrink q sound = refl
 key_goes s (change.Renew settings) q sound = number_at-empty q
 key_goes s (change.Reserve n) q sound = refl
+key_goes s (change.SetSearchLimit n) q sound = refl
 key_goes s (change.UpdateBatch pairs) q sound = all_go s (faultless_front (entries_of pairs.now)) q
 key_goes s (change.Build pairs) q sound = at_fault (first_fault (entries_of pairs.now)) s (all_stored s (entries_of pairs.now)) q (last_at q (number_at s.tree q) (entries_of pairs.now)) (all_go s (entries_of pairs.now) q)
 

@@ -5,14 +5,14 @@ use Rattle.std.specs.declared.result.Result.{Result}
 use Rattle.std.proofs.lemmas.Bool.{false≢true}
 use Rattle.std.proofs.lemmas.List.{map-append, map-set}
 use Rattle.std.proofs.lemmas.Option.{slice_get-map}
-use Rattle.cedar_tree.specs.Tree.{IsSoundBelow, number_at}
-use Rattle.cedar_tree.specs.Queries.{Entry, is_path, last_at}
-use Rattle.cedar_tree.proofs.EntryLemmas.Built.{number_at-asc}
-use Rattle.cedar_tree.proofs.TreeLemmas.{number_at-empty}
+use Rattle.cedarwood.specs.Tree.{IsSoundBelow, number_at}
+use Rattle.cedarwood.specs.Queries.{Entry, is_path, last_at}
+use Rattle.cedarwood.proofs.EntryLemmas.Built.{number_at-asc}
+use Rattle.cedarwood.proofs.TreeLemmas.{number_at-empty}
 use Rattle.cedarwood.specs.declared.error.CedarError.{CedarError}
 use Rattle.cedarwood.specs.Words.{Pair, entries_of, keys_of}
-use Rattle.cedar_model.specs.Table.Layouts.{LayoutKind}
-use Rattle.cedar_format.specs.declared.error.CedarPersistenceError.{CedarPersistenceError}
+use Rattle.cedarwood.specs.Layouts.{LayoutKind}
+use Rattle.cedarwood.specs.CedarPersistenceError.{CedarPersistenceError}
 use Rattle.cedarwood.specs.declared.builder.CedarBuilder.{CedarBuilder}
 use Rattle.cedarwood.specs.Builds.{first_fault}
 use Rattle.cedarwood.specs.Dictionary.{Dictionary}
@@ -73,11 +73,12 @@ module _ (key : List ℕ) where
   held_goes layout slots d e (change.UpdateBatch pairs) (changed.UpdatedBatch (Err x)) sound h =
       (h.updates.within, ap (λ s. number_at s.tree key) h.refused ∙ all_go d.state (take x.index (entries_of pairs.now)) key)
   held_goes layout slots d e (change.Reserve n) (changed.Reserved x) sound h = ap (λ s. number_at s.tree key) h.state
+  held_goes layout slots d e (change.SetSearchLimit n) changed.SearchLimitSet sound h = ap number_in h
   held_goes layout slots d e c a sound h = absurd h
 
   -- ---- a further dictionary
 
-  -- it stands behind the others with what it holds, if it was made
+  -- it comes after the others with what it holds, if it was made
   joined_goes : {E : Type 0} (before after : List Dictionary) (made : Result Dictionary E) (r : Result (Unit {0}) E) (number : Option ℤ) → Joins before made r after
       → IfOk made (λ d. number_in d ≡ number) → numbers_at key after ≡ if_made r (numbers_at key before ++ number ∷ []) (numbers_at key before)
   joined_goes before after (Ok d) r number j same =

@@ -2,14 +2,14 @@
 use Rattle.std.proofs.Common.{◌≡◌, ◌+◌, ◌<◌, inl, inr, Bool, true, false, ℕ, zero, suc, ℤ, List, [], ◌∷◌, arith, length, take, Option, Some, None, is_some, Ok, Err, IfSome, IfOk, IsSome, OnErr, ◌↔◌, refl, ap, sym, subst, ◌∙◌}
 use Rattle.std.specs.List.{AllByRecursion}
 use Rattle.std.specs.declared.result.Result.{Result}
-use Rattle.cedar_tree.specs.Tree.{Tree, empty_tree, number_at}
-use Rattle.cedar_tree.specs.Queries.{Entry, used, walk}
-use Rattle.cedar_tree.specs.State.{State, stored}
+use Rattle.cedarwood.specs.Tree.{Tree, empty_tree, number_at}
+use Rattle.cedarwood.specs.Queries.{Entry, slots_of_tree, walk}
+use Rattle.cedarwood.specs.State.{after_put, State}
 use Rattle.cedarwood.specs.declared.batches.RefusedPair.{RefusedPair}
 use Rattle.cedarwood.specs.declared.error.CedarError.{CedarError}
 use Rattle.cedarwood.specs.declared.error.CedarError.TheVariants.{Memory, SlotLimit}
 use Rattle.cedarwood.specs.Words.{entries_of}
-use Rattle.cedar_model.specs.Table.Layouts.{LayoutKind, default_layout}
+use Rattle.cedarwood.specs.Layouts.{LayoutKind, default_layout}
 use Rattle.cedarwood.specs.Batches.{pair_at}
 use Rattle.cedarwood.specs.Builds.{all_stored, first_fault, IsBuild, outcome}
 use Rattle.cedarwood.specs.Dictionary.{Dictionary}
@@ -19,10 +19,10 @@ use Rattle.cedarwood.specs.Shrinking.{LacksPlaces}
 use Rattle.cedarwood.specs.Updates.{IsUpdate}
 use Rattle.cedar_calls.specs.Changes.{IsChange, IsUpdatedBatch, IsWholeBuild}
 use Rattle.cedar_calls.specs.Replies.{IsReply}
-use Rattle.cedar_calls.specs.Plain.{batch_says, compared, counted, done, ended, faultless_front, faulty_at, found, held, held_each, in_use, listed, matched, measured, selected, numbered, walked, was, worded, change_says, changed_state, is_none_left, IsMet, kept_at_fault, refused_at, reply_says, said_batch, said_change, said_reply, said_result, unless_fault}
+use Rattle.cedar_calls.specs.Plain.{batch_says, comparable_count, counted, done, ended, faultless_front, faulty_at, found, held, held_each, slots_held_of_tree, listed, matched, measured, selected, numbered, walked, was, worded, change_says, changed_state, is_none_left, IsMet, kept_at_fault, refused_at, reply_says, plain_batch, plain_effect, plain_reply, plain_result, unless_fault}
 use Rattle.cedar_calls.specs.declared.call.Change.{Change}
 use Rattle.cedar_calls.specs.declared.call.Change.TheVariants as change
-use Rattle.cedar_calls.specs.declared.call.Figure.TheVariants.{AllocatedBytes, Capacity, SpareBlocks, UsedSlots}
+use Rattle.cedar_calls.specs.declared.call.Figure.TheVariants.{AllocatedBytes, Capacity, SearchLimit, SpareBlocks, UsedSlots}
 use Rattle.cedar_calls.specs.declared.call.Question.{Question}
 use Rattle.cedar_calls.specs.declared.call.Question.TheVariants as question
 use Rattle.cedar_calls.specs.declared.answer.Changed.{Changed}
@@ -55,31 +55,31 @@ none_ok e h = cc
 
 -- an update without shortage
 module _ (layout : LayoutKind) (slots : ℕ) (d d' : Dictionary) (key : List ℕ) (v : ℤ) where
-  update_goes : (f : Option CedarError) → fault key v ≡ f → (r : Result (Unit {0}) CedarError) → IsUpdate layout slots d d' key v r → IsMet (said_result (λ _. done) r)
-      → (said_result (λ _. done) r ≡ unless_fault f done) × (d'.state ≡ kept_at_fault f d.state (stored d.state key v))
+  update_goes : (f : Option CedarError) → fault key v ≡ f → (r : Result (Unit {0}) CedarError) → IsUpdate layout slots d d' key v r → IsMet (plain_result (λ _. done) r)
+      → (plain_result (λ _. done) r ≡ unless_fault f done) × (d'.state ≡ kept_at_fault f d.state (after_put d.state key v))
   update_goes (Some e) same r h met =
       let err : r ≡ Err e = subst (λ f. IfSome f (λ e. r ≡ Err e)) same h.faulty in
-      (ap (said_result (λ _. done)) err, subst (λ r. OnErr r (d'.state ≡ d.state)) err h.err)
+      (ap (plain_result (λ _. done)) err, subst (λ r. OnErr r (d'.state ≡ d.state)) err h.err)
   update_goes None same (Ok x) h met = (refl, h.ok)
   update_goes None same (Err e) h met = absurd (met (h.refused same).0)
 
   insert_goes : (f : Option CedarError) → fault key v ≡ f → (r : Result (Option ℤ) CedarError) → IsUpdate layout slots d d' key v (outcome r)
-      → IfOk r (λ x. x ≡ number_at d.state.tree key) → IsMet (said_result was r)
-      → (said_result was r ≡ unless_fault f (was (number_at d.state.tree key))) × (d'.state ≡ kept_at_fault f d.state (stored d.state key v))
+      → IfOk r (λ x. x ≡ number_at d.state.tree key) → IsMet (plain_result was r)
+      → (plain_result was r ≡ unless_fault f (was (number_at d.state.tree key))) × (d'.state ≡ kept_at_fault f d.state (after_put d.state key v))
   insert_goes (Some e) same (Ok x) h was_held met = absurd (none_ok e (subst (λ f. IfSome f (λ e. Ok tt ≡ Err e)) same h.faulty))
   insert_goes (Some e) same (Err e') h was_held met =
       let err : Err e' ≡ Err e = subst (λ f. IfSome f (λ e. outcome {X = Option ℤ} (Err e') ≡ Err e)) same h.faulty in
-      (ap (said_result (λ (x : Unit {0}). done)) err, h.err)
+      (ap (plain_result (λ (x : Unit {0}). done)) err, h.err)
   insert_goes None same (Ok x) h was_held met = (ap was was_held, h.ok)
   insert_goes None same (Err e) h was_held met = absurd (met (h.refused same).0)
 
 build_goes : (layout : LayoutKind) (slots : ℕ) (d d' : Dictionary) (es : List Entry) (f : Option CedarError) → first_fault es ≡ f → (r : Result (Unit {0}) CedarError)
-    → IsWholeBuild layout slots d d' es r → IsMet (said_result (λ _. done) r)
-    → (said_result (λ _. done) r ≡ unless_fault f done) × (d'.state ≡ kept_at_fault f d.state (all_stored d.state es))
+    → IsWholeBuild layout slots d d' es r → IsMet (plain_result (λ _. done) r)
+    → (plain_result (λ _. done) r ≡ unless_fault f done) × (d'.state ≡ kept_at_fault f d.state (all_stored d.state es))
 build_goes layout slots d d' es (Some e) same r h met =
     let err : r ≡ Err e = subst (λ f. IfSome f (λ e. r ≡ Err e)) same h.faulty in
     let faulty : IsSome (first_fault es) = subst (λ f. IsSome f) (sym same) refl in
-    (ap (said_result (λ _. done)) err, ap (λ x. x.state) (h.unchanged faulty))
+    (ap (plain_result (λ _. done)) err, ap (λ x. x.state) (h.unchanged faulty))
 build_goes layout slots d d' es None same (Ok x) h met = (refl, h.stored)
 build_goes layout slots d d' es None same (Err e) h met = absurd (met (h.refused same).shortage)
 
@@ -94,7 +94,7 @@ error_in without (Err e) = e
 abbrev AreFaultless : List Entry → Type 0
 AreFaultless es = AllByRecursion (λ (e : Entry). fault e.0 e.1 ≡ None) es
 
--- an update that was accepted has no fault, and one that was refused, though not for memory or slots, has the fault that is told
+-- an update that was accepted has no fault, and one that was refused, though not for memory or slots, has the fault that is returned
 module _ (layout : LayoutKind) (slots : ℕ) (d d' : Dictionary) (key : List ℕ) (v : ℤ) where
   accepted : (f : Option CedarError) → fault key v ≡ f → IsUpdate layout slots d d' key v (Ok tt) → f ≡ None
   accepted None same h = refl
@@ -133,8 +133,8 @@ fault_says n (suc i) (e ∷ es) x within h faulty =
       ap (λ f. kept_at_fault f [] (e ∷ faultless_front es)) h.0 ∙ ap (λ xs. e ∷ xs) later.1,
     )
 
-batch_goes : (layout : LayoutKind) (slots : ℕ) (d d' : Dictionary) (es : List Entry) (r : Result (Unit {0}) RefusedPair) → IsUpdatedBatch layout slots d d' es r → IsMet (said_batch r)
-    → (said_batch r ≡ batch_says 0 es) × (d'.state ≡ all_stored d.state (faultless_front es))
+batch_goes : (layout : LayoutKind) (slots : ℕ) (d d' : Dictionary) (es : List Entry) (r : Result (Unit {0}) RefusedPair) → IsUpdatedBatch layout slots d d' es r → IsMet (plain_batch r)
+    → (plain_batch r ≡ batch_says 0 es) × (d'.state ≡ all_stored d.state (faultless_front es))
 batch_goes layout slots d d' es (Ok x) h met =
     let says = faultless_says 0 es (built_faultless layout slots d d' es h.updates) in (sym says.0, h.stored ∙ ap (all_stored d.state) (sym says.1))
 batch_goes layout slots d d' es (Err r) h met =
@@ -155,8 +155,8 @@ places_short : (slots : ℕ) (es : List Entry) (e : CedarError) → LacksPlaces 
 places_short slots es e (inl is) = subst IsShortage (sym is) tt
 places_short slots es e (inr is) = subst IsShortage (sym is.0) tt
 
-pub change_goes : {A : Type 0} (layout : LayoutKind) (slots : ℕ) (d d' : Dictionary) (c : Change) (a : Changed A) → IsChange layout slots d c a d' → IsMet (said_change a)
-    → (said_change a ≡ change_says d.state c) × (d'.state ≡ changed_state d.state c)
+pub change_goes : {A : Type 0} (layout : LayoutKind) (slots : ℕ) (d d' : Dictionary) (c : Change) (a : Changed A) → IsChange layout slots d c a d' → IsMet (plain_effect a)
+    → (plain_effect a ≡ change_says d.state c) × (d'.state ≡ changed_state d.state c)
 change_goes layout slots d d' (change.Update key v) (changed.Updated r) h met = update_goes layout slots d d' key.now v (fault key.now v) refl r h met
 change_goes layout slots d d' (change.Insert key v) (changed.Inserted r) h met = insert_goes layout slots d d' key.now v (fault key.now v) refl r h.0 h.1 met
 change_goes layout slots d d' (change.Erase key) (changed.Erased b) h met = (ap held (bool_same b (is_some (number_at d.state.tree key.now)) h.0), h.1.state)
@@ -173,17 +173,18 @@ change_goes layout slots d d' (change.Build pairs) (changed.Built r) h met = bui
 change_goes layout slots d d' (change.UpdateBatch pairs) (changed.UpdatedBatch r) h met = batch_goes layout slots d d' (entries_of pairs.now) r h met
 change_goes layout slots d d' (change.Reserve n) (changed.Reserved (Ok x)) h met = (refl, h.state)
 change_goes layout slots d d' (change.Reserve n) (changed.Reserved (Err e)) h met = absurd (met (room_short slots d n e h.refused))
+change_goes layout slots d d' (change.SetSearchLimit n) changed.SearchLimitSet h met = (refl, ap (λ (x : Dictionary). x.state) h)
 change_goes layout slots d d' c a h met = absurd h
 
 pub short : (e : CedarError) → e ≡ Memory → IsShortage e
 short e h = subst IsShortage (sym h) tt
 
-same_use : (by_default : Bool) (layout : LayoutKind) (n m : ℕ) → (by_default ≡ true → layout ≡ default_layout) → (layout ≡ default_layout → n ≡ m) → compared by_default n ≡ compared by_default m
+same_use : (by_default : Bool) (layout : LayoutKind) (n m : ℕ) → (by_default ≡ true → layout ≡ default_layout) → (layout ≡ default_layout → n ≡ m) → comparable_count by_default n ≡ comparable_count by_default m
 same_use true layout n m h same = ap Some (same (h refl))
 same_use false layout n m h same = refl
 
 pub reply_goes : {A : Type 0} (by_default : Bool) (layout : LayoutKind) (slots : ℕ) (d : Dictionary) (q : Question) (a : Reply A) → (by_default ≡ true → layout ≡ default_layout)
-    → IsReply layout slots d q a → IsMet (said_reply by_default q a) → said_reply by_default q a ≡ reply_says by_default d.state q
+    → IsReply layout slots d q a → IsMet (plain_reply by_default q a) → plain_reply by_default q a ≡ reply_says by_default d.state q
 reply_goes b layout slots d (question.Exact key) (reply.Exact x) k h met = ap found h
 reply_goes b layout slots d (question.Get key) (reply.Value x) k h met = ap numbered h
 reply_goes b layout slots d (question.ContainsKey key) (reply.IsHeld x) k h met = ap held h
@@ -209,14 +210,15 @@ reply_goes b layout slots d (question.EntriesFrom key) (reply.Range (Err e)) k h
 reply_goes b layout slots d (question.Range from to) (reply.Range (Ok o)) k h met = ap selected h
 reply_goes b layout slots d (question.Range from to) (reply.Range (Err e)) k h met = absurd (met (short e h.0))
 reply_goes b layout slots d question.Len (reply.Len n) k h met = ap counted h
-reply_goes b layout slots d (question.Figure UsedSlots) (reply.Figure n) k h met = ap in_use (same_use b layout n (used d.state.tree) k h.1)
+reply_goes b layout slots d (question.Figure UsedSlots) (reply.Figure n) k h met = ap slots_held_of_tree (same_use b layout n (slots_of_tree d.state.tree) k h.1)
 reply_goes b layout slots d (question.Figure Capacity) (reply.Figure n) k h met = refl
 reply_goes b layout slots d (question.Figure AllocatedBytes) (reply.Figure n) k h met = refl
 reply_goes b layout slots d (question.Figure SpareBlocks) (reply.Figure n) k h met = refl
+reply_goes b layout slots d (question.Figure SearchLimit) (reply.Figure n) k h met = refl
 reply_goes b layout slots d question.IsEmpty (reply.IsEmpty x) k h met = ap held (none_same x (walk d.state.tree) h)
 reply_goes b layout slots d question.Stats (reply.Stats stats) k h met =
-    ap (λ n. measured n (compared b stats.used_node_slots)) h.entries
-    ∙ ap (measured (length (walk d.state.tree))) (same_use b layout stats.used_node_slots (used d.state.tree) k h.used.1)
+    ap (λ n. measured n (comparable_count b stats.used_node_slots)) h.entries
+    ∙ ap (measured (length (walk d.state.tree))) (same_use b layout stats.used_node_slots (slots_of_tree d.state.tree) k h.used.1)
 reply_goes b layout slots d question.Save (reply.Saved r) k h met = refl
 reply_goes b layout slots d question.SaveV1_0 (reply.Saved r) k h met = refl
 reply_goes b layout slots d q a k h met = absurd h

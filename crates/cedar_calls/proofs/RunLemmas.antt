@@ -1,6 +1,6 @@
 -- Runs that go one call further.
 use Rattle.std.proofs.Common.{ℕ, List, [], ◌∷◌, ◌++◌, append_assoc, ap, refl, subst, ◌∙◌}
-use Rattle.cedar_model.specs.Table.Layouts.{LayoutKind}
+use Rattle.cedarwood.specs.Layouts.{LayoutKind}
 use Rattle.cedarwood.specs.Dictionary.{Dictionary}
 use Rattle.cedar_calls.specs.declared.call.Call.{Call}
 use Rattle.cedar_calls.specs.declared.answer.Answer.{Answer}

@@ -3,11 +3,11 @@ use Rattle.std.proofs.Common.{◌≡◌, ℕ, ℤ, ◌+◌, Bool, true, false, c
 use Rattle.std.specs.Prelude.{String}
 use Rattle.std.specs.Str.{is_utf8, IsUtf8}
 use Rattle.std.proofs.lemmas.Str.{is_utf8-from_IsUtf8, IsUtf8-from_is_utf8, IsUtf8-string_bytes}
-use Rattle.cedar_tree.specs.Queries.{Entry}
+use Rattle.cedarwood.specs.Queries.{Entry}
 use Rattle.cedar_calls.specs.Plain.{text_entries_of}
 use Rattle.cedar_calls.specs.Replies.{AreTexts}
 
--- a text, or nothing, stands for the first entry that is left, and the next ones are left then
+-- a text, or nothing, represents the first entry that is left, and the next ones are left then
 pub record IsTextStep (rest next : List Entry) (text : Option (List ℕ × ℤ)) : Type 0 where
   pub shorter : length rest ≡ length next + 1
   pub texts : (later : List (Option (List ℕ × ℤ))) → AreTexts later next → AreTexts (text ∷ later) rest

@@ -2,9 +2,9 @@
 use Rattle.std.specs.Prelude.{◌≡◌, ◌⊎◌, ℕ, Bool, true, List, [], ◌∷◌}
 use Rattle.std.specs.List.{AllByRecursion}
 use Rattle.cedarwood.specs.Words.{entries_of, keys_of}
-use Rattle.cedar_model.specs.Table.Layouts.{LayoutKind, default_layout}
+use Rattle.cedarwood.specs.Layouts.{LayoutKind, default_layout}
 use Rattle.cedarwood.specs.Dictionary.{Dictionary}
-use Rattle.cedar_calls.specs.Plain.{all_said, states_of, IsLoadless, IsMet}
+use Rattle.cedar_calls.specs.Plain.{plain_answers, states_of, IsLoadless, IsMet}
 use Rattle.cedar_calls.specs.Runs.{IsRun}
 use Rattle.cedar_calls.specs.declared.call.Call.{Call}
 use Rattle.cedar_calls.specs.declared.call.Call.TheVariants as call
@@ -14,7 +14,7 @@ use Rattle.cedar_calls.specs.declared.call.Question.{Question}
 use Rattle.cedar_calls.specs.declared.call.Question.TheVariants as question
 use Rattle.cedar_calls.specs.declared.answer.Answer.{Answer}
 
--- the same change, whatever `max_trial` it sets and wherever its bytes lie
+-- the same change, whatever `max_trial` and search limit it sets and wherever its bytes lie
 abbrev pub IsSameChange : Change → Change → Type 0
 IsSameChange (change.Update k v) (change.Update l w) = (k.now ≡ l.now) × (v ≡ w)
 IsSameChange (change.Insert k v) (change.Insert l w) = (k.now ≡ l.now) × (v ≡ w)
@@ -28,6 +28,7 @@ IsSameChange (change.Renew s) (change.Renew z) = s.ordered ≡ z.ordered
 IsSameChange (change.Build p) (change.Build q) = entries_of p.now ≡ entries_of q.now
 IsSameChange (change.UpdateBatch p) (change.UpdateBatch q) = entries_of p.now ≡ entries_of q.now
 IsSameChange (change.Reserve n) (change.Reserve m) = n ≡ m
+IsSameChange (change.SetSearchLimit n) (change.SetSearchLimit m) = Unit {0}
 IsSameChange c d = ⊥
 
 -- the same question, wherever its bytes lie
@@ -54,7 +55,7 @@ IsSameQuestion question.Save question.Save = Unit {0}
 IsSameQuestion question.SaveV1_0 question.SaveV1_0 = Unit {0}
 IsSameQuestion q r = ⊥
 
--- the same call, whatever `max_trial` it sets and wherever its bytes lie
+-- the same call, whatever `max_trial` and search limit it sets and wherever its bytes lie
 abbrev pub IsSameCall : Call → Call → Type 0
 IsSameCall (call.New s) (call.New z) = s.ordered ≡ z.ordered
 IsSameCall (call.Sorted s p) (call.Sorted z q) = (s.ordered ≡ z.ordered) × (entries_of p.now ≡ entries_of q.now)
@@ -71,9 +72,9 @@ AreSameCalls [] [] = Unit {0}
 AreSameCalls (c ∷ calls) (d ∷ others) = IsSameCall c d × AreSameCalls calls others
 AreSameCalls calls others = ⊥
 
--- Runs agree: two runs of the same calls from the same states, none of them refused for memory or slots, are answered the same, and leave the
--- same states, whatever `max_trial` is and whatever the tables are. Where a load is among the calls, layout and limit of slots are the same, since
--- a file is of one layout
+-- Runs agree: two runs of the same calls from the same states, none of them refused for memory or slots, get the same answers, and leave
+-- the same states, whatever `max_trial` and the search limit are and whatever the tables are. Where a load is among the calls, layout and limit
+-- of slots are the same, since a file is of one layout
 abbrev pub RunsAgree : {A B : Type 0} → List Call → List (Answer A) → List Call → List (Answer B) → Type 0
 RunsAgree calls answers others replies =
     (by_default : Bool) (layout other : LayoutKind) (slots most : ℕ) (before after start end : List Dictionary)
@@ -81,5 +82,5 @@ RunsAgree calls answers others replies =
     → AreSameCalls calls others → states_of before ≡ states_of start
     → AllByRecursion IsLoadless calls ⊎ ((layout ≡ other) × (slots ≡ most))
     → (by_default ≡ true → (layout ≡ default_layout) × (other ≡ default_layout))
-    → AllByRecursion IsMet (all_said by_default calls answers) → AllByRecursion IsMet (all_said by_default others replies)
-    → (all_said by_default calls answers ≡ all_said by_default others replies) × (states_of after ≡ states_of end)
+    → AllByRecursion IsMet (plain_answers by_default calls answers) → AllByRecursion IsMet (plain_answers by_default others replies)
+    → (plain_answers by_default calls answers ≡ plain_answers by_default others replies) × (states_of after ≡ states_of end)

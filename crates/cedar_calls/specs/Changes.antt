@@ -1,19 +1,21 @@
--- What a change of a dictionary answers, and the dictionary after it.
-use Rattle.std.specs.Prelude.{◌≡◌, ℕ, ℤ, ◌+◌, ◌-◌, ◌*◌, ◌<◌, ◌≤◌, Bool, List, length, IfErr, IfOk, IfSome, IsOk, IsSome, IsTrue, ◌↔◌, None, OnErr, OnOk, Option, Result, Err, take, Vec}
-use Rattle.cedar_tree.specs.Tree.{number_at}
-use Rattle.cedar_tree.specs.Queries.{Entry}
-use Rattle.cedar_tree.specs.State.{erased}
+-- What a change of a dictionary returns, and the dictionary after it.
+use Rattle.std.specs.Prelude.{◌≡◌, ℕ, ℤ, ◌+◌, ◌-◌, ◌*◌, ◌<◌, ◌≤◌, Bool, List, length, IfErr}
+use Rattle.std.specs.Prelude.{IfOk, IfSome, IsOk, IsSome, IsTrue, ◌↔◌, None, OnErr, OnOk}
+use Rattle.std.specs.Prelude.{Option, Result, Err, take, Vec}
+use Rattle.cedarwood.specs.Tree.{number_at}
+use Rattle.cedarwood.specs.Queries.{Entry}
+use Rattle.cedarwood.specs.State.{after_erase}
 use Rattle.cedarwood.specs.declared.error.CedarError.{CedarError}
 use Rattle.cedarwood.specs.declared.batches.RefusedPair.{RefusedPair}
 use Rattle.cedarwood.specs.declared.error.CedarError.TheVariants.{Memory, SlotLimit}
 use Rattle.cedarwood.specs.Words.{entries_of, keys_of}
-use Rattle.cedar_model.specs.Meaning.Marks.{MarksCut}
-use Rattle.cedar_model.specs.Table.Layouts.{LayoutKind}
+use Rattle.cedarwood.specs.Marks.{MarksCut}
+use Rattle.cedarwood.specs.Layouts.{LayoutKind}
 use Rattle.cedarwood.specs.Batches.{held_in_turn, IsErasures, IsUpdates, keys_erased}
 use Rattle.cedarwood.specs.Builds.{all_stored, first_fault, outcome, IsBuild, IsRefusedBuild}
 use Rattle.cedarwood.specs.Dictionary.{capacity_after, Dictionary}
 use Rattle.cedarwood.specs.Erasures.{IsCleared, IsErasedUnder}
-use Rattle.cedarwood.specs.Room.{LacksRoom}
+use Rattle.cedarwood.specs.Room.{LacksRoom, SetsSearchLimit}
 use Rattle.cedarwood.specs.Shrinking.{IsShrunk}
 use Rattle.cedarwood.specs.Updates.{IsUpdate}
 use Rattle.cedarwood.specs.Making.{IsRenewed}
@@ -24,12 +26,13 @@ use Rattle.cedar_calls.specs.declared.answer.Changed.TheVariants as changed
 
 -- the key is no longer held, and all else is as it was
 pub record IsErased (before after : Dictionary) (key : List ℕ) : Type 0 where
-  pub state : after.state ≡ erased before.state key
+  pub state : after.state ≡ after_erase before.state key
   pub marks : MarksCut before.marked after.marked key
   pub size : (after.size ≡ before.size) × (after.capacity ≡ before.capacity)
   pub max_trial : after.max_trial ≡ before.max_trial
+  pub search_limit : after.search_limit ≡ before.search_limit
 
--- a key was found, if it was held, and removed there: what it held is told
+-- a key was found, if it was held, and removed there: what it held is returned
 pub record IsErasedFound (before after : Dictionary) (key : List ℕ) (value : Option ℤ) : Type 0 where
   pub told : value ≡ number_at before.state.tree key
   pub erased : IsErased before after key
@@ -49,6 +52,7 @@ pub record IsUpdatedBatch (layout : LayoutKind) (slots : ℕ) (before after : Di
   pub stored : OnOk result (after.state ≡ all_stored before.state pairs)
   pub refused : IfErr result (λ refusal. after.state ≡ all_stored before.state (take refusal.index pairs))
   pub max_trial : after.max_trial ≡ before.max_trial
+  pub search_limit : after.search_limit ≡ before.search_limit
 
 -- some keys were to be removed one after another: all are, and for each is said whether it was held then; or there are some, there was
 -- no memory to say so, and nothing has changed
@@ -58,6 +62,7 @@ pub record IsErasedBatch {A : Type 0} (before after : Dictionary) (keys : List (
   pub state : OnOk result (after.state ≡ keys_erased before.state keys)
   pub size : (after.size ≡ before.size) × (after.capacity ≡ before.capacity)
   pub max_trial : after.max_trial ≡ before.max_trial
+  pub search_limit : after.search_limit ≡ before.search_limit
   pub refused : IfErr result (λ e. (e ≡ Memory) × (after ≡ before) × (0 < length keys))
 
 -- room for n blocks more was asked for: nothing has changed but how many slots there are, or nothing at all where n blocks were spare
@@ -66,6 +71,7 @@ pub record IsReserved (slots n : ℕ) (before after : Dictionary) (result : Resu
   pub state : after.state ≡ before.state
   pub marked : after.marked ≡ before.marked
   pub max_trial : after.max_trial ≡ before.max_trial
+  pub search_limit : after.search_limit ≡ before.search_limit
   pub size : after.size ≡ before.size
   pub capacity : OnOk result (after.capacity ≡ capacity_after n before.size before.capacity)
   pub spare : OnOk result (256 * n ≤ after.capacity - after.size)
@@ -75,7 +81,7 @@ pub record IsReserved (slots n : ℕ) (before after : Dictionary) (result : Resu
   pub refused : IfErr result (LacksRoom slots before n)
   pub unchanged : OnErr result (after ≡ before)
 
--- what a change may answer of a dictionary of this layout that may have so many slots, and the dictionary after it
+-- what a change may return of a dictionary of this layout that may have so many slots, and the dictionary after it
 abbrev pub IsChange : {A : Type 0} → LayoutKind → ℕ → Dictionary → Change → Changed A → Dictionary → Type 0
 IsChange layout slots before (change.Update key v) (changed.Updated result) after = IsUpdate layout slots before after key.now v result
 IsChange layout slots before (change.Insert key v) (changed.Inserted result) after =
@@ -90,4 +96,5 @@ IsChange layout slots before (change.Renew settings) (changed.Renewed result) af
 IsChange layout slots before (change.Build pairs) (changed.Built result) after = IsWholeBuild layout slots before after (entries_of pairs.now) result
 IsChange layout slots before (change.UpdateBatch pairs) (changed.UpdatedBatch result) after = IsUpdatedBatch layout slots before after (entries_of pairs.now) result
 IsChange layout slots before (change.Reserve n) (changed.Reserved result) after = IsReserved slots n before after result
+IsChange layout slots before (change.SetSearchLimit n) changed.SearchLimitSet after = SetsSearchLimit before after n
 IsChange layout slots before c answer after = ⊥

@@ -1,7 +1,7 @@
 -- That what a run saves loads again.
 use Rattle.std.specs.Prelude.{◌≡◌, ℕ, List, [], ◌∷◌, ◌++◌, slice_get, Option, Some, None, Ok}
 use Rattle.std.specs.Borrow.{Bor}
-use Rattle.cedar_model.specs.Table.Layouts.{LayoutKind}
+use Rattle.cedarwood.specs.Layouts.{LayoutKind}
 use Rattle.cedarwood.specs.Dictionary.{Dictionary}
 use Rattle.cedar_calls.specs.Runs.{IsStep}
 use Rattle.cedar_calls.specs.declared.call.Call.TheVariants as call
@@ -15,7 +15,7 @@ abbrev pub bytes_saved : {A : Type 0} → Reply A → Option (List ℕ)
 bytes_saved (reply.Saved (Ok file)) = Some file.items
 bytes_saved _ = None
 
--- What was saved of a dictionary loads as one with its tree and order, whenever that is, if the load answers `Ok`
+-- What was saved of a dictionary loads as one with its tree and order, whenever that is, if the load returns `Ok`
 abbrev pub SavesLoadAgain : {A : Type 0} → Reply A → Type 0
 SavesLoadAgain {A} r =
     (layout : LayoutKind) (slots limit : ℕ) (before kept middle after : List Dictionary) (index : ℕ) (d : Dictionary) (q : Question) (bytes : Bor (List ℕ))

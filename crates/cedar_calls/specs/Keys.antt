@@ -1,14 +1,16 @@
 -- What a key holds after some changes of a dictionary: only changes of that key have a part in it, the last of them decides.
-use Rattle.std.specs.Prelude.{◌≡◌, ◌<◌, ℕ, ℤ, List, [], ◌∷◌, ◌++◌, length, take, map, slice_get, slice_set, Option, Some, None, IsSome, fold, nat_eq, if◌then◌else◌, Result, Ok, Err, OnOk, MatchResult}
+use Rattle.std.specs.Prelude.{◌≡◌, ◌<◌, ℕ, ℤ, List, [], ◌∷◌, ◌++◌, length, take, map, slice_get}
+use Rattle.std.specs.Prelude.{slice_set, Option, Some, None, IsSome, fold, nat_eq, if◌then◌else◌}
+use Rattle.std.specs.Prelude.{Result, Ok, Err, OnOk, MatchResult}
 use Rattle.std.specs.List.{remove, starts_with}
-use Rattle.cedar_tree.specs.Tree.{number_at, IsSoundBelow}
-use Rattle.cedar_tree.specs.Queries.{is_path, last_at}
-use Rattle.cedar_tree.specs.State.{State}
+use Rattle.cedarwood.specs.Tree.{number_at, IsSoundBelow}
+use Rattle.cedarwood.specs.Queries.{is_path, last_at}
+use Rattle.cedarwood.specs.State.{State}
 use Rattle.cedarwood.specs.Words.{entries_of, keys_of}
-use Rattle.cedar_model.specs.Meaning.WellFormed.{tree_of}
-use Rattle.cedar_model.specs.Table.Layouts.{LayoutKind}
-use Rattle.cedar_model.specs.Table.TableFields.{Fields}
-use Rattle.cedar_format.specs.Tables.{IsTableFile}
+use Rattle.cedarwood.specs.WellFormed.{tree_of}
+use Rattle.cedarwood.specs.Layouts.{LayoutKind}
+use Rattle.cedarwood.specs.TableFields.{Fields}
+use Rattle.cedarwood.specs.Tables.{IsTableFile}
 use Rattle.cedarwood.specs.Builds.{first_fault}
 use Rattle.cedarwood.specs.Dictionary.{Dictionary}
 use Rattle.cedarwood.specs.Fault.{fault}
@@ -40,6 +42,7 @@ held_after key now change.Clear = None
 held_after key now change.Shrink = now
 held_after key now (change.Renew settings) = None
 held_after key now (change.Reserve n) = now
+held_after key now (change.SetSearchLimit n) = now
 held_after key now (change.UpdateBatch pairs) = last_at key now (faultless_front (entries_of pairs.now))
 held_after key now (change.Build pairs) = kept_at_fault (first_fault (entries_of pairs.now)) now (last_at key now (entries_of pairs.now))
 
@@ -65,7 +68,7 @@ abbrev pub if_made : {E X Y : Type 0} → Result X E → Y → Y → Y
 if_made (Ok x) made before = made
 if_made (Err e) made before = before
 
--- what a key holds after a change that was answered so: nothing of it but of this key is read. Of a build that was refused for memory or slots
+-- what a key holds after a change with this result: nothing of it but of this key is read. Of a build that was refused for memory or slots
 -- some first pairs count, and of one with a fault none
 abbrev pub IsHeldAfter : {A : Type 0} → List ℕ → Option ℤ → Change → Changed A → Option ℤ → Type 0
 IsHeldAfter key now (change.Update k v) (changed.Updated result) after = after ≡ if_made result (if is_path key k.now then Some v else now) now
@@ -84,6 +87,7 @@ IsHeldAfter key now (change.UpdateBatch pairs) (changed.UpdatedBatch result) aft
     MatchResult result (λ _. after ≡ last_at key now (entries_of pairs.now))
     (λ refusal. (refusal.index < length (entries_of pairs.now)) × (after ≡ last_at key now (take refusal.index (entries_of pairs.now))))
 IsHeldAfter key now (change.Reserve n) (changed.Reserved result) after = after ≡ now
+IsHeldAfter key now (change.SetSearchLimit n) changed.SearchLimitSet after = after ≡ now
 IsHeldAfter key now c result after = ⊥
 
 -- a well-formed table whose bytes these are holds this number at the key

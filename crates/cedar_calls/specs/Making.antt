@@ -2,13 +2,13 @@
 use Rattle.std.specs.Prelude.{◌≡◌, ℕ, List, [], ◌∷◌, ◌++◌, IfOk, MatchResult, Result, Ok, Err}
 use Rattle.cedarwood.specs.declared.error.CedarError.{CedarError}
 use Rattle.cedarwood.specs.declared.error.CedarError.TheVariants.{Memory}
-use Rattle.cedar_model.specs.Table.Layouts.{LayoutKind}
-use Rattle.cedar_format.specs.declared.error.CedarPersistenceError.{CedarPersistenceError}
+use Rattle.cedarwood.specs.Layouts.{LayoutKind}
+use Rattle.cedarwood.specs.CedarPersistenceError.{CedarPersistenceError}
 use Rattle.cedarwood.specs.Dictionary.{Dictionary}
 use Rattle.cedarwood.specs.Loading.{LoadAnswers}
 use Rattle.cedarwood.specs.OnTable.{IsOnTable}
 
--- a load of some bytes: the table whose bytes they are and the dictionary that stands on it, or the refusal that they call for
+-- a load of some bytes: the table whose bytes they are and the dictionary that is kept in it, or the refusal that they call for
 abbrev pub IsLoad : LayoutKind → ℕ → ℕ → List ℕ → Result Dictionary CedarPersistenceError → Type 0
 IsLoad layout slots limit bytes made = LoadAnswers (λ d. d.table) layout slots limit bytes made × IfOk made (IsOnTable slots)
 
@@ -16,7 +16,7 @@ IsLoad layout slots limit bytes made = LoadAnswers (λ d. d.table) layout slots 
 abbrev pub IsCopy : Dictionary → Result Dictionary CedarError → Type 0
 IsCopy d made = MatchResult made (λ copy. copy ≡ d) (λ e. e ≡ Memory)
 
--- what was made stands behind the others, and its error is the answer
+-- what was made comes after the others, and its error is the answer
 abbrev pub Joins : {E : Type 0} → List Dictionary → Result Dictionary E → Result (Unit {0}) E → List Dictionary → Type 0
 Joins before (Ok d) result after = (result ≡ Ok tt) × (after ≡ before ++ d ∷ [])
 Joins before (Err e) result after = (result ≡ Err e) × (after ≡ before)

@@ -1,10 +1,12 @@
--- What runs answer as far as trees go: neither places nor bytes nor settings but the order have a part in it.
-use Rattle.std.specs.Prelude.{◌≡◌, Bool, true, false, ℕ, ℤ, List, [], ◌∷◌, ◌++◌, ◌+◌, length, map, slice_get, slice_set, Option, option_map, Some, None, is_some, string_bytes, if◌then◌else◌, Result, Ok, Err}
+-- What runs return as far as trees go: neither places nor bytes nor settings but the order have a part in it.
+use Rattle.std.specs.Prelude.{◌≡◌, Bool, true, false, ℕ, ℤ, List, [], ◌∷◌, ◌++◌, ◌+◌, length, map}
+use Rattle.std.specs.Prelude.{slice_get, slice_set, Option, option_map, Some, None, is_some}
+use Rattle.std.specs.Prelude.{string_bytes, if◌then◌else◌, Result, Ok, Err}
 use Rattle.std.specs.List.{AllByRecursion, remove}
 use Rattle.std.specs.Str.{is_utf8}
-use Rattle.cedar_tree.specs.Tree.{empty_tree, number_at}
-use Rattle.cedar_tree.specs.Queries.{Entry, asc, exact, front, predict, used, walk}
-use Rattle.cedar_tree.specs.State.{State, erased, stored}
+use Rattle.cedarwood.specs.Tree.{empty_tree, number_at}
+use Rattle.cedarwood.specs.Queries.{Entry, asc, exact, front, predict, slots_of_tree, walk}
+use Rattle.cedarwood.specs.State.{State, after_erase, after_put}
 use Rattle.cedarwood.specs.declared.batches.RefusedPair.{RefusedPair}
 use Rattle.cedarwood.specs.declared.error.CedarError.{CedarError}
 use Rattle.cedarwood.specs.Words.{entries_of, keys_of}
@@ -12,9 +14,9 @@ use Rattle.cedarwood.specs.Ranges.{entries_since, entries_with, longest_front}
 use Rattle.cedarwood.specs.RangeWalks.{entries_between}
 use Rattle.cedarwood.specs.Ends.{first_entry, last_entry}
 use Rattle.cedarwood.specs.Erasures.{erased_under}
-use Rattle.cedar_model.specs.Table.Layouts.{LayoutKind, default_layout}
-use Rattle.cedar_format.specs.declared.error.CedarPersistenceError.{CedarPersistenceError}
-use Rattle.cedar_format.specs.Refusal.{Refusal, AllocationFailed, refusal_of}
+use Rattle.cedarwood.specs.Layouts.{LayoutKind, default_layout}
+use Rattle.cedarwood.specs.CedarPersistenceError.{CedarPersistenceError}
+use Rattle.cedarwood.specs.Refusal.{Refusal, AllocationFailed, refusal_of}
 use Rattle.cedarwood.specs.Batches.{held_in_turn, keys_erased}
 use Rattle.cedarwood.specs.Builds.{all_stored, first_fault}
 use Rattle.cedarwood.specs.Dictionary.{Dictionary}
@@ -36,103 +38,104 @@ use Rattle.cedar_calls.specs.declared.answer.Changed.TheVariants as changed
 use Rattle.cedar_calls.specs.declared.answer.Reply.{Reply}
 use Rattle.cedar_calls.specs.declared.answer.Reply.TheVariants as reply
 
--- an answer as far as it speaks of trees
-pub data Said : Type 0 where
-  missing : Said
-  done : Said
-  refused : CedarError → Said
-  refused_at : ℕ → CedarError → Said
-  unloaded : Refusal → Said
-  was : Option ℤ → Said
-  held : Bool → Said
-  held_each : List Bool → Said
-  found : Option (ℤ × ℕ) → Said
-  numbered : Option ℤ → Said
-  matched : List (Option (ℤ × ℕ)) → Said
-  listed : List (ℤ × ℕ) → Said
-  walked : List Entry → Said
-  selected : Option (List Entry) → Said
-  ended : Option Entry → Said
-  worded : List (Option Entry) → Said
-  counted : ℕ → Said
-  in_use : Option ℕ → Said
-  measured : ℕ → Option ℕ → Said
-  unsaid : Said
+-- an answer, as far as trees decide it
+pub data PlainAnswer : Type 0 where
+  missing : PlainAnswer
+  done : PlainAnswer
+  refused : CedarError → PlainAnswer
+  refused_at : ℕ → CedarError → PlainAnswer
+  unloaded : Refusal → PlainAnswer
+  was : Option ℤ → PlainAnswer
+  held : Bool → PlainAnswer
+  held_each : List Bool → PlainAnswer
+  found : Option (ℤ × ℕ) → PlainAnswer
+  numbered : Option ℤ → PlainAnswer
+  matched : List (Option (ℤ × ℕ)) → PlainAnswer
+  listed : List (ℤ × ℕ) → PlainAnswer
+  walked : List Entry → PlainAnswer
+  selected : Option (List Entry) → PlainAnswer
+  ended : Option Entry → PlainAnswer
+  worded : List (Option Entry) → PlainAnswer
+  counted : ℕ → PlainAnswer
+  slots_held_of_tree : Option ℕ → PlainAnswer
+  measured : ℕ → Option ℕ → PlainAnswer
+  unsaid : PlainAnswer
 
-abbrev pub said_result : {X : Type 0} → (X → Said) → Result X CedarError → Said
-said_result say (Ok x) = say x
-said_result say (Err e) = refused e
+abbrev pub plain_result : {X : Type 0} → (X → PlainAnswer) → Result X CedarError → PlainAnswer
+plain_result say (Ok x) = say x
+plain_result say (Err e) = refused e
 
 -- which pair was refused, if one was
-abbrev pub said_batch : Result (Unit {0}) RefusedPair → Said
-said_batch (Ok x) = done
-said_batch (Err refusal) = refused_at refusal.index refusal.error
+abbrev pub plain_batch : Result (Unit {0}) RefusedPair → PlainAnswer
+plain_batch (Ok x) = done
+plain_batch (Err refusal) = refused_at refusal.index refusal.error
 
-abbrev pub said_change : {A : Type 0} → Changed A → Said
-said_change (changed.Updated result) = said_result (λ _. done) result
-said_change (changed.Inserted result) = said_result was result
-said_change (changed.Erased result) = held result
-said_change (changed.ErasedFound value) = was value
-said_change (changed.ErasedBatch result) = said_result (λ v. held_each v.items) result
-said_change (changed.ErasedPrefix n) = counted n
-said_change changed.Cleared = done
-said_change (changed.Shrunk result) = said_result (λ _. done) result
-said_change (changed.Renewed result) = said_result (λ _. done) result
-said_change (changed.Built result) = said_result (λ _. done) result
-said_change (changed.UpdatedBatch result) = said_batch result
-said_change (changed.Reserved result) = said_result (λ _. done) result
+abbrev pub plain_effect : {A : Type 0} → Changed A → PlainAnswer
+plain_effect (changed.Updated result) = plain_result (λ _. done) result
+plain_effect (changed.Inserted result) = plain_result was result
+plain_effect (changed.Erased result) = held result
+plain_effect (changed.ErasedFound value) = was value
+plain_effect (changed.ErasedBatch result) = plain_result (λ v. held_each v.items) result
+plain_effect (changed.ErasedPrefix n) = counted n
+plain_effect changed.Cleared = done
+plain_effect (changed.Shrunk result) = plain_result (λ _. done) result
+plain_effect (changed.Renewed result) = plain_result (λ _. done) result
+plain_effect (changed.Built result) = plain_result (λ _. done) result
+plain_effect (changed.UpdatedBatch result) = plain_batch result
+plain_effect (changed.Reserved result) = plain_result (λ _. done) result
+plain_effect changed.SearchLimitSet = done
 
--- how many slots are in use, where that is compared: trees alone say it in the default layout
-abbrev pub compared : Bool → ℕ → Option ℕ
-compared true n = Some n
-compared false n = None
+-- how many slots are held, where that is compared: trees alone say it in the default layout
+abbrev pub comparable_count : Bool → ℕ → Option ℕ
+comparable_count true n = Some n
+comparable_count false n = None
 
--- the other figures tell of places
-abbrev pub said_figure : Bool → Question → ℕ → Said
-said_figure by_default (question.Figure UsedSlots) n = in_use (compared by_default n)
-said_figure by_default q n = unsaid
+-- the other figures depend on places or settings
+abbrev pub plain_figure : Bool → Question → ℕ → PlainAnswer
+plain_figure by_default (question.Figure UsedSlots) n = slots_held_of_tree (comparable_count by_default n)
+plain_figure by_default q n = unsaid
 
--- what a question was answered. The bytes of a file tell of places.
-abbrev pub said_reply : {A : Type 0} → Bool → Question → Reply A → Said
-said_reply by_default q (reply.Exact result) = found result
-said_reply by_default q (reply.Value result) = numbered result
-said_reply by_default q (reply.IsHeld result) = held result
-said_reply by_default q (reply.Longest result) = found result
-said_reply by_default q (reply.Batch result) = said_result (λ v. matched v.items) result
-said_reply by_default q (reply.Prefixes result) = said_result (λ v. listed v.items) result
-said_reply by_default q (reply.Predictions result) = said_result (λ v. listed v.items) result
-said_reply by_default q (reply.Entries result) = said_result (λ v. walked (map (λ e. (e.0.items, e.1)) v.items)) result
-said_reply by_default q (reply.Range result) = said_result (λ o. selected (option_map (λ v. map (λ e. (e.0.items, e.1)) v.items) o)) result
-said_reply by_default q (reply.End result) = said_result (λ o. ended (option_map (λ e. (e.0.items, e.1)) o)) result
-said_reply by_default q (reply.TextEntries result) = said_result (λ v. worded (map (option_map (λ e. (string_bytes e.0, e.1))) v.items)) result
-said_reply by_default q (reply.Len n) = counted n
-said_reply by_default q (reply.Figure n) = said_figure by_default q n
-said_reply by_default q (reply.IsEmpty result) = held result
-said_reply by_default q (reply.Stats stats) = measured stats.entries (compared by_default stats.used_node_slots)
-said_reply by_default q (reply.Saved result) = unsaid
+-- what a question returned. The bytes of a file depend on places.
+abbrev pub plain_reply : {A : Type 0} → Bool → Question → Reply A → PlainAnswer
+plain_reply by_default q (reply.Exact result) = found result
+plain_reply by_default q (reply.Value result) = numbered result
+plain_reply by_default q (reply.IsHeld result) = held result
+plain_reply by_default q (reply.Longest result) = found result
+plain_reply by_default q (reply.Batch result) = plain_result (λ v. matched v.items) result
+plain_reply by_default q (reply.Prefixes result) = plain_result (λ v. listed v.items) result
+plain_reply by_default q (reply.Predictions result) = plain_result (λ v. listed v.items) result
+plain_reply by_default q (reply.Entries result) = plain_result (λ v. walked (map (λ e. (e.0.items, e.1)) v.items)) result
+plain_reply by_default q (reply.Range result) = plain_result (λ o. selected (option_map (λ v. map (λ e. (e.0.items, e.1)) v.items) o)) result
+plain_reply by_default q (reply.End result) = plain_result (λ o. ended (option_map (λ e. (e.0.items, e.1)) o)) result
+plain_reply by_default q (reply.TextEntries result) = plain_result (λ v. worded (map (option_map (λ e. (string_bytes e.0, e.1))) v.items)) result
+plain_reply by_default q (reply.Len n) = counted n
+plain_reply by_default q (reply.Figure n) = plain_figure by_default q n
+plain_reply by_default q (reply.IsEmpty result) = held result
+plain_reply by_default q (reply.Stats stats) = measured stats.entries (comparable_count by_default stats.used_node_slots)
+plain_reply by_default q (reply.Saved result) = unsaid
 
-abbrev pub said_asked : {A : Type 0} → Bool → Call → Reply A → Said
-said_asked by_default (call.Ask index question) result = said_reply by_default question result
-said_asked by_default c result = unsaid
+abbrev pub plain_reply_to : {A : Type 0} → Bool → Call → Reply A → PlainAnswer
+plain_reply_to by_default (call.Ask index question) result = plain_reply by_default question result
+plain_reply_to by_default c result = unsaid
 
-abbrev pub said_load : {X : Type 0} → Result X CedarPersistenceError → Said
-said_load (Ok x) = done
-said_load (Err e) = unloaded (refusal_of e)
+abbrev pub plain_load : {X : Type 0} → Result X CedarPersistenceError → PlainAnswer
+plain_load (Ok x) = done
+plain_load (Err e) = unloaded (refusal_of e)
 
--- what a call was answered
-abbrev pub said : {A : Type 0} → Bool → Call → Answer A → Said
-said by_default c answer.Missing = missing
-said by_default c (answer.Made result) = said_result (λ _. done) result
-said by_default c (answer.Loaded result) = said_load result
-said by_default c answer.Dropped = done
-said by_default c (answer.Changed result) = said_change result
-said by_default c (answer.Replied result) = said_asked by_default c result
+-- what a call returned
+abbrev pub plain_answer : {A : Type 0} → Bool → Call → Answer A → PlainAnswer
+plain_answer by_default c answer.Missing = missing
+plain_answer by_default c (answer.Made result) = plain_result (λ _. done) result
+plain_answer by_default c (answer.Loaded result) = plain_load result
+plain_answer by_default c answer.Dropped = done
+plain_answer by_default c (answer.Changed result) = plain_effect result
+plain_answer by_default c (answer.Replied result) = plain_reply_to by_default c result
 
--- what some calls were answered
-abbrev pub all_said : {A : Type 0} → Bool → List Call → List (Answer A) → List Said
-all_said by_default [] answers = []
-all_said by_default (c ∷ calls) [] = []
-all_said by_default (c ∷ calls) (a ∷ answers) = said by_default c a ∷ all_said by_default calls answers
+-- what some calls returned
+abbrev pub plain_answers : {A : Type 0} → Bool → List Call → List (Answer A) → List PlainAnswer
+plain_answers by_default [] answers = []
+plain_answers by_default (c ∷ calls) [] = []
+plain_answers by_default (c ∷ calls) (a ∷ answers) = plain_answer by_default c a ∷ plain_answers by_default calls answers
 
 -- a load was refused memory
 abbrev pub IsLacking : Refusal → Type 0
@@ -140,19 +143,19 @@ IsLacking (AllocationFailed n) = Unit {0}
 IsLacking _ = ⊥
 
 -- nothing was refused for memory or slots
-abbrev pub IsMet : Said → Type 0
+abbrev pub IsMet : PlainAnswer → Type 0
 IsMet (refused e) = IsShortage e → ⊥
 IsMet (refused_at n e) = IsShortage e → ⊥
 IsMet (unloaded r) = IsLacking r → ⊥
 IsMet _ = Unit {0}
 
 -- what is said without a fault, else the fault
-abbrev pub unless_fault : Option CedarError → Said → Said
+abbrev pub unless_fault : Option CedarError → PlainAnswer → PlainAnswer
 unless_fault None without = without
 unless_fault (Some e) without = refused e
 
 -- the same for a pair at an index
-abbrev pub faulty_at : ℕ → Option CedarError → Said → Said
+abbrev pub faulty_at : ℕ → Option CedarError → PlainAnswer → PlainAnswer
 faulty_at n None without = without
 faulty_at n (Some e) without = refused_at n e
 
@@ -162,7 +165,7 @@ kept_at_fault None before after = after
 kept_at_fault (Some e) before after = before
 
 -- of some pairs that are stored one after another, the first of which has this index: which one has a fault
-abbrev pub batch_says : ℕ → List Entry → Said
+abbrev pub batch_says : ℕ → List Entry → PlainAnswer
 batch_says n [] = done
 batch_says n (e ∷ es) = faulty_at n (fault e.0 e.1) (batch_says (n + 1) es)
 
@@ -176,7 +179,7 @@ is_none_left [] = true
 is_none_left (e ∷ es) = false
 
 -- what a change says of a tree, and the tree after it
-abbrev pub change_says : State → Change → Said
+abbrev pub change_says : State → Change → PlainAnswer
 change_says s (change.Update key v) = unless_fault (fault key.now v) done
 change_says s (change.Insert key v) = unless_fault (fault key.now v) (was (number_at s.tree key.now))
 change_says s (change.Erase key) = held (is_some (number_at s.tree key.now))
@@ -189,12 +192,13 @@ change_says s (change.Renew settings) = done
 change_says s (change.Build pairs) = unless_fault (first_fault (entries_of pairs.now)) done
 change_says s (change.UpdateBatch pairs) = batch_says 0 (entries_of pairs.now)
 change_says s (change.Reserve n) = done
+change_says s (change.SetSearchLimit n) = done
 
 abbrev pub changed_state : State → Change → State
-changed_state s (change.Update key v) = kept_at_fault (fault key.now v) s (stored s key.now v)
-changed_state s (change.Insert key v) = kept_at_fault (fault key.now v) s (stored s key.now v)
-changed_state s (change.Erase key) = erased s key.now
-changed_state s (change.EraseFound key) = erased s key.now
+changed_state s (change.Update key v) = kept_at_fault (fault key.now v) s (after_put s key.now v)
+changed_state s (change.Insert key v) = kept_at_fault (fault key.now v) s (after_put s key.now v)
+changed_state s (change.Erase key) = after_erase s key.now
+changed_state s (change.EraseFound key) = after_erase s key.now
 changed_state s (change.EraseBatch keys) = keys_erased s (keys_of keys.now)
 changed_state s (change.ErasePrefix prefix) = erased_under s prefix.now
 changed_state s change.Clear = record { tree = empty_tree; ordered = s.ordered }
@@ -203,13 +207,14 @@ changed_state s (change.Renew settings) = record { tree = empty_tree; ordered = 
 changed_state s (change.Build pairs) = kept_at_fault (first_fault (entries_of pairs.now)) s (all_stored s (entries_of pairs.now))
 changed_state s (change.UpdateBatch pairs) = all_stored s (faultless_front (entries_of pairs.now))
 changed_state s (change.Reserve n) = s
+changed_state s (change.SetSearchLimit n) = s
 
 -- entries as texts, and nothing in the place of each whose key isn't UTF-8
 abbrev pub text_entries_of : List Entry → List (Option Entry)
 text_entries_of es = map (λ e. if is_utf8 e.0 then Some e else None) es
 
--- what a question is answered
-abbrev pub reply_says : Bool → State → Question → Said
+-- what a question returns
+abbrev pub reply_says : Bool → State → Question → PlainAnswer
 reply_says by_default s (question.Exact key) = found (exact s.tree key.now)
 reply_says by_default s (question.Get key) = numbered (number_at s.tree key.now)
 reply_says by_default s (question.ContainsKey key) = held (is_some (number_at s.tree key.now))
@@ -225,9 +230,9 @@ reply_says by_default s (question.EntriesWith prefix) = walked (entries_with s.t
 reply_says by_default s (question.EntriesFrom key) = selected (in_order s.ordered (entries_since s.tree key.now))
 reply_says by_default s (question.Range from to) = selected (in_order s.ordered (entries_between s.tree from.now to.now))
 reply_says by_default s question.Len = counted (length (walk s.tree))
-reply_says by_default s (question.Figure UsedSlots) = in_use (compared by_default (used s.tree))
+reply_says by_default s (question.Figure UsedSlots) = slots_held_of_tree (comparable_count by_default (slots_of_tree s.tree))
 reply_says by_default s question.IsEmpty = held (is_none_left (walk s.tree))
-reply_says by_default s question.Stats = measured (length (walk s.tree)) (compared by_default (used s.tree))
+reply_says by_default s question.Stats = measured (length (walk s.tree)) (comparable_count by_default (slots_of_tree s.tree))
 reply_says by_default s _ = unsaid
 
 -- what is said of the state at an index, if there is one
@@ -236,7 +241,7 @@ at_state None without with_one = without
 at_state (Some s) without with_one = with_one s
 
 -- what a call says, and the states after it
-abbrev pub call_says : Bool → List State → Call → Said
+abbrev pub call_says : Bool → List State → Call → PlainAnswer
 call_says by_default states (call.New settings) = done
 call_says by_default states (call.Sorted settings pairs) = unless_fault (sorted_fault pairs.now) done
 call_says by_default states (call.Unsorted settings pairs) = unless_fault (first_fault (entries_of pairs.now)) done
@@ -259,7 +264,7 @@ states_after states (call.Change index change) = at_state (slice_get states inde
 states_after states (call.Ask index question) = states
 
 -- what some calls say one after another, and the states that they leave
-abbrev pub run_says : Bool → List State → List Call → List Said
+abbrev pub run_says : Bool → List State → List Call → List PlainAnswer
 run_says by_default states [] = []
 run_says by_default states (c ∷ calls) = call_says by_default states c ∷ run_says by_default (states_after states c) calls
 
@@ -276,10 +281,10 @@ abbrev pub states_of : List Dictionary → List State
 states_of ds = map (λ d. d.state) ds
 
 -- Trees alone decide: whatever the layout, the limit of slots, the settings but the order, the marks and the tables, a run of calls without a
--- load, of which none was refused for memory or slots, says what its trees say, and leaves what they leave. How many slots are in use is
+-- load, of which none was refused for memory or slots, says what its trees say, and leaves what they leave. How many slots are held is
 -- compared where this is asked for, which the default layout allows
 abbrev pub TreesDecide : {A : Type 0} → List Call → List (Answer A) → Type 0
 TreesDecide calls answers =
     (by_default : Bool) (layout : LayoutKind) (slots : ℕ) (before after : List Dictionary) → IsRun layout slots before calls answers after
-    → (by_default ≡ true → layout ≡ default_layout) → AllByRecursion IsLoadless calls → AllByRecursion IsMet (all_said by_default calls answers)
-    → (all_said by_default calls answers ≡ run_says by_default (states_of before) calls) × (states_of after ≡ states_left (states_of before) calls)
+    → (by_default ≡ true → layout ≡ default_layout) → AllByRecursion IsLoadless calls → AllByRecursion IsMet (plain_answers by_default calls answers)
+    → (plain_answers by_default calls answers ≡ run_says by_default (states_of before) calls) × (states_of after ≡ states_left (states_of before) calls)

@@ -1,20 +1,23 @@
--- What a question to a dictionary is answered.
-use Rattle.std.specs.Prelude.{◌≡◌, Bool, true, false, ℕ, ℤ, ◌+◌, ◌-◌, ◌*◌, ◌/◌, ◌<◌, List, [], ◌∷◌, length, map, Option, option_map, Some, None, is_some, IsTrue, ◌↔◌, MatchResult, Result, string_bytes}
+-- What a question to a dictionary returns.
+use Rattle.std.specs.Prelude.{◌≡◌, Bool, true, false, ℕ, ℤ, ◌+◌, ◌-◌, ◌*◌, ◌/◌, ◌<◌, List, [], ◌∷◌}
+use Rattle.std.specs.Prelude.{length, map, Option, option_map, Some, None, is_some, IsTrue, ◌↔◌}
+use Rattle.std.specs.Prelude.{MatchResult, Result, string_bytes}
 use Rattle.std.specs.Str.{IsUtf8}
-use Rattle.cedar_tree.specs.Tree.{number_at}
-use Rattle.cedar_tree.specs.Queries.{Entry, exact, front, predict, prefixes, used, walk}
+use Rattle.cedarwood.specs.Tree.{number_at}
+use Rattle.cedarwood.specs.Queries.{Entry, exact, front, predict, slots_of_tree, walk}
 use Rattle.cedarwood.specs.declared.error.CedarError.{CedarError}
 use Rattle.cedarwood.specs.declared.error.CedarError.TheVariants.{Memory}
-use Rattle.cedar_model.specs.Table.Layouts.{LayoutKind, default_layout}
+use Rattle.cedarwood.specs.Layouts.{LayoutKind, default_layout}
 use Rattle.cedarwood.specs.Words.{keys_of}
 use Rattle.cedarwood.specs.Ranges.{entries_since, entries_with, longest_front}
 use Rattle.cedarwood.specs.RangeWalks.{entries_between}
 use Rattle.cedarwood.specs.Ends.{first_entry, last_entry}
-use Rattle.cedar_format.specs.Tables.{IsTableFile}
-use Rattle.cedarwood.specs.Dictionary.{Dictionary}
+use Rattle.cedarwood.specs.Tables.{IsTableFile}
+use Rattle.cedarwood.specs.Dictionary.{Dictionary, held_slots}
 use Rattle.cedarwood.specs.declared.figures.MemoryStats.{MemoryStats}
 use Rattle.cedar_calls.specs.declared.call.Figure.{Figure}
-use Rattle.cedar_calls.specs.declared.call.Figure.TheVariants.{AllocatedBytes, Capacity, SpareBlocks, UsedSlots}
+use Rattle.cedar_calls.specs.declared.call.Figure.TheVariants.{AllocatedBytes, Capacity}
+use Rattle.cedar_calls.specs.declared.call.Figure.TheVariants.{SearchLimit, SpareBlocks, UsedSlots}
 use Rattle.cedar_calls.specs.declared.call.Question.{Question}
 use Rattle.cedar_calls.specs.declared.call.Question.TheVariants as question
 use Rattle.cedar_calls.specs.declared.answer.Reply.{Reply}
@@ -44,20 +47,17 @@ in_order false es = None
 abbrev pub CollectsRange : {X : Type 0} → Result (Option X) CedarError → (X → List Entry) → Bool → List Entry → Type 0
 CollectsRange result entries ordered es = MatchResult result (λ found. option_map entries found ≡ in_order ordered es) (λ e. (e ≡ Memory) × (ordered ≡ true) × (0 < length es))
 
--- the slots that are held: one for the root, one for each prefix, and one for each number that has a slot of its own
-abbrev pub held_slots : Dictionary → ℕ
-held_slots d = 1 + length (prefixes d.state.tree) + length (walk d.marked)
-
 -- the bytes that so many slots take, with their blocks and the reject values
 abbrev pub bytes_of : ℕ → ℕ
 bytes_of capacity = 10 * capacity + 20 * (capacity / 256) + 514
 
 -- a figure. By default each number has a slot of its own, so that the tree alone says how many slots are held
 abbrev pub IsFigure : LayoutKind → Dictionary → Figure → ℕ → Type 0
-IsFigure layout d UsedSlots n = (n ≡ held_slots d) × (layout ≡ default_layout → n ≡ used d.state.tree)
+IsFigure layout d UsedSlots n = (n ≡ held_slots d) × (layout ≡ default_layout → n ≡ slots_of_tree d.state.tree)
 IsFigure layout d Capacity n = n ≡ d.capacity
 IsFigure layout d AllocatedBytes n = n ≡ bytes_of d.capacity
 IsFigure layout d SpareBlocks n = n ≡ (d.capacity - d.size) / 256
+IsFigure layout d SearchLimit n = n ≡ d.search_limit
 
 -- the figures, all from one moment
 pub record AreStats (layout : LayoutKind) (d : Dictionary) (stats : MemoryStats) : Type 0 where

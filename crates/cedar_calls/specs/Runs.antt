@@ -1,7 +1,7 @@
--- Calls one after another on any number of dictionaries: what each answers, and the dictionaries after it.
+-- Calls one after another on any number of dictionaries: what each returns, and the dictionaries after it.
 use Rattle.std.specs.Prelude.{◌≡◌, ℕ, List, [], ◌∷◌, ◌++◌, slice_get, slice_set, Some, None}
 use Rattle.std.specs.List.{remove}
-use Rattle.cedar_model.specs.Table.Layouts.{LayoutKind}
+use Rattle.cedarwood.specs.Layouts.{LayoutKind}
 use Rattle.cedarwood.specs.Dictionary.{Dictionary, IsValid}
 use Rattle.cedarwood.specs.OnTable.{IsOnTable}
 use Rattle.cedarwood.specs.Words.{entries_of}
@@ -32,7 +32,7 @@ MissesAt before index after = (slice_get before index ≡ None) × (after ≡ be
 abbrev pub DropsAt : List Dictionary → ℕ → List Dictionary → Type 0
 DropsAt before index after = (d : Dictionary) × (slice_get before index ≡ Some d) × (after ≡ remove before index)
 
--- what a call may answer where there are these dictionaries, of one layout and with so many slots each at most, and the dictionaries after
+-- what a call may return where there are these dictionaries, of one layout and with so many slots each at most, and the dictionaries after
 -- it
 abbrev pub IsStep : {A : Type 0} → LayoutKind → ℕ → List Dictionary → Call → Answer A → List Dictionary → Type 0
 IsStep layout slots before (call.New settings) (answer.Made result) after = Makes (IsNew settings) before result after

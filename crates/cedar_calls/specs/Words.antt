@@ -5,10 +5,11 @@ pub use Rattle.cedar_calls.specs.Files.{SavesLoadAgain}
 pub use Rattle.cedar_calls.specs.Keys.{KeysStandAlone, KeysStandAloneInRuns}
 pub use Rattle.cedar_calls.specs.Making.{IsCopy, Joins}
 pub use Rattle.cedar_calls.specs.Plain.{TreesDecide}
-pub use Rattle.cedar_calls.specs.Replies.{AreTexts, Collects, CollectsRange, CollectsSome, IsFigure, IsReply}
+pub use Rattle.cedar_calls.specs.Replies.{AreTexts, Collects, CollectsRange}
+pub use Rattle.cedar_calls.specs.Replies.{CollectsSome, IsFigure, IsReply}
 pub use Rattle.cedar_calls.specs.Runs.{AddsRun, IsRun, IsStep}
-pub use Rattle.cedar_format.specs.Tables.{IsTableFile}
-pub use Rattle.cedar_tree.specs.Queries.{exact, front, predict, walk}
+pub use Rattle.cedarwood.specs.Tables.{IsTableFile}
+pub use Rattle.cedarwood.specs.Queries.{exact, front, predict, walk}
 pub use Rattle.cedarwood.specs.Ends.{first_entry, last_entry}
 pub use Rattle.cedarwood.specs.RangeWalks.{entries_between}
 pub use Rattle.cedarwood.specs.Ranges.{entries_since, entries_with}

@@ -48,6 +48,8 @@ pub enum Changed<A: Allocator> {
     UpdatedBatch(Result<(), RefusedPair>),
     /// Whether there is room for the blocks.
     Reserved(Result<(), CedarError>),
+    /// One search tries no more blocks.
+    SearchLimitSet,
 }
 
 /// What a query returned. If there was no memory to collect a result, it is `Memory`. An empty list needs none.

@@ -8,7 +8,7 @@ use cedarwood::CedarBuilder;
 pub enum Call<'a> {
     /// Make another, empty dictionary with these settings.
     New {
-        /// Whether its labels ascend, and how many failed searches close a block.
+        /// Whether its labels ascend, how many failed searches close a block, and how many blocks one search tries at most.
         settings: CedarBuilder,
     },
     /// Make another dictionary, of pairs whose keys ascend by bytes.
@@ -85,6 +85,8 @@ pub enum Change<'a> {
     UpdateBatch { pairs: &'a [(&'a [u8], i32)] },
     /// Allocate ahead for so many blocks more than are in use.
     Reserve { blocks: usize },
+    /// Let one search for places try so many blocks at most.
+    SetSearchLimit { blocks: usize },
 }
 
 /// A question to a dictionary.
@@ -143,4 +145,6 @@ pub enum Figure {
     AllocatedBytes,
     /// The blocks of 256 slots that can come into use before memory is allocated.
     SpareBlocks,
+    /// The blocks that one search for places tries at most.
+    SearchLimit,
 }

@@ -39,6 +39,10 @@ pub(crate) fn make_change<L: Layout, const SLOTS: usize, A: Allocator + Copy>(
         Change::Build { pairs } => Changed::Built(trie.build_bytes(pairs)),
         Change::UpdateBatch { pairs } => Changed::UpdatedBatch(trie.update_batch(pairs)),
         Change::Reserve { blocks } => Changed::Reserved(trie.try_reserve(*blocks)),
+        Change::SetSearchLimit { blocks } => {
+            trie.set_search_limit(*blocks);
+            Changed::SearchLimitSet
+        }
     }
 }
 

@@ -1,6 +1,7 @@
 //! What follows from a run's steps alone.
 
-ghost use Rattle.cedar_calls.specs.Words.{KeysStandAlone, KeysStandAloneInRuns, RunsAgree, SavesLoadAgain, TreesDecide};
+ghost use Rattle.cedar_calls.specs.Words.{KeysStandAlone, KeysStandAloneInRuns, RunsAgree};
+ghost use Rattle.cedar_calls.specs.Words.{SavesLoadAgain, TreesDecide};
 
 use crate::{Answer, Call, Reply};
 use std::alloc::Allocator;

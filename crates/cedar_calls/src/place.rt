@@ -4,7 +4,7 @@ ghost use Rattle.std.specs.Prelude.{◌<◌, ◌≡◌, IfOk, OnErr, vec_len};
 
 use std::alloc::{AllocError, Allocator};
 
-/// As many places as there are results to come. None need no memory.
+/// As many elements as there are results to come. None need no memory.
 pub(crate) fn places<T: Copy, A: Allocator>(
     alloc: A,
     unset: T,

@@ -1,7 +1,10 @@
 //! Replies of a dictionary.
 
 ghost use Rattle.std.specs.Prelude.{◌++◌, ◌∷◌, ◌≡◌, [], cond, map, OnOk, option_map, string_bytes};
-ghost use Rattle.cedar_calls.specs.Words.{AreTexts, Collects, CollectsRange, CollectsSome, entries_between, entries_since, entries_with, exact, first_entry, front, IsFigure, IsReply, IsTableFile, keys_of, last_entry, predict, walk};
+ghost use Rattle.cedar_calls.specs.Words.{AreTexts, Collects, CollectsRange, CollectsSome};
+ghost use Rattle.cedar_calls.specs.Words.{entries_between, entries_since, entries_with, exact};
+ghost use Rattle.cedar_calls.specs.Words.{first_entry, front, IsFigure, IsReply, IsTableFile};
+ghost use Rattle.cedar_calls.specs.Words.{keys_of, last_entry, predict, walk};
 
 use crate::place::places;
 use crate::{Figure, Question, Reply};
@@ -98,6 +101,7 @@ fn figure_of<L: Layout, const SLOTS: usize, A: Allocator + Copy>(
         Figure::Capacity => trie.node_capacity(),
         Figure::AllocatedBytes => trie.allocated_bytes(),
         Figure::SpareBlocks => trie.spare_blocks(),
+        Figure::SearchLimit => trie.search_limit(),
     }
 }
 

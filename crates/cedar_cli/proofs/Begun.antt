@@ -1,8 +1,8 @@
 -- What a run of the program begins with, and what its arguments ask for.
 use Rattle.std.proofs.Common.{◌≡◌, ℕ, Bool, true, false, List, [], ◌∷◌, Option, Some, None, Bor, not, ◌&&◌, ap, refl, ◌∙◌}
-use Rattle.std.specs.Prelude.{MatchOption, Result, Ok, Err, IfOk, OnOk, bytes_eq, codes, is_some, option_map}
-use Rattle.cedar_tree.specs.Tree.{Tree, empty_tree}
-use Rattle.cedar_model.specs.Table.Layouts.{LayoutKind, default_layout, reduced_layout}
+use Rattle.std.specs.Prelude.{MatchOption, Result, Ok, Err, IfOk, bytes_eq, codes, is_some, option_map}
+use Rattle.cedarwood.specs.Tree.{Tree, empty_tree}
+use Rattle.cedarwood.specs.Layouts.{LayoutKind, default_layout, reduced_layout}
 use Rattle.cedarwood.specs.Dictionary.{Dictionary}
 use Rattle.cedar_cli.specs.Options.{Request, BeginsWith, limit_of, request_besides, empty, with_reduced, with_v1_0, is_new, with_limit, with_load, with_save, request_in, with_any_order}
 use Rattle.cedar_cli.specs.declared.options.Options.{Options}
@@ -44,10 +44,6 @@ asks_load o path given = rw given refl
 pub begins_new : (layout : LayoutKind) (o : Options) (d : Dictionary) → o.load ≡ None → d.state.tree ≡ empty_tree → d.marked ≡ empty_tree → d.state.ordered ≡ o.ordered
     → BeginsWith layout (request_in o) (view_of layout d)
 begins_new layout o d none tree unmarked order = (refl, rw none (seen_new layout d o.ordered tree unmarked order))
-
-pub on_ok : {T E P : Type 0} (r : Result T E) → P → OnOk r P
-on_ok (Ok x) p = p
-on_ok (Err e) p = tt
 
 and_false : (b : Bool) → (b && false) ≡ false
 and_false true = refl

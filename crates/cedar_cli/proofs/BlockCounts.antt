@@ -8,9 +8,9 @@ use Rattle.std.specs.Result.{result_ok}
 use Rattle.hex.specs.Hex.{decode_of}
 use Rattle.hex.specs.declared.error.FromHexError.{FromHexError}
 use Rattle.hex.proofs.HexLemmas.{decode_of-ok}
-use Rattle.cedar_tree.specs.State.{State, stored}
-use Rattle.cedar_tree.specs.Tree.{number_at}
-use Rattle.cedar_tree.proofs.TreeLemmas.{number_at-put_same}
+use Rattle.cedarwood.specs.State.{after_put, State}
+use Rattle.cedarwood.specs.Tree.{number_at}
+use Rattle.cedarwood.proofs.TreeLemmas.{number_at-put_same}
 use Rattle.cedarwood.specs.Dictionary.{Dictionary, Grows, capacity_after}
 use Rattle.cedarwood.proofs.GrowthLemmas.{grows_further, grows_none}
 use Rattle.cedar_cli.specs.Blocks.{GrowsWithin, GrowsBefore}
@@ -98,7 +98,7 @@ back_blocks None Held mid new h held = h
 back_blocks (Some found) Held mid new h held = h held
 
 -- a stored number is held
-pub held_after : (old mid : State) (key : List ℕ) (v : ℤ) → mid ≡ stored old key v → IsSome (number_at mid.tree key)
+pub held_after : (old mid : State) (key : List ℕ) (v : ℤ) → mid ≡ after_put old key v → IsSome (number_at mid.tree key)
 held_after old mid key v done = rw (done, number_at-put_same old.tree old.ordered key v) refl
 
 -- the blocks of an order, by its line

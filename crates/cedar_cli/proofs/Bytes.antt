@@ -225,11 +225,11 @@ pub Advances-kept : (old new : View) (held holds kept : Option (List ℕ)) (text
 Advances-kept old new held holds kept text left h k =
     (h.0, h.1, (h.2.0, Appends-kept held holds kept (answers old h.0) h.2.1 k))
 
--- a call that didn't answer a fault left its device as unfailed as it was
+-- a call that didn't return a fault left its device as unfailed as it was
 pub unfailed_call : (before after : Bool) → after ≡ (before || false) → after ≡ before
 unfailed_call before after h = h ∙ or_false before
 
--- a call that answered a fault leaves its device failed
+-- a call that returned a fault leaves its device failed
 pub failed_call : (before after : Bool) → after ≡ (before || true) → after ≡ true
 failed_call true after h = h
 failed_call false after h = h

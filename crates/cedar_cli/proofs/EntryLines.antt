@@ -4,7 +4,7 @@ use Rattle.std.proofs.lemmas.List.{take_all}
 use Rattle.std.specs.Prelude.{codes, Result, Ok, Err, OnOk, OnErr}
 use Rattle.std.specs.Io.KnownBytes.{Appends}
 use Rattle.hex.specs.Hex.{encode_with, encode_lower, lower_digits}
-use Rattle.cedar_tree.specs.Queries.{Entry}
+use Rattle.cedarwood.specs.Queries.{Entry}
 use Rattle.cedar_cli.specs.Script.{hex_entry_line, hex_entry_lines}
 use Rattle.text_lines.specs.Written.{WritesFront}
 use Rattle.text_lines.proofs.Bytes.{Appends-append, Appends-none, front_after, front_more}

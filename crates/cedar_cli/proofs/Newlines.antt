@@ -39,15 +39,15 @@ open_before (b ∷ rest) =
 pub open_none : (text : List ℕ) → position is_newline text ≡ None → HasNoNewline text
 open_none text e = rw (before_none is_newline text e) (open_before text)
 
--- and so is what stands before the first one
+-- and so is what comes before the first one
 pub open_at : (text : List ℕ) (at : ℕ) → position is_newline text ≡ Some at → HasNoNewline (take at text)
 open_at text at e = rw (before_at is_newline text at e) (open_before text)
 
--- where a byte 10 is found, the first one stands within the text
+-- where a byte 10 is found, the first one is within the text
 inside : (text : List ℕ) (at : ℕ) → position is_newline text ≡ Some at → position_or_len is_newline text < length text
 inside text at e = grind (arith, common_steps)
 
--- a text is what stands before its first byte 10, that byte, and the rest
+-- a text is what comes before its first byte 10, that byte, and the rest
 pub cut_at : (text : List ℕ) (at : ℕ) → position is_newline text ≡ Some at
     → text ≡ (take at text ++ 10 ∷ []) ++ take (length text - (at + 1)) (drop (at + 1) text)
 cut_at text at e =
@@ -118,7 +118,7 @@ gone_further chunk gone rest at whole e =
     whole ∙ ap (λ l. gone ++ l) (cut_at rest at e)
     ∙ sym (append_assoc gone (take at rest ++ 10 ∷ []) (take (length rest - (at + 1)) (drop (at + 1) rest)))
 
--- the first place of a byte, as a search answers it
+-- the first position of a byte, as a search returns it
 pub first_byte : (b : ℕ) (text : List ℕ) (found : Option ℕ) → IsFirstByte (is_byte b) text found → found ≡ position (is_byte b) text
 first_byte b text None none = sym (rw at_end (grind (arith, common_steps))) where
   at_end : position_or_len (is_byte b) text ≡ length text
@@ -134,7 +134,7 @@ first_byte b text (Some at) first = sym (rw at_first (grind (arith, common_steps
 pub none_taken : (t : View) (held : Option (List ℕ)) (line : List ℕ) → Advances t t held held (line ++ []) line
 none_taken t held line = subst (λ (text : List ℕ). Advances t t held held text line) (sym (append-nil line)) (bytes_on t held line)
 
--- where a byte 10 is found, it stands within the text
+-- where a byte 10 is found, it is within the text
 pub newline_within : (text : List ℕ) (found : Option ℕ) → found ≡ position is_newline text → IfSome found (λ at. at < length text)
 newline_within text None e = tt
 newline_within text (Some at) e = (position-Some is_newline text at 0 (sym e)).0

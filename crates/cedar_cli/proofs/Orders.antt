@@ -1,18 +1,17 @@
--- What the dictionary's answers say of an order's reply.
+-- What the dictionary's results say of an order's reply.
 use Rattle.std.proofs.Common.{◌≡◌, ℕ, ℤ, List, [], ◌∷◌, ◌++◌, Option, Some, None, true, ◌==◌, refl, sym, ap, subst, ◌∙◌, length, append_assoc, length-append, arith}
 use Rattle.std.proofs.lemmas.Bool.{false≢true}
-use Rattle.std.specs.Prelude.{codes, Bool, false, ◌&&◌, int_le, pos, if◌then◌else◌, Result, Ok, Err, OnOk, OnErr, IfErr, IfSome, IsSome, is_err, MatchOption, option_map, position}
-use Rattle.std.specs.Prelude.{decimal}
+use Rattle.std.specs.Prelude.{codes, Bool, false, ◌&&◌, int_le, pos, if◌then◌else◌, Result, Ok, Err, OnOk, OnErr, IfErr, IfSome, IsSome, is_err, MatchOption, option_map, position, decimal}
 use Rattle.std.specs.Fmt.{signed_decimal}
-use Rattle.cedar_tree.specs.State.{State, stored, erased}
-use Rattle.cedar_tree.specs.Tree.{Tree, number_at, IsSound}
-use Rattle.cedar_tree.specs.Queries.{exact}
-use Rattle.cedar_tree.proofs.TreeLemmas.{cut-put, put-put, put_held, number_at-put_same}
+use Rattle.cedarwood.specs.State.{State, after_put, after_erase}
+use Rattle.cedarwood.specs.Tree.{Tree, number_at, IsSound}
+use Rattle.cedarwood.specs.Queries.{exact}
+use Rattle.cedarwood.proofs.TreeLemmas.{cut-put, put-put, put_held, number_at-put_same}
 use Rattle.cedarwood.specs.declared.error.CedarError.{CedarError}
 use Rattle.cedarwood.specs.declared.error.CedarError.TheVariants.{EmptyKey, NulByte, InvalidValue, InvalidMaxTrial, DuplicateKey, KeysNotSorted, Memory, SlotLimit}
 use Rattle.cedar_cli.specs.Command.{Order}
 use Rattle.cedarwood.specs.Fault.{fault, key_fault, or_else, value_fault, IsShortage}
-use Rattle.cedar_model.specs.Table.Layouts.{LayoutKind}
+use Rattle.cedarwood.specs.Layouts.{LayoutKind}
 use Rattle.cedarwood.specs.Dictionary.{Dictionary}
 use Rattle.cedar_cli.specs.View.{View, view_of}
 use Rattle.cedar_cli.specs.Script.{Answers, put_text, view_after_order, IsPairFault, figures_text, found_text, reply, Disobeys}
@@ -43,7 +42,7 @@ pub found_reply : (t : Tree) (key : List ℕ) (v : ℤ) (n : ℕ) → ◌≡◌ 
 found_reply t key v n h = let p = exact_found t key v n h in rw (p.0, p.1) refl
 
 -- the answer to an erasure, where the key is held and where it isn't
-pub erased_reply : (s : View) (key : List ℕ) (v : ℤ) → number_at s.state.tree key ≡ Some v → codes "erased" ≡ reply s (Some (Erase, key))
+pub erased_reply : (s : View) (key : List ℕ) (v : ℤ) → number_at s.state.tree key ≡ Some v → codes "after_erase" ≡ reply s (Some (Erase, key))
 erased_reply s key v h = rw h refl
 
 pub absent_reply : (s : View) (key : List ℕ) → number_at s.state.tree key ≡ None → codes "absent" ≡ reply s (Some (Erase, key))
@@ -67,11 +66,6 @@ found_line v n first second e f = rw (e, f) (sym (append_assoc (signed_decimal v
 pub figures_line : (keys slots : ℕ) (first second : List ℕ) → first ≡ decimal keys → second ≡ decimal slots
     → first ++ (codes " " ++ (second ++ 10 ∷ [])) ≡ figures_text keys slots ++ 10 ∷ []
 figures_line keys slots first second e f = rw (e, f) (sym (append_assoc (decimal keys) (32 ∷ decimal slots) (10 ∷ [])))
-
--- a call that was obeyed met no fault
-pub no_fault : {T : Type 0} (f : Option CedarError) (x : T) → IfSome f (λ e. ◌≡◌ {A = Result T CedarError} (Ok x) (Err e)) → f ≡ None
-no_fault None x h = refl
-no_fault (Some e) x h = absurd (cc)
 
 -- one that was refused, but not for memory or slots, met this fault
 pub refused_by : (T : Type 0) (f : Option CedarError) (N : Type 0) (e : CedarError)
@@ -104,14 +98,14 @@ pair_kind (b ∷ key) v e h = at_nul (position (λ c. c == 0) (b ∷ key)) h whe
 -- a value that was stored is taken back
 pub taken_back : (before : Option ℤ) (old mid new : State) (key : List ℕ) (v : ℤ)
     → before ≡ number_at old.tree key → IsSound old.tree → IfSome before (λ w. value_fault w ≡ None) → fault key v ≡ None
-    → mid ≡ stored old key v
-    → MatchOption before (new ≡ erased mid key) (λ w. fault key w ≡ None → IsSome (number_at mid.tree key) → new ≡ stored mid key w)
+    → mid ≡ after_put old key v
+    → MatchOption before (new ≡ after_erase mid key) (λ w. fault key w ≡ None → IsSome (number_at mid.tree key) → new ≡ after_put mid key w)
     → new ≡ old
 taken_back None old mid new key v answer sound range none done back =
-    back ∙ ap (λ s. erased s key) done ∙ ap (λ t. record { tree = t; ordered = old.ordered }) (cut-put old.tree old.ordered key v sound.1 (sym answer))
+    back ∙ ap (λ s. after_erase s key) done ∙ ap (λ t. record { tree = t; ordered = old.ordered }) (cut-put old.tree old.ordered key v sound.1 (sym answer))
 taken_back (Some w) old mid new key v answer sound range none done back =
     back (fault_other key v w none range) held
-    ∙ ap (λ s. stored s key w) done
+    ∙ ap (λ s. after_put s key w) done
     ∙ ap (λ t. record { tree = t; ordered = old.ordered })
     (put-put old.tree old.ordered key v w
     ∙ put_held old.tree old.ordered key w (sym answer)) where
@@ -125,8 +119,8 @@ Disobeys-unanswered fault order old new held same =
 
 -- a value is put back over the one that its key holds
 pub put_back : (r : Result (Unit {0}) CedarError) (old new : State) (key : List ℕ) (v : ℤ)
-    → OnOk r (new ≡ stored old key v) → (fault key v ≡ None → IfErr r (λ e. IsShortage e × (number_at old.tree key ≡ None)))
-    → fault key v ≡ None → IsSome (number_at old.tree key) → new ≡ stored old key v
+    → OnOk r (new ≡ after_put old key v) → (fault key v ≡ None → IfErr r (λ e. IsShortage e × (number_at old.tree key ≡ None)))
+    → fault key v ≡ None → IsSome (number_at old.tree key) → new ≡ after_put old key v
 put_back (Ok x) old new key v done refused fine held = done
 put_back (Err e) old new key v done refused fine held = absurd (not_held (number_at old.tree key) held (refused fine).1) where
   not_held : (n : Option ℤ) → IsSome n → n ≡ None → ⊥
@@ -181,9 +175,9 @@ never_memory P (Err x) h f = let is = h.0 in cc
 pub none_reply : (t : Tree) (key : List ℕ) → None ≡ exact t key → codes "none" ≡ found_text (number_at t key) (length key)
 none_reply t key h = rw (exact_missed t key h) refl
 
--- what an erasure answers was written
+-- the answer of an erasure was written
 pub erased_written : (s : View) (key : List ℕ) (v : ℤ) (held holds : Option (List ℕ)) → number_at s.state.tree key ≡ Some v
-    → Appends held holds (codes "erased" ++ 10 ∷ []) → Appends held holds (reply s (Some (Erase, key)) ++ 10 ∷ [])
+    → Appends held holds (codes "after_erase" ++ 10 ∷ []) → Appends held holds (reply s (Some (Erase, key)) ++ 10 ∷ [])
 erased_written s key v held holds h p = subst (λ (l : List ℕ). Appends held holds (l ++ 10 ∷ [])) (erased_reply s key v h) p
 
 -- an answer that changes nothing was written whole, or not

@@ -145,7 +145,7 @@ state_stays Write old new same = same
 state_stays Memory old new same = all_stays Write old new same
 state_stays SlotLimit old new same = all_stays Write old new same
 
--- so a run that a fault ended early may be told as one that the writer ended
+-- so a run that a fault ended early may be reported as one that the writer ended
 ended_by_write : (slots : ℕ) (d : Dictionary) (fault : ScriptError) (old new : View) (held holds : Option (List ℕ)) (script : List ℕ)
     → EndsEarly slots d fault old new held holds script → EndsEarly slots d Write old new held holds script
 ended_by_write slots d fault old new held holds script h =

@@ -1,6 +1,6 @@
 -- What the parts of a line's text say.
 use Rattle.std.proofs.Common.{◌≡◌, ℕ, ℤ, pos, negsuc, w32, List, [], Some, None, Bool, true, false, cond, ◌&&◌, refl, sym, ap, ◌∙◌, arith, take, drop, length, ◌≤◌, ◌<◌, ◌+◌, ◌-◌, ◌^◌}
-use Rattle.std.proofs.lemmas.Bool.{leb-true, le-leb}
+use Rattle.std.proofs.lemmas.Bool.{leb-true, le-leb, and_parts}
 use Rattle.std.proofs.lemmas.Grind.{common_steps}
 use Rattle.std.proofs.lemmas.List.{take_all, drop_all, length-drop}
 use Rattle.std.proofs.lemmas.Str.{IsUtf8-from_ascii}
@@ -13,7 +13,7 @@ use Rattle.std.specs.Str.Parse.{IsNumeral, ParsesSigned, ParsesUnsigned, digits_
 use Rattle.cedar_cli.specs.Command.{value_of, fits_value}
 use Rattle.text_lines.specs.Lines.{is_digit, is_filled}
 use Rattle.cedar_cli.specs.Options.{fits_limit, limit_of}
-use Rattle.text_lines.proofs.Figures.{at_first, digits_test, filled_test, filled_tested, both, tested_digits, signed_ascii}
+use Rattle.text_lines.proofs.Figures.{at_first, digits_test, filled_test, filled_tested, tested_digits, signed_ascii}
 
 -- where none passes
 pub at_none : (p : ℕ → Bool) (xs : List ℕ) → position p xs ≡ None → length xs ≤ position_or_len p xs
@@ -46,8 +46,8 @@ no_value text never =
     let v = signed_digits_value 10 text in
     (elim (is_filled ds && list_all is_digit ds && fits_value v) as (λ b. (is_filled ds && list_all is_digit ds && fits_value v) ≡ b → None ≡ cond b (Some v) None) [
       | true ↦ λ e.
-          let p = both (is_filled ds && list_all is_digit ds) (fits_value v) e in
-          let q = both (is_filled ds) (list_all is_digit ds) p.0 in
+          let p = and_parts (is_filled ds && list_all is_digit ds) (fits_value v) e in
+          let q = and_parts (is_filled ds) (list_all is_digit ds) p.0 in
           absurd (never ((filled_tested ds q.0, tested_digits ds q.1), fits_tested v p.1))
       | false ↦ λ e. refl
     ]) refl
@@ -77,8 +77,8 @@ no_limit text never =
     let n = digits_value 10 ds in
     (elim (is_filled ds && list_all is_digit ds && fits_limit n) as (λ b. (is_filled ds && list_all is_digit ds && fits_limit n) ≡ b → None ≡ cond b (Some n) None) [
       | true ↦ λ e.
-          let p = both (is_filled ds && list_all is_digit ds) (fits_limit n) e in
-          let q = both (is_filled ds) (list_all is_digit ds) p.0 in
+          let p = and_parts (is_filled ds && list_all is_digit ds) (fits_limit n) e in
+          let q = and_parts (is_filled ds) (list_all is_digit ds) p.0 in
           absurd (never ((filled_tested ds q.0, tested_digits ds q.1), limit_tested n p.1))
       | false ↦ λ e. refl
     ]) refl

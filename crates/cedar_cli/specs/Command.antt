@@ -1,12 +1,15 @@
 -- What a line of a script says.
-use Rattle.std.specs.Prelude.{ℕ, Bool, ◌&&◌, ◌==◌, nat_eq, int_le, if◌then◌else◌, ℤ, pos, negsuc, List, [], ◌∷◌, length, Option, Some, None, option_map, option_and_then}
+use Rattle.std.specs.Prelude.{ℕ, Bool, ◌&&◌, ◌==◌, nat_eq, int_le, if◌then◌else◌, ℤ, pos}
+use Rattle.std.specs.Prelude.{negsuc, List, [], ◌∷◌, length, Option, Some, None}
+use Rattle.std.specs.Prelude.{option_map, option_and_then}
 use Rattle.std.specs.List.{before_first, after_first, list_all}
 use Rattle.std.specs.Result.{result_ok}
 use Rattle.std.specs.Str.Parse.{without_leading_sign, signed_digits_value}
 use Rattle.hex.specs.Hex.{decode_of}
 use Rattle.text_lines.specs.Lines.{is_digit, is_filled}
 use Rattle.cedar_cli.specs.declared.command.Verb.{Verb}
-use Rattle.cedar_cli.specs.declared.command.Verb.TheVariants.{Put, Erase, Exact, Segment, Prefixes, Predict, Entries, Figures}
+use Rattle.cedar_cli.specs.declared.command.Verb.TheVariants.{Put, Erase, Exact, Segment, Prefixes}
+use Rattle.cedar_cli.specs.declared.command.Verb.TheVariants.{Predict, Entries, Figures}
 
 -- what to do, and with which key
 abbrev pub Order : Type 0

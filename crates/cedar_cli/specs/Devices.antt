@@ -1,11 +1,11 @@
--- What is said of a watched reader and a watched writer, each by what its own trait tells of the device inside.
+-- What is said of a watched reader and a watched writer, each by what its own trait reports of the device inside.
 use Rattle.std.specs.Prelude.{◌≡◌, ℕ, ◌<◌, ◌^◌, Bool, ◌||◌, List, length, Option, IfSome}
 use Rattle.std.specs.Io.KnownBytes.{Consumes}
 use Rattle.cedarwood.specs.Words.{Watched}
 use Rattle.cedarwood.specs.WatchedDevice.{device_of}
 use Rattle.cedar_cli.specs.Lines.{HasNoNewline}
 
--- what a writer holds, or what is left in a reader, where its device tells that
+-- what a writer holds, or what is left in a reader, where its device reports that
 abbrev pub held_by : {D : Type 0} → (D → Option (List ℕ)) → Watched D → Option (List ℕ)
 held_by contents watched = contents (device_of watched)
 

@@ -1,6 +1,6 @@
-pub use Rattle.cedar_tree.specs.Tree
-pub use Rattle.cedar_tree.specs.Queries
-pub use Rattle.cedar_tree.specs.State
+pub use Rattle.cedarwood.specs.Tree
+pub use Rattle.cedarwood.specs.Queries
+pub use Rattle.cedarwood.specs.State
 pub use Rattle.cedarwood.specs.Fault
 pub use Rattle.cedarwood.specs.WatchedDevice
 pub use Rattle.cedarwood.specs.Dictionary

@@ -1,10 +1,12 @@
 -- What the program's arguments ask for.
-use Rattle.std.specs.Prelude.{◌≡◌, ℕ, Bool, true, false, not, ◌&&◌, ◌||◌, nat_le, List, [], ◌∷◌, codes, bytes_eq, map, Option, Some, None, MatchOption, is_some, option_map, if◌then◌else◌}
+use Rattle.std.specs.Prelude.{◌≡◌, ℕ, Bool, true, false, not, ◌&&◌, ◌||◌, nat_le, List, [], ◌∷◌}
+use Rattle.std.specs.Prelude.{codes, bytes_eq, map, Option, Some, None, MatchOption, is_some}
+use Rattle.std.specs.Prelude.{option_map, if◌then◌else◌}
 use Rattle.std.specs.Borrow.{Bor}
 use Rattle.std.specs.List.{list_all}
 use Rattle.std.specs.Str.Parse.{without_leading_plus, digits_value}
-use Rattle.cedar_tree.specs.Tree.{empty_tree}
-use Rattle.cedar_model.specs.Table.Layouts.{LayoutKind, default_layout, reduced_layout}
+use Rattle.cedarwood.specs.Tree.{empty_tree}
+use Rattle.cedarwood.specs.Layouts.{LayoutKind, default_layout, reduced_layout}
 use Rattle.cedarwood.specs.Limits.{default_load_limit}
 use Rattle.text_lines.specs.Lines.{is_digit, is_filled}
 use Rattle.cedar_cli.specs.View.{View}
@@ -76,7 +78,7 @@ abbrev pub is_new : List ℕ → List ℕ → Bool → Bool
 is_new word option given = bytes_eq word option && not given
 
 -- What some arguments ask for beside what has been asked: `--unordered`, `--v1-0`, `--reduced`, and `--load`, `--save` and `--limit`, each
--- with the argument after it as its path or its number. Each stands once at most, `--unordered` not beside `--load`, `--v1-0` only beside
+-- with the argument after it as its path or its number. Each occurs once at most, `--unordered` not beside `--load`, `--v1-0` only beside
 -- `--save`, and `--limit` only beside `--load`.
 abbrev pub request_besides : Request → List (List ℕ) → Option Request
 request_besides a [] = if is_excluded a then None else Some a

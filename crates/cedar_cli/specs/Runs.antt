@@ -1,7 +1,7 @@
--- What a whole run writes and leaves, by what its devices tell.
+-- What a whole run writes and leaves, by what its devices report.
 use Rattle.std.specs.Prelude.{List, ℕ, Option}
 use Rattle.cedarwood.specs.Words.{Watched}
-use Rattle.cedar_model.specs.Table.Layouts.{LayoutKind}
+use Rattle.cedarwood.specs.Layouts.{LayoutKind}
 use Rattle.cedarwood.specs.Dictionary.{Dictionary}
 use Rattle.cedar_cli.specs.declared.script.ScriptError.{ScriptError}
 use Rattle.cedar_cli.specs.Devices.{OnComing, OnInput, OnWriter}

@@ -1,13 +1,16 @@
 -- What a script's run writes, and what it leaves: first of one order, then of the lines of a script,
--- and last of a run that has come to some place in its script.
-use Rattle.std.specs.Prelude.{◌≡◌, ◌⊎◌, ℕ, ◌<◌, Bool, true, false, if◌then◌else◌, ℤ, List, [], ◌∷◌, ◌++◌, length, Option, Some, None, Result, Err, OnOk, IfErr, IsSome, MatchOption, codes, decimal, is_some}
+-- and last of a run that has come to some position in its script.
+use Rattle.std.specs.Prelude.{◌≡◌, ◌⊎◌, ℕ, ◌<◌, Bool, true, false, if◌then◌else◌, ℤ, List, [], ◌∷◌}
+use Rattle.std.specs.Prelude.{◌++◌, length, Option, Some, None, Result, Err, OnOk, IfErr, IsSome}
+use Rattle.std.specs.Prelude.{MatchOption, codes, decimal, is_some}
 use Rattle.std.specs.Fmt.{signed_decimal}
 use Rattle.std.specs.Io.KnownBytes.{Appends}
-use Rattle.cedar_tree.specs.Tree.{number_at}
-use Rattle.cedar_tree.specs.Queries.{Entry, front, predict, walk}
-use Rattle.cedar_tree.specs.State.{erased, stored}
-use Rattle.cedar_model.specs.Table.Layouts.{LayoutKind}
-use Rattle.cedar_cli.specs.declared.command.Verb.TheVariants.{Put, Erase, Exact, Segment, Prefixes, Predict, Entries, Figures}
+use Rattle.cedarwood.specs.Tree.{number_at}
+use Rattle.cedarwood.specs.Queries.{Entry, front, predict, walk}
+use Rattle.cedarwood.specs.State.{after_erase, after_put}
+use Rattle.cedarwood.specs.Layouts.{LayoutKind}
+use Rattle.cedar_cli.specs.declared.command.Verb.TheVariants.{Put, Erase, Exact, Segment, Prefixes}
+use Rattle.cedar_cli.specs.declared.command.Verb.TheVariants.{Predict, Entries, Figures}
 use Rattle.cedar_cli.specs.declared.script.ScriptError.{ScriptError}
 use Rattle.cedar_cli.specs.declared.script.ScriptError.TheVariants.{Read, Write, Memory, SlotLimit}
 use Rattle.cedarwood.specs.declared.error.CedarError.{CedarError}
@@ -93,7 +96,7 @@ figures_text keys slots = decimal keys ++ 32 ∷ decimal slots
 abbrev pub reply : View → Option Order → List ℕ
 reply s None = codes "bad line"
 reply s (Some (Put v, key)) = put_text (fault key v)
-reply s (Some (Erase, key)) = if holds_path s key then codes "erased" else codes "absent"
+reply s (Some (Erase, key)) = if holds_path s key then codes "after_erase" else codes "absent"
 reply s (Some (Exact, key)) = found_text (number_at s.state.tree key) (length key)
 reply s (Some (Segment, key)) = tokens_text (segments s.state.tree key)
 reply s (Some (Prefixes, key)) = pairs_text (front s.state.tree key)
@@ -108,13 +111,13 @@ view_after_order s (Some (Put v, key)) = if is_some (fault key v) then s else pu
 view_after_order s (Some (Erase, key)) = cut_in s key
 view_after_order s (Some (verb, key)) = s
 
--- What a device holds is known or not: `Some` bytes, or `None` where it doesn't tell. Below, `held` is what the
+-- What a device holds is known or not: `Some` bytes, or `None` where it doesn't report it. Below, `held` is what the
 -- writer held at first, and `holds` what it holds in the end.
 
 -- what the key held before is put back: it is taken away again, or holds that value
 abbrev pub IsTakenBack : Option ℤ → List ℕ → Dictionary → Dictionary → Type 0
 IsTakenBack held key before after =
-    MatchOption held (after.state ≡ erased before.state key) (λ v. fault key v ≡ None → IsSome (number_at before.state.tree key) → after.state ≡ stored before.state key v)
+    MatchOption held (after.state ≡ after_erase before.state key) (λ v. fault key v ≡ None → IsSome (number_at before.state.tree key) → after.state ≡ after_put before.state key v)
 
 -- an order was obeyed, and its answer written whole
 abbrev pub Obeys : Option Order → View → View → Option (List ℕ) → Option (List ℕ) → Type 0
@@ -135,7 +138,7 @@ pub record Answers (layout : LayoutKind) (order : Option Order) (before after : 
   pub ok : OnOk result (Obeys order (view_of layout before) (view_of layout after) held holds)
   pub err : IfErr result (λ fault. Disobeys fault order (view_of layout before) (view_of layout after) held holds)
 
--- Lines are answered, or the writer failed, of which the tests before a call and after it tell; or memory or slots are wanting, and then the
+-- Lines are answered, or the writer failed, which the tests before a call and after it say; or memory or slots are wanting, and then the
 -- writer did not fail. The reader isn't asked.
 pub record AnswersOrFails (before after : Bool) (result : Result (Unit {0}) ScriptError) : Type 0 where
   pub unfailed : OnOk result (after ≡ before)
@@ -150,7 +153,7 @@ lists_all None = false
 lists_all (Some (Entries, key)) = true
 lists_all (Some (verb, key)) = false
 
--- An order may be told that memory is wanting: it lists all entries, and so copies keys, or the dictionary has no block spare and may have
+-- An order may fail for want of memory: it lists all entries, and so copies keys, or the dictionary has no block spare and may have
 -- more slots.
 abbrev pub MayLackMemory : ℕ → Option Order → Dictionary → Type 0
 MayLackMemory slots order d = (lists_all order ≡ true) ⊎ ((d.size ≡ d.capacity) × (d.capacity < slots))
@@ -159,7 +162,7 @@ MayLackMemory slots order d = (lists_all order ≡ true) ⊎ ((d.size ≡ d.capa
 abbrev pub LineMayLackMemory : ℕ → List ℕ → Dictionary → Type 0
 LineMayLackMemory slots line d = (8192 < length line) ⊎ MayLackMemory slots (order_of line) d
 
--- this fault may end a run at the first of these lines: if it is want of memory, the line may be told that
+-- this fault may end a run at the first of these lines: if it is want of memory, the line may fail with that
 abbrev pub MayStop : ℕ → Dictionary → ScriptError → List (List ℕ) → Type 0
 MayStop slots d Memory (line ∷ lines) = LineMayLackMemory slots line d
 MayStop slots d fault lines = Unit {0}

@@ -1,4 +1,4 @@
--- Why a run of the program ended early, and what is told of it.
+-- Why a run of the program ended early, and what is reported of it.
 use Rattle.std.specs.Prelude.{◌≡◌, ◌⊎◌, ℕ, Bool, true, is_some, List, Option, codes}
 use Rattle.cedarwood.specs.WatchedDevice.{has_failed}
 use Rattle.cedarwood.specs.Words.{Watched}
@@ -9,14 +9,14 @@ use Rattle.cedar_cli.specs.declared.program.Fault.TheVariants.{Load, Save, Scrip
 use Rattle.cedar_cli.specs.declared.script.ScriptError.{ScriptError}
 use Rattle.cedar_cli.specs.declared.script.ScriptError.TheVariants.{Memory, Read, SlotLimit, Write}
 
--- the line that tells of a fault of a script
+-- the line that reports a fault of a script
 abbrev pub fault_text : ScriptError → List ℕ
 fault_text Read = codes "cedar: read fault\n"
 fault_text Write = codes "cedar: write fault\n"
 fault_text Memory = codes "cedar: out of memory\n"
 fault_text SlotLimit = codes "cedar: slot limit\n"
 
--- What a fault of a script shows of its devices, of which the tests before a run (`unread`, of the reader) and after it tell: a reader or a
+-- What a fault of a script shows of its devices, by the tests before a run (`unread`, of the reader) and after it: a reader or a
 -- writer that has failed; or memory or slots were wanting, and then no read of the run failed.
 abbrev pub ShowsCause : Bool → Bool → Bool → ScriptError → Type 0
 ShowsCause unread read written Read = read ≡ true

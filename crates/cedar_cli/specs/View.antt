@@ -1,12 +1,13 @@
 -- What a script sees of a dictionary, and how storing and removing a key change that.
-use Rattle.std.specs.Prelude.{ℕ, ◌+◌, ℤ, Bool, true, false, not, ◌&&◌, ◌||◌, ◌==◌, if◌then◌else◌, List, [], ◌∷◌, length, is_some}
-use Rattle.cedar_tree.specs.Tree.{Tree, is_bare, number_at}
-use Rattle.cedar_tree.specs.Queries.{is_path, node_at, prefixes, used, walk}
-use Rattle.cedar_tree.specs.State.{State, stored, erased}
-use Rattle.cedar_model.specs.Table.Layouts.{LayoutKind, default_layout, reduced_layout}
+use Rattle.std.specs.Prelude.{ℕ, ◌+◌, ℤ, Bool, true, false, not, ◌&&◌, ◌||◌, ◌==◌}
+use Rattle.std.specs.Prelude.{if◌then◌else◌, List, [], ◌∷◌, length, is_some}
+use Rattle.cedarwood.specs.Tree.{Tree, is_bare, number_at}
+use Rattle.cedarwood.specs.Queries.{is_path, node_at, prefixes, slots_of_tree, walk}
+use Rattle.cedarwood.specs.State.{State, after_put, after_erase}
+use Rattle.cedarwood.specs.Layouts.{LayoutKind, default_layout, reduced_layout}
 use Rattle.cedarwood.specs.Dictionary.{Dictionary, some_numbers}
 
--- its layout, the state that its answers come from, and the tree with just those numbers that have slots of their own
+-- its layout, the state that its results come from, and the tree with just those numbers that have slots of their own
 pub record View : Type 0 where
   pub layout : LayoutKind
   pub state : State
@@ -23,7 +24,7 @@ view_of layout d = record { layout = layout; state = d.state; marked = marked_in
 -- how many slots are held: one for the root, one for each nonempty front of a key, and one for each number that has a slot of
 -- its own, which by default is each
 abbrev pub slots_in : LayoutKind → View → ℕ
-slots_in default_layout s = used s.state.tree
+slots_in default_layout s = slots_of_tree s.state.tree
 slots_in reduced_layout s = 1 + length (prefixes s.state.tree) + length (walk s.marked)
 
 abbrev pub slots_held : View → ℕ
@@ -34,7 +35,7 @@ abbrev pub marked_by : LayoutKind → (List ℕ → Bool) → Tree → Tree
 marked_by default_layout test t = t
 marked_by reduced_layout test t = some_numbers test t
 
--- this state, where the numbers that have slots of their own are told by a test
+-- this state, where a test says which numbers have slots of their own
 abbrev pub with_state : View → (List ℕ → Bool) → State → View
 with_state s test state = record { layout = s.layout; state = state; marked = marked_by s.layout test state.tree }
 
@@ -64,8 +65,8 @@ has_slot_beside s key path =
 
 -- what is seen once a key is stored
 abbrev pub put_in : View → List ℕ → ℤ → View
-put_in s key v = with_state s (has_slot_beside s key) (stored s.state key v)
+put_in s key v = with_state s (has_slot_beside s key) (after_put s.state key v)
 
 -- what is seen once a key is removed
 abbrev pub cut_in : View → List ℕ → View
-cut_in s key = with_state s (λ path. not (is_path path key) && has_slot s path) (erased s.state key)
+cut_in s key = with_state s (λ path. not (is_path path key) && has_slot s path) (after_erase s.state key)

@@ -1,7 +1,11 @@
 //! The answers of queries, as lines: entries, pairs of numbers, and tokens. They allocate only what an iteration does.
 
-ghost use Rattle.std.specs.Prelude.{[], ℕ, ℤ, ◌*◌, ◌++◌, ◌∷◌, ◌≡◌, codes, length, List, MatchOption, OnErr, OnOk};
-ghost use Rattle.cedar_cli.specs.Words.{AnswersOrFails, BreaksOff, colon_field, encode_lower, has_failed, hex_entry_line, hex_entry_lines, number_text, pair_text, pairs_text, spaced_texts, token_text, tokens_text, Writes, WritesOrFails};
+ghost use Rattle.std.specs.Prelude.{[], ℕ, ℤ, ◌*◌, ◌++◌, ◌∷◌, ◌≡◌, codes, length, List};
+ghost use Rattle.std.specs.Prelude.{MatchOption, OnErr, OnOk};
+ghost use Rattle.cedar_cli.specs.Words.{AnswersOrFails, BreaksOff, colon_field, encode_lower};
+ghost use Rattle.cedar_cli.specs.Words.{has_failed, hex_entry_line, hex_entry_lines, number_text};
+ghost use Rattle.cedar_cli.specs.Words.{pair_text, pairs_text, spaced_texts, token_text};
+ghost use Rattle.cedar_cli.specs.Words.{tokens_text, Writes, WritesOrFails};
 
 use crate::script::ScriptError;
 use crate::write::{write_both, write_line, write_whole};

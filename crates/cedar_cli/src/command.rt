@@ -1,7 +1,9 @@
 //! A line of a script, read as an order, and why one isn't read so.
 
-ghost use Rattle.std.specs.Prelude.{◌*◌, ◌≡◌, ◌≤◌, IfSome, is_some, length, not, option_map, position, take};
-ghost use Rattle.cedar_cli.specs.Words.{after_first, before_first, is_space, key_of, order_of, value_of, with_key};
+ghost use Rattle.std.specs.Prelude.{◌*◌, ◌≡◌, ◌≤◌, IfSome, is_some, length, not};
+ghost use Rattle.std.specs.Prelude.{option_map, position, take};
+ghost use Rattle.cedar_cli.specs.Words.{after_first, before_first, is_space, key_of};
+ghost use Rattle.cedar_cli.specs.Words.{order_of, value_of, with_key};
 
 use cedar_hex::decode_into;
 use memchr::memchr;
@@ -132,6 +134,8 @@ pub fn explain_line(line: &[u8], room: &mut [u8]) -> Option<&'static str>
 
     //= A reason is given for exactly those lines that are no order (always).
     ensures told { is_some result ≡ not (is_some (order_of line.now)) }
+
+    //= The room keeps its length.
     ensures len { length room.new ≡ length room.old }
 {
     match parse_line(line, room) {

@@ -1,7 +1,8 @@
 //! The program's options.
 
 ghost use Rattle.std.specs.Prelude.{◌≡◌, option_map};
-ghost use Rattle.cedar_cli.specs.Words.{is_excluded, limit_of, limit_or_default, request_besides, request_in, request_of, words};
+ghost use Rattle.cedar_cli.specs.Words.{is_excluded, limit_of, limit_or_default, request_besides};
+ghost use Rattle.cedar_cli.specs.Words.{request_in, request_of, words};
 
 use cedarwood::DEFAULT_LOAD_MEMORY_LIMIT;
 

@@ -1,12 +1,18 @@
 //! The program: arguments, files and three streams in, a status out.
 
-ghost use Rattle.std.specs.Prelude.{◌<◌, ◌↔◌, ◌≡◌, ◌≤◌, Bool, IfErr, IfOk, IfSome, is_some, IsTrue, None, OnOk, true};
-ghost use Rattle.cedar_cli.specs.Words.{AnswersAll, AnswersUpTo, asked_limit, AsksForFile, BeginsWith, EndsBy, fault_text, FitsInMemory, has_failed, IsReported, IsSlotLimit, LacksWithin, layout_byte, OnAsked, OnBegun, Request, request_in, request_of, ShowsCause, TellsCause, view_of, WritesOrFailed};
+ghost use Rattle.std.specs.Prelude.{◌<◌, ◌↔◌, ◌≡◌, ◌≤◌, Bool, IfErr, IfOk, IfSome};
+ghost use Rattle.std.specs.Prelude.{is_some, IsTrue, None, OnOk, true};
+ghost use Rattle.cedar_cli.specs.Words.{AnswersAll, AnswersUpTo, asked_limit, AsksForFile};
+ghost use Rattle.cedar_cli.specs.Words.{BeginsWith, EndsBy, fault_text, FitsInMemory, has_failed};
+ghost use Rattle.cedar_cli.specs.Words.{IsReported, IsSlotLimit, LacksWithin, layout_byte, OnAsked};
+ghost use Rattle.cedar_cli.specs.Words.{OnBegun, Request, request_in, request_of, ShowsCause};
+ghost use Rattle.cedar_cli.specs.Words.{TellsCause, view_of, WritesOrFailed};
 
 use crate::options::{Options, limit_or_default, options_of};
 use crate::script::{ScriptError, run_script};
 use cedarwood::{
-    CedarBuilder, CedarPersistenceError, DefaultLayout, Layout, ReducedLayout, Trie, Watched,
+    CedarBuilder, CedarPersistenceError, DefaultLayout, Layout, MOST_SLOTS, ReducedLayout, Trie,
+    Watched,
 };
 use std::alloc::Allocator;
 use std::io::{Read, Write};
@@ -89,7 +95,7 @@ pub fn run_program<F: Files, A: Allocator + Copy, R: Read, W: Write, E: Write>(
     //= It is 3 only if the arguments ask for a load or a save (always). [also run_program_with; by AsksForFile]
     ensures refused { result ≡ 3 → IfSome (request_of arguments.now) AsksForFile }
 {
-    run_program_with::<1073741824, F, A, R, W, E>(alloc, files, arguments, reader, writer, errors)
+    run_program_with::<MOST_SLOTS, F, A, R, W, E>(alloc, files, arguments, reader, writer, errors)
 }
 
 /// The same for a dictionary of at most `SLOTS` slots. Its clauses are those of [`run_program`].

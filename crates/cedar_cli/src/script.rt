@@ -1,7 +1,11 @@
 //! A run of a script: lines in, answers out.
 
-ghost use Rattle.std.specs.Prelude.{◌||◌, ◌++◌, ◌+◌, ◌<◌, ◌∷◌, ◌≡◌, ◌≤◌, [], false, IfErr, IfOk, IfSome, length, OnErr, OnOk, position, true, vec_capacity};
-ghost use Rattle.cedar_cli.specs.Words.{AdvancesBy, Answers, AnswersOrFails, EndsInput, FinishesAll, FinishesComing, GrowsBefore, GrowsWithin, has_failed, HasLineRoom, HasNoNewline, held_by, is_newline, LineMayLackMemory, OnWriter, order_of, StopsOn};
+ghost use Rattle.std.specs.Prelude.{◌||◌, ◌++◌, ◌+◌, ◌<◌, ◌∷◌, ◌≡◌, ◌≤◌, [], false, IfErr, IfOk};
+ghost use Rattle.std.specs.Prelude.{IfSome, length, OnErr, OnOk, position, true, vec_capacity};
+ghost use Rattle.cedar_cli.specs.Words.{AdvancesBy, Answers, AnswersOrFails, EndsInput};
+ghost use Rattle.cedar_cli.specs.Words.{FinishesAll, FinishesComing, GrowsBefore, GrowsWithin};
+ghost use Rattle.cedar_cli.specs.Words.{has_failed, HasLineRoom, HasNoNewline, held_by, is_newline};
+ghost use Rattle.cedar_cli.specs.Words.{LineMayLackMemory, OnWriter, order_of, StopsOn};
 
 use crate::flushes::{Flushes, flush_answers};
 use crate::verbs::answer_line;
@@ -56,7 +60,7 @@ pub fn run_script<L: Layout, const SLOTS: usize, A: Allocator + Copy, R: Read, W
 ) -> Result<(), ScriptError>
     //= `Ok`: the answers of all lines of the input were written, nothing else was, and the dictionary's state and marks are those of all
     //  lines.
-    //= Among the answers: that of `#` has how many keys are held and how many slots. By default these are `used` of the tree, and in the
+    //= Among the answers: that of `#` has how many keys are held and how many slots. By default these are `slots_of_tree`, and in the
     //  reduced layout one, plus its prefixes, plus the numbers that have slots of their own. [by answers, reply, slots_held]
     //= Which numbers have slots of their own is given line by line, by the keys that were stored and erased (`put_in`, `cut_in`). [by
     //  view_after_order]
@@ -105,7 +109,7 @@ pub fn run_script<L: Layout, const SLOTS: usize, A: Allocator + Copy, R: Read, W
     outcome
 }
 
-/// Runs each line of what the reader has left. A flush that fails doesn't end it, and is told in `flushes`.
+/// Runs each line of what the reader has left. A flush that fails doesn't end it, and is reported in `flushes`.
 fn answer_input<L: Layout, const SLOTS: usize, A: Allocator + Copy, R: Read, W: Write>(
     alloc: A,
     trie: &mut Trie<L, SLOTS, A>,

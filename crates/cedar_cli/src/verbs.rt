@@ -1,7 +1,11 @@
 //! The answer to one line. A line whose answer isn't written whole changes no key and no value.
 
-ghost use Rattle.std.specs.Prelude.{◌*◌, ◌++◌, ◌<◌, ◌∷◌, ◌≡◌, ◌≤◌, [], IsSome, length, MatchOption, OnErr, OnOk, Some};
-ghost use Rattle.cedar_cli.specs.Words.{Answers, AnswersOrFails, BreaksOff, figures_text, found_text, Grows, GrowsWithin, has_failed, held_by, IsPairFault, IsTakenBack, MayLackMemory, number_at, order_of, put_text, Writes, WritesOrFails};
+ghost use Rattle.std.specs.Prelude.{◌*◌, ◌++◌, ◌<◌, ◌∷◌, ◌≡◌, ◌≤◌, [], IsSome, length};
+ghost use Rattle.std.specs.Prelude.{MatchOption, OnErr, OnOk, Some};
+ghost use Rattle.cedar_cli.specs.Words.{Answers, AnswersOrFails, BreaksOff, figures_text};
+ghost use Rattle.cedar_cli.specs.Words.{found_text, Grows, GrowsWithin, has_failed, held_by};
+ghost use Rattle.cedar_cli.specs.Words.{IsPairFault, IsTakenBack, MayLackMemory, number_at};
+ghost use Rattle.cedar_cli.specs.Words.{order_of, put_text, Writes, WritesOrFails};
 
 use crate::answers::{write_entries, write_pairs, write_tokens};
 use crate::command::{Verb, parse_line};

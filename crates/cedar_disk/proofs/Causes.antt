@@ -1,4 +1,4 @@
--- That a failure, or want of room, is told only where a call has failed.
+-- That a failure, or want of room, is reported only where a call has failed.
 use Rattle.std.proofs.Common.{◌≡◌, ◌<◌, ◌≤◌, ℕ, suc, List, ◌∷◌, sym, subst, arith}
 use Rattle.std.specs.Prelude.{Result, Ok, Err, OnErr, is_ok}
 use Rattle.std.proofs.lemmas.Result.{IfErr-at_err}

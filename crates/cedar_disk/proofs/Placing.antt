@@ -2,14 +2,14 @@
 use Rattle.std.specs.Prelude.{◌&&◌, ◌==◌, if◌then◌else◌, IsTrue}
 use Rattle.std.proofs.Common.{◌≡◌, ◌⊎◌, inl, inr, ⊎_elim, ℕ, Bool, true, false, List, [], ◌∷◌, Some, sym, ◌∙◌, ap, subst}
 use Rattle.std.proofs.lemmas.Bool.{false≢true}
-use Rattle.cedar_disk.specs.Calls.{Call, MayLeave, NextLeft, is_usable_after, named, seen_after, synced, took_name}
+use Rattle.cedar_disk.specs.Calls.{Call, MayLeave, NextLeft, is_usable_after, folder_sync_call, seen_after, sync_call, took_name}
 use Rattle.cedar_disk.specs.Whole.{AlwaysLeaves, Content, IsHalfPlaced, IsKeptOrReplaced, IsPlaced, IsWholeBeside, IsUnplacedAt, HasFile, LeftAt, PathLeaves, WholeFilesAreSafe, asked_after, placed_after}
 use Rattle.cedar_disk.proofs.Steps.{synced_only}
 
 -- ---- the new file
 
 -- once it is synced, it is ready for its name
-pub ready : (bytes : List ℕ) (old new : List Call) → asked_after old ≡ false → seen_after old ≡ bytes → IsTrue (is_usable_after old) → new ≡ synced true ∷ old → IsWholeBeside bytes new
+pub ready : (bytes : List ℕ) (old new : List Call) → asked_after old ≡ false → seen_after old ≡ bytes → IsTrue (is_usable_after old) → new ≡ sync_call true ∷ old → IsWholeBeside bytes new
 ready bytes old new beside seen usable is =
     subst (λ (l : List Call). IsWholeBeside bytes l) (sym is)
     (record { beside = beside; seen = seen; durable = λ c left. synced_only old usable c left ∙ seen })
@@ -42,8 +42,8 @@ module _ (before : Content → Bool) (path bytes : List ℕ) where
     took_has : (ok : Bool) (d : List ℕ) → MayLeave (took_name path ok ∷ earlier) d → d ≡ bytes
     took_has ok d left = is.durable d left
 
-    named_has : (ok : Bool) (d : List ℕ) → MayLeave (named ok ∷ took_name path true ∷ earlier) d → d ≡ bytes
-    named_has ok = takes (ok && is_usable_after (named ok ∷ took_name path true ∷ earlier))
+    named_has : (ok : Bool) (d : List ℕ) → MayLeave (folder_sync_call ok ∷ took_name path true ∷ earlier) d → d ≡ bytes
+    named_has ok = takes (ok && is_usable_after (folder_sync_call ok ∷ took_name path true ∷ earlier))
       where
         takes : (b : Bool) (d : List ℕ) → NextLeft 5 0 b [] (seen_after earlier) (MayLeave (took_name path true ∷ earlier)) d → d ≡ bytes
         takes true d now = now ∙ is.seen
@@ -60,12 +60,12 @@ module _ (before : Content → Bool) (path bytes : List ℕ) where
     took_always ok =
         ((λ c left. either (placed_after (took_name path ok ∷ earlier)) (MayLeave (took_name path ok ∷ earlier)) c (took_has ok) left), beside_always earlier is.beside)
 
-    named_always : (ok : Bool) → AlwaysLeaves before OldOrNew (named ok ∷ took_name path true ∷ earlier)
+    named_always : (ok : Bool) → AlwaysLeaves before OldOrNew (folder_sync_call ok ∷ took_name path true ∷ earlier)
     named_always ok =
-        ((λ c left. either (placed_after (named ok ∷ took_name path true ∷ earlier)) (MayLeave (named ok ∷ took_name path true ∷ earlier)) c (named_has ok) left), took_always true)
+        ((λ c left. either (placed_after (folder_sync_call ok ∷ took_name path true ∷ earlier)) (MayLeave (folder_sync_call ok ∷ took_name path true ∷ earlier)) c (named_has ok) left), took_always true)
 
-    placed_new : (c : Content) → PathLeaves before (named true ∷ took_name path true ∷ earlier) c → c ≡ Some bytes
-    placed_new c left = leads (MayLeave (named true ∷ took_name path true ∷ earlier)) c (named_has true) left
+    placed_new : (c : Content) → PathLeaves before (folder_sync_call true ∷ took_name path true ∷ earlier) c → c ≡ Some bytes
+    placed_new c left = leads (MayLeave (folder_sync_call true ∷ took_name path true ∷ earlier)) c (named_has true) left
 
   half_always : (calls : List Call) → IsHalfPlaced path bytes calls → AlwaysLeaves before OldOrNew calls
   half_always calls half =

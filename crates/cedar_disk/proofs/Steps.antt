@@ -1,26 +1,23 @@
 -- What one call more does to what a crash may leave.
 use Rattle.std.specs.Prelude.{◌&&◌, IsTrue}
-use Rattle.std.proofs.Common.{◌≡◌, ◌⊎◌, inl, inr, ⊎_elim, ℕ, zero, suc, ◌+◌, ◌<◌, ◌≤◌, Bool, true, false, List, [], ◌∷◌, ◌++◌, length, take, drop, refl, sym, ◌∙◌, ap, subst, arith, length-append, length-take-le}
-use Rattle.std.proofs.lemmas.Bool.{and_parts, false≢true, leb-true}
+use Rattle.std.proofs.Common.{◌≡◌, ◌⊎◌, inl, inr, ⊎_elim, ℕ, zero, suc, ◌+◌, ◌<◌, ◌≤◌, Bool, true, false, List, [], ◌∷◌, ◌++◌, length, take, drop, refl, sym, ap, subst, arith, length-append, length-take-le}
+use Rattle.std.proofs.lemmas.Bool.{and_parts, false≢true, leb-true, and_from}
 use Rattle.cedar_journal.specs.Device.{Cut, Elapses, Follows, LeavesOnly, Only, Torn}
 use Rattle.cedar_journal.proofs.Moments as moments
 use Rattle.cedar_journal.proofs.Tears.{cut_same, cut_taken, torn_held, torn_same}
-use Rattle.cedar_disk.specs.Calls.{Call, LeftSince, MayLeave, NextLeft, CallState, all_within, faults_in, is_named_after, is_usable_after, named, next_seen, next_state, overlaid, refused_call, renamed, seen_after, shortened, state_after, synced, within_by, written}
+use Rattle.cedar_disk.specs.Calls.{Call, LeftSince, MayLeave, NextLeft, CallState, all_within, faults_in, is_named_after, is_usable_after, folder_sync_call, next_seen, next_state, overlay, refused_call, rename_call, seen_after, truncate_call, state_after, sync_call, within_by, write_call}
 use Rattle.cedar_disk.specs.Laws.{counts_now, only_now}
 use Rattle.cedar_disk.specs.Runs.{IsUnplaced}
 
-pub both : (a b : Bool) → a ≡ true → b ≡ true → (a && b) ≡ true
-both a b x y = ap (λ t. t && b) x ∙ y
-
 -- ---- writes and cuts of one file
 
-pub overlaid_length : (at : ℕ) (bytes file : List ℕ) → at ≤ length file → length (overlaid file at bytes) ≡ at + length bytes + length (drop (at + length bytes) file)
+pub overlaid_length : (at : ℕ) (bytes file : List ℕ) → at ≤ length file → length (overlay file at bytes) ≡ at + length bytes + length (drop (at + length bytes) file)
 overlaid_length at bytes file within =
     let front : length (take at file) ≡ at = length-take-le at file within in
     omega (arith, front, length-append (take at file) bytes, length-append (take at file ++ bytes) (drop (at + length bytes) file))
 
-torn_overlaid : (at : ℕ) (bytes file : List ℕ) → at ≤ length file → Torn at (length bytes) file (overlaid file at bytes)
-torn_overlaid at bytes file within = torn_held at bytes file (overlaid file at bytes) within refl
+torn_overlaid : (at : ℕ) (bytes file : List ℕ) → at ≤ length file → Torn at (length bytes) file (overlay file at bytes)
+torn_overlaid at bytes file within = torn_held at bytes file (overlay file at bytes) within refl
 
 -- ---- A crash may leave what a read returns: so the model never says that there can be none.
 
@@ -65,30 +62,30 @@ stays ((suc kind, at, ok, bytes) ∷ earlier) within usable =
     (stays earlier (were_within kind at (seen_after earlier) (all_within earlier) within)) within usable
 
 -- behind a sync the disk has what a read returns
-pub synced_only : (calls : List Call) → IsTrue (is_usable_after calls) → Only (seen_after calls) (MayLeave (synced true ∷ calls))
+pub synced_only : (calls : List Call) → IsTrue (is_usable_after calls) → Only (seen_after calls) (MayLeave (sync_call true ∷ calls))
 synced_only calls usable c left =
-    let flag : (is_usable_after calls && true) ≡ true = both _ _ usable refl in
+    let flag : (is_usable_after calls && true) ≡ true = and_from _ _ usable refl in
     subst (λ (b : Bool). NextLeft 3 0 b [] (seen_after calls) (MayLeave calls) c) flag left
 
-pub synced_file : (old new : List Call) → IsTrue (is_usable_after old) → new ≡ synced true ∷ old → Only (seen_after old) (MayLeave new) × Only (seen_after new) (MayLeave new)
+pub synced_file : (old new : List Call) → IsTrue (is_usable_after old) → new ≡ sync_call true ∷ old → Only (seen_after old) (MayLeave new) × Only (seen_after new) (MayLeave new)
 synced_file old new usable is =
     let only = subst (λ (l : List Call). Only (seen_after old) (MayLeave l)) (sym is) (synced_only old usable) in
     (only, subst (λ (f : List ℕ). Only f (MayLeave new)) (sym (ap seen_after is)) only)
 
 -- and behind that of the folder the name of another file
-pub named_only : (calls : List Call) (bytes : List ℕ) → IsTrue (is_named_after calls) → Only bytes (MayLeave (named true ∷ renamed bytes true ∷ calls))
+pub named_only : (calls : List Call) (bytes : List ℕ) → IsTrue (is_named_after calls) → Only bytes (MayLeave (folder_sync_call true ∷ rename_call bytes true ∷ calls))
 named_only calls bytes known c left =
-    let flag : ((is_named_after calls && true) && true) ≡ true = both _ _ (both _ _ known refl) refl in
-    subst (λ (b : Bool). NextLeft 5 0 b [] bytes (MayLeave (renamed bytes true ∷ calls)) c) flag left
+    let flag : ((is_named_after calls && true) && true) ≡ true = and_from _ _ (and_from _ _ known refl) refl in
+    subst (λ (b : Bool). NextLeft 5 0 b [] bytes (MayLeave (rename_call bytes true ∷ calls)) c) flag left
 
-pub named_file : (old new : List Call) (bytes : List ℕ) → IsTrue (is_named_after old) → new ≡ named true ∷ renamed bytes true ∷ old → Only bytes (MayLeave new)
+pub named_file : (old new : List Call) (bytes : List ℕ) → IsTrue (is_named_after old) → new ≡ folder_sync_call true ∷ rename_call bytes true ∷ old → Only bytes (MayLeave new)
 named_file old new bytes known is = subst (λ (l : List Call). Only bytes (MayLeave l)) (sym is) (named_only old bytes known)
 
-pub usable_again : (calls : List Call) (bytes : List ℕ) → IsTrue (is_named_after calls) → IsTrue (is_usable_after (named true ∷ renamed bytes true ∷ calls))
-usable_again calls bytes known = both _ _ (both _ _ known refl) refl
+pub usable_again : (calls : List Call) (bytes : List ℕ) → IsTrue (is_named_after calls) → IsTrue (is_usable_after (folder_sync_call true ∷ rename_call bytes true ∷ calls))
+usable_again calls bytes known = and_from _ _ (and_from _ _ known refl) refl
 
-pub named_again : (calls : List Call) (bytes : List ℕ) → IsTrue (is_named_after calls) → IsTrue (is_named_after (named true ∷ renamed bytes true ∷ calls))
-named_again calls bytes known = both _ _ (both _ _ known refl) refl
+pub named_again : (calls : List Call) (bytes : List ℕ) → IsTrue (is_named_after calls) → IsTrue (is_named_after (folder_sync_call true ∷ rename_call bytes true ∷ calls))
+named_again calls bytes known = and_from _ _ (and_from _ _ known refl) refl
 
 -- ---- The calls of a device, of whose calls old were made before and new are made now.
 
@@ -102,13 +99,13 @@ module _ (old new : List Call) where
   pub refused_cut : (len : ℕ) → new ≡ refused_call ∷ old → Follows (Cut len) (MayLeave old) (MayLeave new)
   refused_cut len is = λ c left. (c, refused_keeps is c left, cut_same len c)
 
-  pub write_follows : (at : ℕ) (bytes : List ℕ) (ok : Bool) → new ≡ written at bytes ok ∷ old → Follows (Torn at (length bytes)) (MayLeave old) (MayLeave new)
+  pub write_follows : (at : ℕ) (bytes : List ℕ) (ok : Bool) → new ≡ write_call at bytes ok ∷ old → Follows (Torn at (length bytes)) (MayLeave old) (MayLeave new)
   write_follows at bytes ok is = subst (λ (l : List Call). Follows (Torn at (length bytes)) (MayLeave old) (MayLeave l)) (sym is) (λ c left. left)
 
-  pub cut_follows : (len : ℕ) (ok : Bool) → new ≡ shortened len ok ∷ old → Follows (Cut len) (MayLeave old) (MayLeave new)
+  pub cut_follows : (len : ℕ) (ok : Bool) → new ≡ truncate_call len ok ∷ old → Follows (Cut len) (MayLeave old) (MayLeave new)
   cut_follows len ok is = subst (λ (l : List Call). Follows (Cut len) (MayLeave old) (MayLeave l)) (sym is) (λ c left. left)
 
-  pub sync_keeps : IsTrue (all_within old) → (ok : Bool) → IsTrue (is_usable_after old) → new ≡ synced ok ∷ old → (c : List ℕ) → MayLeave new c → MayLeave old c
+  pub sync_keeps : IsTrue (all_within old) → (ok : Bool) → IsTrue (is_usable_after old) → new ≡ sync_call ok ∷ old → (c : List ℕ) → MayLeave new c → MayLeave old c
   sync_keeps within ok usable is =
       subst (λ (l : List Call). (c : List ℕ) → MayLeave l c → MayLeave old c) (sym is)
       (takes (ok && (is_usable_after old && ok)))
@@ -119,13 +116,13 @@ module _ (old new : List Call) where
 
 -- what a crash may leave once another file of these bytes was given the name, and the folder was synced or not
 module _ (old : List Call) (bytes : List ℕ) where
-  pub rename_leaves : (ok : Bool) (c : List ℕ) → MayLeave (renamed bytes ok ∷ old) c → MayLeave old c ⊎ (c ≡ bytes)
+  pub rename_leaves : (ok : Bool) (c : List ℕ) → MayLeave (rename_call bytes ok ∷ old) c → MayLeave old c ⊎ (c ≡ bytes)
   rename_leaves ok c left = left
 
-  pub name_leaves : (ok : Bool) (c : List ℕ) → MayLeave (named ok ∷ renamed bytes true ∷ old) c → MayLeave old c ⊎ (c ≡ bytes)
+  pub name_leaves : (ok : Bool) (c : List ℕ) → MayLeave (folder_sync_call ok ∷ rename_call bytes true ∷ old) c → MayLeave old c ⊎ (c ≡ bytes)
   name_leaves ok = takes (ok && ((is_named_after old && true) && ok))
     where
-      takes : (b : Bool) (c : List ℕ) → NextLeft 5 0 b [] bytes (MayLeave (renamed bytes true ∷ old)) c → MayLeave old c ⊎ (c ≡ bytes)
+      takes : (b : Bool) (c : List ℕ) → NextLeft 5 0 b [] bytes (MayLeave (rename_call bytes true ∷ old)) c → MayLeave old c ⊎ (c ≡ bytes)
       takes true c now = inr now
       takes false c left = left
 
@@ -167,34 +164,34 @@ leaves call old new P is left =
 -- ---- a replacement
 
 -- the file has its new name, or it isn't known
-module _ (old new : List Call) (bytes : List ℕ) (ok : Bool) (is : new ≡ renamed bytes ok ∷ old) where
+module _ (old new : List Call) (bytes : List ℕ) (ok : Bool) (is : new ≡ rename_call bytes ok ∷ old) where
   pub renamed_leaves : (c : List ℕ) → MayLeave new c → MayLeave old c ⊎ (c ≡ bytes)
   renamed_leaves = subst (λ (l : List Call). (c : List ℕ) → MayLeave l c → MayLeave old c ⊎ (c ≡ bytes)) (sym is) (rename_leaves old bytes ok)
 
   pub renames : LeavesOnly length LeftSince old new (λ c. MayLeave old c ⊎ (c ≡ bytes))
-  renames = leaves (renamed bytes ok) old new (λ c. c ≡ bytes) is renamed_leaves
+  renames = leaves (rename_call bytes ok) old new (λ c. c ≡ bytes) is renamed_leaves
 
 -- and its folder was synced, or that failed
-module _ (old new : List Call) (bytes : List ℕ) (ok : Bool) (is : new ≡ named ok ∷ renamed bytes true ∷ old) where
+module _ (old new : List Call) (bytes : List ℕ) (ok : Bool) (is : new ≡ folder_sync_call ok ∷ rename_call bytes true ∷ old) where
   pub named_leaves : (c : List ℕ) → MayLeave new c → MayLeave old c ⊎ (c ≡ bytes)
   named_leaves = subst (λ (l : List Call). (c : List ℕ) → MayLeave l c → MayLeave old c ⊎ (c ≡ bytes)) (sym is) (name_leaves old bytes ok)
 
   pub names : LeavesOnly length LeftSince old new (λ c. MayLeave old c ⊎ (c ≡ bytes))
   names =
-      let mid = renamed bytes true ∷ old in
+      let mid = rename_call bytes true ∷ old in
       subst (λ (l : List Call). LeavesOnly length LeftSince old l (λ c. MayLeave old c ⊎ (c ≡ bytes))) (sym is)
-      (moments.goes_on length LeftSince old mid (named ok ∷ mid) (λ c. MayLeave old c ⊎ (c ≡ bytes)) (MayLeave (named ok ∷ mid))
-      (renames old mid bytes true refl) (elapses (named ok) mid) (name_leaves old bytes ok))
+      (moments.goes_on length LeftSince old mid (folder_sync_call ok ∷ mid) (λ c. MayLeave old c ⊎ (c ≡ bytes)) (MayLeave (folder_sync_call ok ∷ mid))
+      (renames old mid bytes true refl) (elapses (folder_sync_call ok) mid) (name_leaves old bytes ok))
 
 module _ (old : List Call) (bytes : List ℕ) where
-  has_new : (ok : Bool) (c : List ℕ) → c ≡ bytes → MayLeave (named ok ∷ renamed bytes true ∷ old) c
+  has_new : (ok : Bool) (c : List ℕ) → c ≡ bytes → MayLeave (folder_sync_call ok ∷ rename_call bytes true ∷ old) c
   has_new ok = puts (ok && ((is_named_after old && true) && ok))
     where
-      puts : (b : Bool) (c : List ℕ) → c ≡ bytes → NextLeft 5 0 b [] bytes (MayLeave (renamed bytes true ∷ old)) c
+      puts : (b : Bool) (c : List ℕ) → c ≡ bytes → NextLeft 5 0 b [] bytes (MayLeave (rename_call bytes true ∷ old)) c
       puts true c is = is
       puts false c is = inr is
 
-  both_elapse : (ok : Bool) → Elapses (length old) (length (named ok ∷ renamed bytes true ∷ old)) (LeftSince old) (LeftSince (named ok ∷ renamed bytes true ∷ old)) (MayLeave (named ok ∷ renamed bytes true ∷ old))
+  both_elapse : (ok : Bool) → Elapses (length old) (length (folder_sync_call ok ∷ rename_call bytes true ∷ old)) (LeftSince old) (LeftSince (folder_sync_call ok ∷ rename_call bytes true ∷ old)) (MayLeave (folder_sync_call ok ∷ rename_call bytes true ∷ old))
   both_elapse ok = record {
     later = omega arith;
     nothing_else = λ t c le left.
@@ -203,13 +200,13 @@ module _ (old : List Call) (bytes : List ℕ) where
     keeps = λ t c le past. inr (omega (arith, le), inr (le, past));
   }
 
-  pub names_elapse : (new : List Call) (ok : Bool) → new ≡ named ok ∷ renamed bytes true ∷ old → Elapses (length old) (length new) (LeftSince old) (LeftSince new) (MayLeave new)
+  pub names_elapse : (new : List Call) (ok : Bool) → new ≡ folder_sync_call ok ∷ rename_call bytes true ∷ old → Elapses (length old) (length new) (LeftSince old) (LeftSince new) (MayLeave new)
   names_elapse new ok is =
       subst (λ (l : List Call). Elapses (length old) (length l) (LeftSince old) (LeftSince l) (MayLeave l)) (sym is) (both_elapse ok)
 
 -- one of the two, where a call has failed
 module _ (bytes : List ℕ) (old new : List Call) where
-  pub placed_faults : new ≡ named true ∷ renamed bytes true ∷ old → faults_in old ≤ faults_in new
+  pub placed_faults : new ≡ folder_sync_call true ∷ rename_call bytes true ∷ old → faults_in old ≤ faults_in new
   placed_faults is =
       let same : faults_in new ≡ faults_in old = ap faults_in is in
       omega (arith, same)
@@ -225,7 +222,7 @@ module _ (bytes : List ℕ) (old new : List Call) where
     unplaced_names = ⊎_elim (λ lacks. renames old new bytes false lacks) (λ has. names old new bytes false has) is
 
     pub unplaced_elapse : Elapses (length old) (length new) (LeftSince old) (LeftSince new) (MayLeave new)
-    unplaced_elapse = ⊎_elim (λ lacks. elapses_to (renamed bytes false) old new lacks) (λ has. names_elapse old bytes new false has) is
+    unplaced_elapse = ⊎_elim (λ lacks. elapses_to (rename_call bytes false) old new lacks) (λ has. names_elapse old bytes new false has) is
 
     pub unplaced_faults : faults_in old < faults_in new
     unplaced_faults = ⊎_elim (λ lacks. one_fault (ap faults_in lacks)) (λ has. one_fault (ap faults_in has)) is

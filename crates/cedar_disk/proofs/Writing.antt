@@ -1,23 +1,23 @@
 -- Bytes that are written by one call behind another.
 use Rattle.std.specs.Prelude.{IsTrue}
 use Rattle.std.proofs.Common.{◌≡◌, ℕ, ◌+◌, ◌-◌, ◌≤◌, Bool, true, false, List, [], ◌∷◌, ◌++◌, length, take, drop, slice_range, refl, sym, ◌∙◌, ap, subst, arith, append-nil, append_assoc, length-append, length-drop, length-take-le, take-append-drop}
-use Rattle.std.proofs.lemmas.Bool.{le-leb}
+use Rattle.std.proofs.lemmas.Bool.{le-leb, and_from}
 use Rattle.std.proofs.lemmas.List.{drop-drop, drop_all, drop_at, take_all, take_at, take_rest}
 use lib.Seq.{take-add}
 use Rattle.cedar_journal.specs.Device.{Follows, Only, Torn}
-use Rattle.cedar_disk.specs.Calls.{Call, MayLeave, is_usable_after, opened, overlaid, refused_call, seen_after, synced, written}
+use Rattle.cedar_disk.specs.Calls.{Call, MayLeave, is_usable_after, open_call, overlay, refused_call, seen_after, sync_call, write_call}
 use Rattle.cedar_disk.specs.Runs.{AreWritten, AreWrittenInPart, Spoils}
 use Rattle.cedar_journal.proofs.Tears.{torn_held, torn_same, torn_then}
-use Rattle.cedar_disk.proofs.Steps.{both, elapses_none, elapses_on, overlaid_length, synced_only}
+use Rattle.cedar_disk.proofs.Steps.{elapses_none, elapses_on, overlaid_length, synced_only}
 
 -- ---- bytes over bytes
 
-overlaid_none : (file : List ℕ) (at : ℕ) → overlaid file at [] ≡ file
+overlaid_none : (file : List ℕ) (at : ℕ) → overlay file at [] ≡ file
 overlaid_none file at =
     let here : at + 0 ≡ at = omega arith in
     ap (λ (l : List ℕ). l ++ drop (at + 0) file) (append-nil (take at file)) ∙ ap (λ (k : ℕ). take at file ++ drop k file) here ∙ take-append-drop at file
 
-overlaid_more : (file : List ℕ) (at : ℕ) (front more : List ℕ) → at ≤ length file → overlaid (overlaid file at front) (at + length front) more ≡ overlaid file at (front ++ more)
+overlaid_more : (file : List ℕ) (at : ℕ) (front more : List ℕ) → at ≤ length file → overlay (overlay file at front) (at + length front) more ≡ overlay file at (front ++ more)
 overlaid_more file at front more within =
     let m = at + length front in
     let a = take at file ++ front in
@@ -33,7 +33,7 @@ overlaid_more file at front more within =
     ∙ ap (λ (k : ℕ). take at file ++ (front ++ more) ++ drop k file) end
 
 -- a whole file
-overlaid_all : (bytes : List ℕ) → overlaid [] 0 bytes ≡ bytes
+overlaid_all : (bytes : List ℕ) → overlay [] 0 bytes ≡ bytes
 overlaid_all bytes = ap (λ (l : List ℕ). bytes ++ l) (drop_all (0 + length bytes) [] (omega arith)) ∙ append-nil bytes
 
 -- ---- calls
@@ -60,32 +60,32 @@ module _ (at size : ℕ) (front : List ℕ) (old now : List Call) (fits : at ≤
 
   -- a call that wrote more bytes, or all those or some if it failed
   spoils_more : (from : ℕ) (more : List ℕ) → at ≤ from → from ≤ at + length front → length front + length more ≤ size → (ok : Bool)
-      → Follows (Torn at size) (MayLeave old) (MayLeave (written from more ok ∷ now))
+      → Follows (Torn at size) (MayLeave old) (MayLeave (write_call from more ok ∷ now))
   spoils_more from more low high room ok c left =
       let earlier = so_far.spoils.crash left.0 left.1 in
       (earlier.0, earlier.1, torn_then at size from (length more) earlier.0 left.0 c low (omega (arith, high, room)) earlier.2 left.2)
 
-  pub are_written_more : (from : ℕ) (more : List ℕ) → from ≡ at + length front → length front + length more ≤ size → AreWritten at size (front ++ more) old (written from more true ∷ now)
+  pub are_written_more : (from : ℕ) (more : List ℕ) → from ≡ at + length front → length front + length more ≤ size → AreWritten at size (front ++ more) old (write_call from more true ∷ now)
   are_written_more from more is room = record {
     seen =
-        ap (λ (f : List ℕ). overlaid f from more) so_far.seen ∙ ap (λ (k : ℕ). overlaid (overlaid (seen_after old) at front) k more) is
+        ap (λ (f : List ℕ). overlay f from more) so_far.seen ∙ ap (λ (k : ℕ). overlay (overlay (seen_after old) at front) k more) is
         ∙ overlaid_more (seen_after old) at front more fits;
-    usable = λ usable. both _ _ (so_far.usable usable) refl;
+    usable = λ usable. and_from _ _ (so_far.usable usable) refl;
     spoils = record {
       crash = spoils_more from more (omega (arith, is)) (omega (arith, is)) room true;
-      time = elapses_on (written from more true) old now so_far.spoils.time (λ c left. (c, left, torn_same from (length more) c));
+      time = elapses_on (write_call from more true) old now so_far.spoils.time (λ c left. (c, left, torn_same from (length more) c));
       faults = so_far.spoils.faults;
-      within = λ within. both _ _ (le-leb from (length (seen_after now)) (begins from (omega (arith, is)))) (so_far.spoils.within within);
+      within = λ within. and_from _ _ (le-leb from (length (seen_after now)) (begins from (omega (arith, is)))) (so_far.spoils.within within);
       known = so_far.spoils.known;
     };
   }
 
-  pub spoils_failed : (from : ℕ) (more : List ℕ) → at ≤ from → from ≤ at + length front → length front + length more ≤ size → Spoils at size old (written from more false ∷ now)
+  pub spoils_failed : (from : ℕ) (more : List ℕ) → at ≤ from → from ≤ at + length front → length front + length more ≤ size → Spoils at size old (write_call from more false ∷ now)
   spoils_failed from more low high room = record {
     crash = spoils_more from more low high room false;
-    time = elapses_on (written from more false) old now so_far.spoils.time (λ c left. (c, left, torn_same from (length more) c));
+    time = elapses_on (write_call from more false) old now so_far.spoils.time (λ c left. (c, left, torn_same from (length more) c));
     faults = omega (arith, so_far.spoils.faults);
-    within = λ within. both _ _ (le-leb from (length (seen_after now)) (begins from high)) (so_far.spoils.within within);
+    within = λ within. and_from _ _ (le-leb from (length (seen_after now)) (begins from high)) (so_far.spoils.within within);
     known = so_far.spoils.known;
   }
 
@@ -103,17 +103,17 @@ module _ (bytes : List ℕ) (done : ℕ) (within : done ≤ length bytes) where
 
 module _ (at done from : ℕ) (bytes : List ℕ) (old now new : List Call) (fits : at ≤ length (seen_after old)) (within : done ≤ length bytes)
     (so_far : AreWritten at (length bytes) (take done bytes) old now) where
-  pub wrote_more : (n : ℕ) → from ≡ at + done → done + n ≤ length bytes → new ≡ written from (take n (slice_range bytes done (length bytes))) true ∷ now
+  pub wrote_more : (n : ℕ) → from ≡ at + done → done + n ≤ length bytes → new ≡ write_call from (take n (slice_range bytes done (length bytes))) true ∷ now
       → AreWritten at (length bytes) (take (done + n) bytes) old new
   wrote_more n is room noted =
       let more = take n (slice_range bytes done (length bytes)) in
       let front = front_length bytes done within in
       let size : length more ≡ n = length-take-le n (slice_range bytes done (length bytes)) (omega (arith, rest_length bytes done within, room)) in
       subst (λ (l : List Call). AreWritten at (length bytes) (take (done + n) bytes) old l) (sym noted)
-      (subst (λ (l : List ℕ). AreWritten at (length bytes) l old (written from more true ∷ now)) (fronts bytes done n)
+      (subst (λ (l : List ℕ). AreWritten at (length bytes) l old (write_call from more true ∷ now)) (fronts bytes done n)
       (are_written_more at (length bytes) (take done bytes) old now fits so_far from more (omega (arith, is, front)) (omega (arith, front, size, room))))
 
-  pub wrote_perhaps : at ≤ from → from ≤ at + done → new ≡ written from (slice_range bytes done (length bytes)) false ∷ now → Spoils at (length bytes) old new
+  pub wrote_perhaps : at ≤ from → from ≤ at + done → new ≡ write_call from (slice_range bytes done (length bytes)) false ∷ now → Spoils at (length bytes) old new
   wrote_perhaps low high noted =
       let front = front_length bytes done within in
       subst (λ (l : List Call). Spoils at (length bytes) old l) (sym noted)
@@ -149,10 +149,10 @@ wrote_all at done bytes old now all so_far = subst (λ (l : List ℕ). AreWritte
 
 -- ---- a new file
 
-pub new_file : (bytes : List ℕ) (start now : List Call) → start ≡ opened [] ∷ [] → AreWritten 0 (length bytes) bytes start now → seen_after now ≡ bytes
-new_file bytes start now is so_far = so_far.seen ∙ ap (λ (l : List Call). overlaid (seen_after l) 0 bytes) is ∙ overlaid_all bytes
+pub new_file : (bytes : List ℕ) (start now : List Call) → start ≡ open_call [] ∷ [] → AreWritten 0 (length bytes) bytes start now → seen_after now ≡ bytes
+new_file bytes start now is so_far = so_far.seen ∙ ap (λ (l : List Call). overlay (seen_after l) 0 bytes) is ∙ overlaid_all bytes
 
-pub new_file_only : (bytes : List ℕ) (start now new : List Call) → start ≡ opened [] ∷ [] → AreWritten 0 (length bytes) bytes start now → new ≡ synced true ∷ now → Only bytes (MayLeave new)
+pub new_file_only : (bytes : List ℕ) (start now new : List Call) → start ≡ open_call [] ∷ [] → AreWritten 0 (length bytes) bytes start now → new ≡ sync_call true ∷ now → Only bytes (MayLeave new)
 new_file_only bytes start now new is so_far noted =
     let usable : IsTrue (is_usable_after now) = so_far.usable (subst (λ (l : List Call). IsTrue (is_usable_after l)) (sym is) refl) in
     subst (λ (l : List Call). Only bytes (MayLeave l)) (sym noted) (λ c left. synced_only now usable c left ∙ new_file bytes start now is so_far)

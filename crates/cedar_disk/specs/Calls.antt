@@ -1,6 +1,8 @@
 -- The calls on a file, and the model of a disk that they make: what a read returns, and what a crash may leave. This is all that is
 -- supposed of a real disk.
-use Rattle.std.specs.Prelude.{◌≡◌, ◌⊎◌, ◌≤◌, ◌+◌, ◌==◌, nat_le, ℕ, zero, suc, Bool, true, false, ◌&&◌, if◌then◌else◌, List, [], ◌∷◌, ◌++◌, length, take, drop, slice_index}
+use Rattle.std.specs.Prelude.{◌≡◌, ◌⊎◌, ◌≤◌, ◌+◌, ◌==◌, nat_le, ℕ, zero, suc, Bool, true}
+use Rattle.std.specs.Prelude.{false, ◌&&◌, if◌then◌else◌, List, [], ◌∷◌, ◌++◌, length}
+use Rattle.std.specs.Prelude.{take, drop, slice_index}
 use Rattle.cedar_journal.specs.Device.{Torn, Cut}
 
 -- a call: its kind, an offset or a length, whether it succeeded, and bytes
@@ -11,27 +13,27 @@ abbrev pub call_with : ℕ → ℕ → Bool → List ℕ → Call
 call_with kind at ok bytes = (kind, at, ok, bytes)
 
 -- the file was synced, and then read: it had these bytes; or it was made, and had none
-abbrev pub opened : List ℕ → Call
-opened bytes = (0, 0, true, bytes)
+abbrev pub open_call : List ℕ → Call
+open_call bytes = (0, 0, true, bytes)
 
 -- these bytes were written at this offset
-abbrev pub written : ℕ → List ℕ → Bool → Call
-written at bytes ok = (1, at, ok, bytes)
+abbrev pub write_call : ℕ → List ℕ → Bool → Call
+write_call at bytes ok = (1, at, ok, bytes)
 
 -- the file was cut to this length
-abbrev pub shortened : ℕ → Bool → Call
-shortened len ok = (2, len, ok, [])
+abbrev pub truncate_call : ℕ → Bool → Call
+truncate_call len ok = (2, len, ok, [])
 
-abbrev pub synced : Bool → Call
-synced ok = (3, 0, ok, [])
+abbrev pub sync_call : Bool → Call
+sync_call ok = (3, 0, ok, [])
 
 -- another file of these bytes, which the disk has, took its name
-abbrev pub renamed : List ℕ → Bool → Call
-renamed bytes ok = (4, 0, ok, bytes)
+abbrev pub rename_call : List ℕ → Bool → Call
+rename_call bytes ok = (4, 0, ok, bytes)
 
 -- the folder of its name was synced
-abbrev pub named : Bool → Call
-named ok = (5, 0, ok, [])
+abbrev pub folder_sync_call : Bool → Call
+folder_sync_call ok = (5, 0, ok, [])
 
 -- a call that failed before it changed anything
 abbrev pub refused_call : Call
@@ -42,21 +44,21 @@ abbrev pub took_name : List ℕ → Bool → Call
 took_name path ok = (7, 0, ok, path)
 
 -- the file was locked
-abbrev pub locked : Bool → Call
-locked ok = (8, 0, ok, [])
+abbrev pub lock_call : Bool → Call
+lock_call ok = (8, 0, ok, [])
 
 -- a call from the numbers that it was noted by
 abbrev pub call_of : List ℕ → List ℕ → Call
 call_of numbers bytes = (slice_index numbers 0, slice_index numbers 1, slice_index numbers 2 == 1, bytes)
 
 -- the file with these bytes in it
-abbrev pub overlaid : List ℕ → ℕ → List ℕ → List ℕ
-overlaid file at bytes = take at file ++ bytes ++ drop (at + length bytes) file
+abbrev pub overlay : List ℕ → ℕ → List ℕ → List ℕ
+overlay file at bytes = take at file ++ bytes ++ drop (at + length bytes) file
 
 -- What a read returns after a call, by what it returned before. After a call that failed nothing is read.
 abbrev pub next_seen : ℕ → ℕ → Bool → List ℕ → List ℕ → List ℕ
 next_seen zero at ok bytes file = bytes
-next_seen (suc zero) at ok bytes file = if ok then overlaid file at bytes else file
+next_seen (suc zero) at ok bytes file = if ok then overlay file at bytes else file
 next_seen (suc (suc zero)) at ok bytes file = take at file
 next_seen (suc (suc (suc zero))) at ok bytes file = file
 next_seen (suc (suc (suc (suc zero)))) at ok bytes file = if ok then bytes else file

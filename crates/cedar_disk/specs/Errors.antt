@@ -1,4 +1,4 @@
--- How an error of the system is told.
+-- How an error of the system is reported.
 use Rattle.std.specs.Prelude.{◌≡◌, ◌≢◌}
 use Rattle.std_io.specs.declared.io.error.Error.{Error}
 use Rattle.std_io.specs.declared.io.kind.ErrorKind.TheVariants.{OutOfMemory}

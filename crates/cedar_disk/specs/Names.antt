@@ -1,5 +1,6 @@
 -- The name of a file that is written beside another one.
-use Rattle.std.specs.Prelude.{◌≡◌, ◌≢◌, ◌<◌, ◌≤◌, ◌⊎◌, ◌+◌, ◌/◌, ◌%◌, ◌==◌, ◌++◌, ◌∷◌, [], codes, if◌then◌else◌, length, nat_lt, ℕ, List, take}
+use Rattle.std.specs.Prelude.{◌≡◌, ◌≢◌, ◌<◌, ◌≤◌, ◌⊎◌, ◌+◌, ◌/◌, ◌%◌, ◌==◌, ◌++◌, ◌∷◌, [], codes}
+use Rattle.std.specs.Prelude.{if◌then◌else◌, length, nat_lt, ℕ, List, take}
 use Rattle.std.specs.Str.{NoCharPasses}
 
 -- what ends the name of a file while it is written
@@ -14,7 +15,7 @@ compaction_suffix = codes ".cedar-compaction"
 abbrev pub compaction_path : List ℕ → List ℕ
 compaction_path path = path ++ compaction_suffix
 
--- What stands before `.new`: nothing, or a full stop and a number of one digit or two, as `.7`.
+-- What comes before `.new`: nothing, or a full stop and a number of one digit or two, as `.7`.
 abbrev pub mark_of : ℕ → List ℕ
 mark_of number = if number == 0 then [] else if nat_lt number 10 then 46 ∷ (48 + number) ∷ [] else 46 ∷ (48 + number / 10) ∷ (48 + number % 10) ∷ []
 

@@ -1,18 +1,21 @@
 -- What calls on a file do one behind another: time goes on, bytes are written in as many calls as the system takes, and a file takes the
 -- name of another one.
-use Rattle.std.specs.Prelude.{◌≡◌, ◌⊎◌, ◌<◌, ◌≤◌, ◌^◌, ℕ, true, false, List, ◌∷◌, length, take, IsTrue}
+use Rattle.std.specs.Prelude.{◌≡◌, ◌⊎◌, ◌<◌, ◌≤◌, ◌^◌, ℕ, true, false, List}
+use Rattle.std.specs.Prelude.{◌∷◌, length, take, IsTrue}
 use Rattle.cedar_journal.specs.Device.{Elapses, Follows, Torn}
-use Rattle.cedar_disk.specs.Calls.{Call, LeftSince, MayLeave, all_within, faults_in, is_named_after, is_usable_after, named, overlaid, refused_call, renamed, seen_after, written}
+use Rattle.cedar_disk.specs.Calls.{Call, LeftSince, MayLeave, all_within, faults_in, is_named_after}
+use Rattle.cedar_disk.specs.Calls.{is_usable_after, folder_sync_call, overlay, refused_call}
+use Rattle.cedar_disk.specs.Calls.{rename_call, seen_after, write_call}
 use Rattle.cedar_disk.specs.declared.wrote.Wrote.{Wrote}
 use Rattle.cedar_disk.specs.declared.wrote.Wrote.TheVariants.{Bytes, Nothing, Full, Failed}
 
 -- A write of these bytes at this offset, as it is noted: exactly those that the system took, or that any of them may be there. Of one that
 -- found no room none are.
-abbrev pub write_call : ℕ → List ℕ → Wrote → Call
-write_call at bytes (Bytes n) = written at (take n bytes) true
-write_call at bytes Nothing = refused_call
-write_call at bytes (Full e) = refused_call
-write_call at bytes (Failed e) = written at bytes false
+abbrev pub write_by_outcome : ℕ → List ℕ → Wrote → Call
+write_by_outcome at bytes (Bytes n) = write_call at (take n bytes) true
+write_by_outcome at bytes Nothing = refused_call
+write_by_outcome at bytes (Full e) = refused_call
+write_by_outcome at bytes (Failed e) = write_call at bytes false
 
 -- of n bytes at this offset some were taken
 abbrev pub TookSome : ℕ → ℕ → Wrote → Type 0
@@ -35,7 +38,7 @@ pub record Spoils (at n : ℕ) (old new : List Call) : Type 0 where
 
 -- And these bytes were written there, the first of those n. No call failed but such as changed nothing.
 pub record AreWritten (at n : ℕ) (bytes : List ℕ) (old new : List Call) : Type 0 where
-  pub seen : seen_after new ≡ overlaid (seen_after old) at bytes
+  pub seen : seen_after new ≡ overlay (seen_after old) at bytes
   pub usable : IsTrue (is_usable_after old) → IsTrue (is_usable_after new)
   pub spoils : Spoils at n old new
 
@@ -45,4 +48,4 @@ AreWrittenInPart at bytes old new = (front : List ℕ) × (length front ≤ leng
 
 -- The file of these bytes was given the name, or not; or it was, and that isn't known to be on the disk.
 abbrev pub IsUnplaced : List ℕ → List Call → List Call → Type 0
-IsUnplaced bytes old new = (new ≡ renamed bytes false ∷ old) ⊎ (new ≡ named false ∷ renamed bytes true ∷ old)
+IsUnplaced bytes old new = (new ≡ rename_call bytes false ∷ old) ⊎ (new ≡ folder_sync_call false ∷ rename_call bytes true ∷ old)

@@ -1,4 +1,4 @@
--- What is at a path and isn't a file: the calls on it, and what these tell.
+-- What is at a path and isn't a file: the calls on it, and what these show.
 use Rattle.std.specs.Prelude.{◌≡◌, ◌==◌, ◌++◌, ◌∷◌, [], if◌then◌else◌, length, ℕ, true, List}
 use Rattle.std.specs.Fs.{file_type, IsFile}
 use Rattle.std.specs.declared.fs.attrs.Metadata.{Metadata}
@@ -13,14 +13,14 @@ abbrev pub found_at : List ℕ → Call
 found_at path = (9, 0, true, path)
 
 -- it took these bytes
-abbrev pub sent : List ℕ → Call
-sent bytes = (10, 0, true, bytes)
+abbrev pub send_call : List ℕ → Call
+send_call bytes = (10, 0, true, bytes)
 
 -- a path behind its length, so that where it ends is known whatever follows
 abbrev pub address : List ℕ → List ℕ
 address path = length path ∷ path
 
--- What the calls tell: where it was found, and then all the bytes that it took, in their order.
+-- What the calls show: where it was found, and then all the bytes that it took, in their order.
 abbrev pub told_after : List Call → List ℕ
 told_after [] = []
 told_after (call ∷ earlier) = if call.0 == 9 then address call.3 else if call.0 == 10 then told_after earlier ++ call.3 else told_after earlier

@@ -13,6 +13,6 @@ sent_calls sent = sent.history.calls
 abbrev pub special_calls : {T : Type 0} → Special T → List Call
 special_calls special = sent_calls special.sent
 
--- what these tell
+-- what these show
 abbrev pub special_told : {T : Type 0} → Special T → List ℕ
 special_told special = told_after (special_calls special)

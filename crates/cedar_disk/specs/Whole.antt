@@ -1,7 +1,8 @@
 -- A file that is written beside the one at a path and then given its name: what is at the path at each moment.
-use Rattle.std.specs.Prelude.{◌≡◌, ◌⊎◌, ◌==◌, ◌&&◌, if◌then◌else◌, ℕ, Bool, true, false, List, [], ◌∷◌, Option, Some, IsTrue}
+use Rattle.std.specs.Prelude.{◌≡◌, ◌⊎◌, ◌==◌, ◌&&◌, if◌then◌else◌, ℕ, Bool, true, false}
+use Rattle.std.specs.Prelude.{List, [], ◌∷◌, Option, Some, IsTrue}
 use Rattle.cedar_journal.specs.Device.{Only}
-use Rattle.cedar_disk.specs.Calls.{Call, MayLeave, named, seen_after, took_name}
+use Rattle.cedar_disk.specs.Calls.{Call, folder_sync_call, MayLeave, seen_after, took_name}
 
 -- What is at a path: nothing, or a file of these bytes.
 abbrev pub Content : Type 0
@@ -51,13 +52,13 @@ pub record IsWholeBeside (bytes : List ℕ) (calls : List Call) : Type 0 where
 pub record IsPlaced (path bytes : List ℕ) (calls : List Call) : Type 0 where
   pub earlier : List Call
   pub ready : IsWholeBeside bytes earlier
-  pub is : calls ≡ named true ∷ took_name path true ∷ earlier
+  pub is : calls ≡ folder_sync_call true ∷ took_name path true ∷ earlier
 
 -- One of the two failed.
 pub record IsHalfPlaced (path bytes : List ℕ) (calls : List Call) : Type 0 where
   pub earlier : List Call
   pub ready : IsWholeBeside bytes earlier
-  pub is : (calls ≡ took_name path false ∷ earlier) ⊎ (calls ≡ named false ∷ took_name path true ∷ earlier)
+  pub is : (calls ≡ took_name path false ∷ earlier) ⊎ (calls ≡ folder_sync_call false ∷ took_name path true ∷ earlier)
 
 -- Nothing was done at the path; or one of the two failed.
 abbrev pub IsUnplacedAt : List ℕ → List ℕ → List Call → Type 0

@@ -1,7 +1,12 @@
 //! A file, and what the calls on it so far make of it. `specs/Calls.antt` has the model.
 
-ghost use Rattle.std.specs.Prelude.{◌≡◌, ◌<◌, ◌≤◌, ◌⊎◌, ◌∷◌, [], false, IsErrOf, IsTrue, length, List, OnErr, OnOk, take, true, ℕ};
-ghost use Rattle.cedar_disk.specs.Words.{all_within, compaction_path, Cut, faults_in, Follows, TimePasses, HasCause, is_locked_after, is_named_after, is_usable_after, LeavesOnly, LeftSince, locked, MayLeave, Only, opened, overlaid, refused_call, seen_after, Torn};
+ghost use Rattle.std.specs.Prelude.{◌≡◌, ◌<◌, ◌≤◌, ◌⊎◌, ◌∷◌, [], false, IsErrOf, IsTrue, length};
+ghost use Rattle.std.specs.Prelude.{List, OnErr, OnOk, take, true, ℕ};
+ghost use Rattle.cedar_disk.specs.Words.{all_within, compaction_path, Cut, faults_in, Follows};
+ghost use Rattle.cedar_disk.specs.Words.{TimePasses, HasCause, is_locked_after, is_named_after};
+ghost use Rattle.cedar_disk.specs.Words.{is_usable_after, LeavesOnly, LeftSince, lock_call};
+ghost use Rattle.cedar_disk.specs.Words.{MayLeave, Only, open_call, overlay, refused_call};
+ghost use Rattle.cedar_disk.specs.Words.{seen_after, Torn};
 ghost use Rattle.cedar_disk.specs.NotedFiles.{is_beside, noted_calls};
 
 use crate::noted::{Noted, Place};
@@ -36,9 +41,9 @@ impl<T: Read + Write + Seek + OpenFile + Drop> Account<T> {
 
     /// Takes a file that was locked, opened and read.
     pub(crate) fn of_file(file: Noted<T>, _bytes: &[u8]) -> Account<T>
-        requires noted { noted_calls file ≡ opened _bytes.now ∷ locked true ∷ [] }
+        requires noted { noted_calls file ≡ open_call _bytes.now ∷ lock_call true ∷ [] }
         requires name { is_beside file ≡ false }
-        ensures calls { calls_of result ≡ opened _bytes.now ∷ locked true ∷ [] }
+        ensures calls { calls_of result ≡ open_call _bytes.now ∷ lock_call true ∷ [] }
     {
         Account {
             file,
@@ -75,7 +80,7 @@ impl<T: Read + Write + Seek + OpenFile + Drop> Account<T> {
     pub(crate) fn write(&mut self, at: usize, bytes: &[u8]) -> Result<(), DeviceError>
         requires usable { IsTrue (is_usable_after (calls_of self.old)) }
         requires within { at ≤ length (seen_after (calls_of self.old)) }
-        ensures written { OnOk result (seen_after (calls_of self.new) ≡ overlaid (seen_after (calls_of self.old)) at bytes.now) }
+        ensures written { OnOk result (seen_after (calls_of self.new) ≡ overlay (seen_after (calls_of self.old)) at bytes.now) }
         ensures no_room { IsErrOf result DeviceError.NoRoom → Torn at (length bytes.now) (seen_after (calls_of self.old)) (seen_after (calls_of self.new)) }
         ensures crash { Follows (Torn at (length bytes.now)) (MayLeave (calls_of self.old)) (MayLeave (calls_of self.new)) }
         ensures time { TimePasses (calls_of self.old) (calls_of self.new) }

@@ -1,7 +1,8 @@
 //! A file of the operating system as a device.
 
 ghost use Rattle.std.specs.Prelude.{◌≡◌, [], length, IfOk, true};
-ghost use Rattle.cedar_disk.specs.Words.{counts_now, faults_in, ForSome, is_locked_after, LeftSince, MayLeave, Only, only_now, seen_after};
+ghost use Rattle.cedar_disk.specs.Words.{counts_now, faults_in, ForSome, is_locked_after};
+ghost use Rattle.cedar_disk.specs.Words.{LeftSince, MayLeave, Only, only_now, seen_after};
 ghost use Rattle.cedar_disk.specs.Accounts.{calls_of};
 
 use crate::noted::Place;

@@ -1,7 +1,8 @@
 //! The name of a file that is written beside another one.
 
 ghost use Rattle.std.specs.Prelude.{◌++◌, ◌+◌, ◌<◌, ◌≡◌, ◌≤◌, ◌⊎◌, length, MatchOption, take};
-ghost use Rattle.cedar_disk.specs.Words.{compaction_path, HasNoSlash, LiesBeside, mark_of, new_suffix};
+ghost use Rattle.cedar_disk.specs.Words.{compaction_path, HasNoSlash, LiesBeside};
+ghost use Rattle.cedar_disk.specs.Words.{mark_of, new_suffix};
 
 use arrayvec::ArrayString;
 
@@ -29,7 +30,7 @@ pub(crate) fn name_beside(path: &str, number: usize) -> Option<ArrayString<PATH_
 {
     let mark = mark_for(number);
     let (folder, slash, name) = split_name(path);
-    joined(
+    join_parts(
         folder,
         slash,
         kept_front(name, mark.len() + SUFFIX.len()),
@@ -51,7 +52,7 @@ pub(crate) fn compaction_beside(path: &str) -> Option<ArrayString<PATH_LEN>>
     Some(beside)
 }
 
-/// What stands in a name before its suffix: nothing, or the number behind a full stop.
+/// What is in a name before its suffix: nothing, or the number behind a full stop.
 fn mark_for(number: usize) -> ArrayString<3>
     requires number { number < 100 }
     ensures mark { result.bytes ≡ mark_of number }
@@ -105,7 +106,7 @@ fn kept_front(name: &str, more: usize) -> &str
 }
 
 /// The pieces of a path, and the suffix.
-fn joined(folder: &str, slash: &str, kept: &str, mark: &str) -> Option<ArrayString<PATH_LEN>>
+fn join_parts(folder: &str, slash: &str, kept: &str, mark: &str) -> Option<ArrayString<PATH_LEN>>
     requires slash { length slash.now ≤ 1 }
     requires kept { length kept.now ≤ 255 }
     requires mark { length mark.now ≤ 3 }

@@ -1,11 +1,17 @@
-//! A file and the calls on it. Whatever is done to its bytes and its name is done here, and each call of the system is noted with its answer.
+//! A file and the calls on it. Whatever is done to its bytes and its name is done here, and each call of the system is noted with its
+//! result.
 //!
 //! No contract can say what the system does. So this is believed: that each function here makes the call that its clause notes. The fields
 //! are private, so that no other module notes a call, or takes one that failed for one that was made.
 
-ghost use Rattle.std.specs.Prelude.{◌≡◌, ◌≤◌, ◌<◌, ◌^◌, ◌∷◌, [], false, IfOk, IfSome, is_ok, length, OnErr, OnOk, true};
+ghost use Rattle.std.specs.Prelude.{◌≡◌, ◌≤◌, ◌<◌, ◌^◌, ◌∷◌, [], false, IfOk, IfSome};
+ghost use Rattle.std.specs.Prelude.{is_ok, length, OnErr, OnOk, true};
 ghost use Rattle.cedar_disk.specs.NotedFiles.{is_beside, noted_calls};
-ghost use Rattle.cedar_disk.specs.Words.{call_with, compaction_path, is_locked_after, LiesBeside, locked, MayLeave, named, Only, opened, refused_call, renamed, seen_after, shortened, synced, took_name, TookSome, write_call};
+ghost use Rattle.cedar_disk.specs.Words.{call_with, compaction_path, folder_sync_call};
+ghost use Rattle.cedar_disk.specs.Words.{is_locked_after, LiesBeside, lock_call, MayLeave, Only};
+ghost use Rattle.cedar_disk.specs.Words.{open_call, refused_call, rename_call, seen_after};
+ghost use Rattle.cedar_disk.specs.Words.{sync_call, took_name, TookSome, truncate_call};
+ghost use Rattle.cedar_disk.specs.Words.{write_by_outcome};
 
 use crate::history::History;
 use crate::names::compaction_beside;
@@ -59,7 +65,7 @@ pub(crate) struct Noted<T: Read + Write + Seek + OpenFile + Drop> {
     history: History,
 }
 
-/// The calls on a file that was made beside the one at a path: what was done there, each call with its answer. It occupies no memory.
+/// The calls on a file that was made beside the one at a path: what was done there, each call with its result. It occupies no memory.
 #[derive(Drop)]
 pub struct PathCalls {
     history: History,
@@ -91,7 +97,7 @@ impl<F: Files + Drop, A: Allocator + Copy> Place<F, A> {
     pub(crate) fn lock(&self) -> Result<Noted<F::File>, OpenError>
     where
         F::File: LockFile,
-        ensures noted { IfOk result (λ file. noted_calls file ≡ locked true ∷ []) }
+        ensures noted { IfOk result (λ file. noted_calls file ≡ lock_call true ∷ []) }
         ensures name { IfOk result (λ file. is_beside file ≡ false) }
     {
         let file = lock_file(&self.files, self.path.as_str())?;
@@ -123,9 +129,9 @@ impl<F: Files + Drop, A: Allocator + Copy> Place<F, A> {
         held: Noted<F::File>,
         alloc: A,
     ) -> io::Result<(Noted<F::File>, Vec<u8, A>)>
-        requires held { noted_calls held ≡ locked true ∷ [] }
+        requires held { noted_calls held ≡ lock_call true ∷ [] }
         requires name { is_beside held ≡ false }
-        ensures noted { IfOk result (λ read. noted_calls read.0 ≡ opened read.1.items ∷ locked true ∷ []) }
+        ensures noted { IfOk result (λ read. noted_calls read.0 ≡ open_call read.1.items ∷ lock_call true ∷ []) }
         ensures name { IfOk result (λ read. is_beside read.0 ≡ false) }
         ensures bytes { IfOk result (λ read. IfSome (F.File.remaining held.file) (λ left. read.1.items ≡ left)) }
     {
@@ -158,10 +164,10 @@ pub(crate) fn make_beside<F: Files>(
     mode: u32,
 ) -> io::Result<Noted<F::File>>
     requires names { LiesBeside _path.now name.now }
-    ensures noted { IfOk result (λ made. noted_calls made ≡ opened [] ∷ []) }
+    ensures noted { IfOk result (λ made. noted_calls made ≡ open_call [] ∷ []) }
     ensures name { IfOk result (λ made. is_beside made ≡ true) }
 {
-    made(files, name, mode)
+    make_noted(files, name, mode)
 }
 
 /// Makes the file that is to take the place of the one at a path, to be written from its start on. Nothing that has its name is opened, and
@@ -173,10 +179,10 @@ pub(crate) fn make_successor<F: Files>(
     mode: u32,
 ) -> io::Result<Noted<F::File>>
     requires names { name.now ≡ compaction_path _path.now }
-    ensures noted { IfOk result (λ made. noted_calls made ≡ opened [] ∷ []) }
+    ensures noted { IfOk result (λ made. noted_calls made ≡ open_call [] ∷ []) }
     ensures name { IfOk result (λ made. is_beside made ≡ true) }
 {
-    made(files, name, mode)
+    make_noted(files, name, mode)
 }
 
 /// Removes such a file.
@@ -187,8 +193,8 @@ pub(crate) fn remove_made<F: Files>(files: &F, name: &str, _path: &str)
 }
 
 // Makes a file, and notes that.
-fn made<F: Files>(files: &F, name: &str, mode: u32) -> io::Result<Noted<F::File>>
-    ensures noted { IfOk result (λ made. noted_calls made ≡ opened [] ∷ []) }
+fn make_noted<F: Files>(files: &F, name: &str, mode: u32) -> io::Result<Noted<F::File>>
+    ensures noted { IfOk result (λ made. noted_calls made ≡ open_call [] ∷ []) }
     ensures name { IfOk result (λ made. is_beside made ≡ true) }
 {
     let file = OpenOptions::new()
@@ -215,8 +221,8 @@ impl<T: Read + Write + Seek + OpenFile + Drop> Noted<T> {
         self.history.note(&[kind, at as u64, u64::from(ok)], bytes);
     }
 
-    // Notes a call with its answer, and returns that.
-    fn answered(
+    // Notes a call with its result, and returns that.
+    fn note_answer(
         &mut self,
         kind: u64,
         at: usize,
@@ -249,7 +255,7 @@ impl<T: Read + Write + Seek + OpenFile + Drop> Noted<T> {
 
     /// Writes some of the bytes, the first of them at `at`.
     pub(crate) fn write(&mut self, at: usize, bytes: &[u8]) -> Wrote
-        ensures noted { noted_calls self.new ≡ write_call at bytes.now result ∷ noted_calls self.old }
+        ensures noted { noted_calls self.new ≡ write_by_outcome at bytes.now result ∷ noted_calls self.old }
         ensures took { TookSome at (length bytes.now) result }
         ensures name { is_beside self.new ≡ is_beside self.old }
     {
@@ -261,7 +267,7 @@ impl<T: Read + Write + Seek + OpenFile + Drop> Noted<T> {
     // Notes what a call did that writes.
     fn note_write(&mut self, at: usize, bytes: &[u8], wrote: Wrote)
         requires took { TookSome at (length bytes.now) wrote }
-        ensures noted { noted_calls self.new ≡ write_call at bytes.now wrote ∷ noted_calls self.old }
+        ensures noted { noted_calls self.new ≡ write_by_outcome at bytes.now wrote ∷ noted_calls self.old }
         ensures name { is_beside self.new ≡ is_beside self.old }
     {
         match wrote {
@@ -275,7 +281,7 @@ impl<T: Read + Write + Seek + OpenFile + Drop> Noted<T> {
     pub(crate) fn append(&mut self, end: usize, bytes: &[u8]) -> Wrote
         requires beside { is_beside self.old ≡ true }
         requires end { end ≡ length (seen_after (noted_calls self.old)) }
-        ensures noted { noted_calls self.new ≡ write_call end bytes.now result ∷ noted_calls self.old }
+        ensures noted { noted_calls self.new ≡ write_by_outcome end bytes.now result ∷ noted_calls self.old }
         ensures took { TookSome end (length bytes.now) result }
         ensures name { is_beside self.new ≡ is_beside self.old }
     {
@@ -313,16 +319,16 @@ impl<T: Read + Write + Seek + OpenFile + Drop> Noted<T> {
 
     /// Cuts the file to its first `len` bytes.
     pub(crate) fn cut(&mut self, len: usize) -> io::Result<()>
-        ensures noted { noted_calls self.new ≡ shortened len (is_ok result) ∷ noted_calls self.old }
+        ensures noted { noted_calls self.new ≡ truncate_call len (is_ok result) ∷ noted_calls self.old }
         ensures name { is_beside self.new ≡ is_beside self.old }
     {
         let answer = self.file.set_len(len as u64);
-        self.answered(SHORTENED, len, &[], answer)
+        self.note_answer(SHORTENED, len, &[], answer)
     }
 
     /// Waits until the disk has the bytes and the length, and of a file beside the permissions too.
     pub(crate) fn sync(&mut self) -> io::Result<()>
-        ensures noted { noted_calls self.new ≡ synced (is_ok result) ∷ noted_calls self.old }
+        ensures noted { noted_calls self.new ≡ sync_call (is_ok result) ∷ noted_calls self.old }
         ensures name { is_beside self.new ≡ is_beside self.old }
     {
         let answer = if self.is_beside {
@@ -330,7 +336,7 @@ impl<T: Read + Write + Seek + OpenFile + Drop> Noted<T> {
         } else {
             self.file.sync_data()
         };
-        self.answered(SYNCED, 0, &[], answer)
+        self.note_answer(SYNCED, 0, &[], answer)
     }
 
     /// Locks the file.
@@ -340,11 +346,11 @@ impl<T: Read + Write + Seek + OpenFile + Drop> Noted<T> {
     pub(crate) fn lock(&mut self) -> io::Result<()>
     where
         T: LockFile,
-        ensures noted { noted_calls self.new ≡ locked (is_ok result) ∷ noted_calls self.old }
+        ensures noted { noted_calls self.new ≡ lock_call (is_ok result) ∷ noted_calls self.old }
         ensures name { is_beside self.new ≡ is_beside self.old }
     {
         let answer = self.file.lock_alone();
-        self.answered(LOCKED, 0, &[], answer)
+        self.note_answer(LOCKED, 0, &[], answer)
     }
 
     /// Gives this file, which lies beside and is locked, the name of the other one; or removes it, if that fails.
@@ -361,7 +367,7 @@ impl<T: Read + Write + Seek + OpenFile + Drop> Noted<T> {
         requires other { is_beside other ≡ false }
         requires bytes { seen_after (noted_calls self.old) ≡ bytes.now }
         requires durable { Only bytes.now (MayLeave (noted_calls self.old)) }
-        ensures noted { noted_calls self.new ≡ renamed bytes.now (is_ok result) ∷ noted_calls other }
+        ensures noted { noted_calls self.new ≡ rename_call bytes.now (is_ok result) ∷ noted_calls other }
         ensures name { is_beside self.new ≡ false }
     {
         let Noted { history, .. } = other;
@@ -372,7 +378,7 @@ impl<T: Read + Write + Seek + OpenFile + Drop> Noted<T> {
         }
         self.is_beside = false;
         self.history = history;
-        self.answered(RENAMED, 0, bytes, answer)
+        self.note_answer(RENAMED, 0, bytes, answer)
     }
 
     /// Waits until the disk has the file's name.
@@ -380,7 +386,7 @@ impl<T: Read + Write + Seek + OpenFile + Drop> Noted<T> {
         &mut self,
         place: &Place<F, A>,
     ) -> io::Result<()>
-        ensures noted { noted_calls self.new ≡ named (is_ok result) ∷ noted_calls self.old }
+        ensures noted { noted_calls self.new ≡ folder_sync_call (is_ok result) ∷ noted_calls self.old }
         ensures name { is_beside self.new ≡ is_beside self.old }
     {
         self.sync_folder(&place.folder)
@@ -402,16 +408,16 @@ impl<T: Read + Write + Seek + OpenFile + Drop> Noted<T> {
     {
         let answer = fs::rename(files, name, path);
         self.is_beside = answer.is_err();
-        self.answered(TOOK_NAME, 0, path.as_bytes(), answer)
+        self.note_answer(TOOK_NAME, 0, path.as_bytes(), answer)
     }
 
     /// Waits until the disk has the names of a folder.
     pub(crate) fn sync_folder<D: OpenFile>(&mut self, folder: &D) -> io::Result<()>
-        ensures noted { noted_calls self.new ≡ named (is_ok result) ∷ noted_calls self.old }
+        ensures noted { noted_calls self.new ≡ folder_sync_call (is_ok result) ∷ noted_calls self.old }
         ensures name { is_beside self.new ≡ is_beside self.old }
     {
         let answer = folder.sync_all();
-        self.answered(NAMED, 0, &[], answer)
+        self.note_answer(NAMED, 0, &[], answer)
     }
 
     /// Removes the file, which lies beside the one at a path.
@@ -438,7 +444,7 @@ fn write_some<T: Write + Seek>(file: &mut T, at: usize, bytes: &[u8]) -> Wrote
     if at > MAX_OFFSET {
         return Wrote::Failed(io::ErrorKind::FileTooLarge.into());
     }
-    told(at, bytes, write_once(file, at, bytes))
+    wrote_of(at, bytes, write_once(file, at, bytes))
 }
 
 fn write_once<T: Write + Seek>(file: &mut T, at: usize, bytes: &[u8]) -> io::Result<usize>
@@ -455,12 +461,12 @@ fn write_on<T: Write>(file: &mut T, at: usize, bytes: &[u8]) -> Wrote
     if at > MAX_OFFSET {
         return Wrote::Failed(io::ErrorKind::FileTooLarge.into());
     }
-    told(at, bytes, file.write(bytes))
+    wrote_of(at, bytes, file.write(bytes))
 }
 
-// What a call did, by its answer. A call that takes none of some bytes has failed. One that found no room has written nothing: if there is
+// What a call did, by its result. A call that takes none of some bytes has failed. One that found no room has written nothing: if there is
 // room for a part, the system takes that, and says how much.
-fn told(at: usize, _bytes: &[u8], answer: io::Result<usize>) -> Wrote
+fn wrote_of(at: usize, _bytes: &[u8], answer: io::Result<usize>) -> Wrote
     requires offset { at < 2 ^ 63 }
     requires bound { IfOk answer (λ count. count ≤ length _bytes.now) }
     ensures { TookSome at (length _bytes.now) result }

@@ -22,7 +22,7 @@ pub struct Sent {
 impl Sent {
     ghost use Rattle.cedar_disk.specs.SpecialFiles.{sent_calls};
 
-    /// Something at a path, once it is open and the system has told what it is. Nothing was written to it.
+    /// Something at a path, once it is open and the system has said what it is. Nothing was written to it.
     ///
     /// # Errors
     /// `Unsupported` if it is a file.
@@ -45,7 +45,7 @@ impl Sent {
     }
 
     /// Returns what the system said of it once it was open: it isn't a file.
-    pub fn found(&self) -> &Metadata
+    pub fn found_metadata(&self) -> &Metadata
         //= What is written to as it is isn't a file, by what the system says of it once it is open.
         ensures { IsNoFile result.now }
     {

@@ -20,11 +20,12 @@ pub struct Special<T: Write + Drop> {
 }
 
 /// Opens what is at `path` to be written to, unless it is a file: then nothing is opened. It is neither made nor cut. None if a file is
-/// there, or nothing, or if the system doesn't tell.
+/// there, or nothing, or if the system doesn't say.
 ///
 /// # Errors
 /// That of opening it. `Unsupported` if a file has come to be there meanwhile.
 pub fn special_at<F: Files>(files: &F, path: &str) -> io::Result<Option<Special<F::File>>>
+    //= What is opened at a path and isn't a file has taken no byte yet.
     ensures { IfOk result (λ found. ForSome found (λ special. special_told special ≡ address path.now)) }
 {
     match fs::metadata(files, path) {
@@ -46,6 +47,7 @@ fn open_special<F: Files>(files: &F, path: &str) -> io::Result<Special<F::File>>
 impl<T: Write + Drop> Special<T> {
     /// Closes it, and returns what was written to it.
     pub fn into_sent(self) -> Sent
+        //= Once it is closed, exactly what was written to it is known.
         ensures { told_after (sent_calls result) ≡ special_told self }
     {
         let Special { sent, .. } = self;

@@ -94,7 +94,7 @@ pub(crate) fn open_file<F: Files>(files: &F, path: &str) -> io::Result<F::File> 
 const TRIES: usize = 100;
 
 /// Opens the file at a path to be read and written, and locks it. Whoever replaces a file has it locked, and locks the new one before that
-/// gets the path. So a file that was replaced while it was opened is told by its path, and then the new one is opened.
+/// gets the path. So a file that was replaced while it was opened is recognized by its path, and then the new one is opened.
 pub(crate) fn lock_file<F: Files>(files: &F, path: &str) -> Result<F::File, OpenError>
 where
     F::File: LockFile,

@@ -1,7 +1,10 @@
 //! Files that are written beside the one at a path and take its place once they are whole.
 
-ghost use Rattle.std.specs.Prelude.{◌≡◌, ◌∷◌, [], false, IfErr, IfOk, IsTrue, length, OnOk, Some, true};
-ghost use Rattle.cedar_disk.specs.Words.{asked_after, Keeps, LiesBeside, is_usable_after, IsPlaced, IsWholeBeside, IsUnplacedAt, opened, seen_after, WriteAppends, WritesAtMost};
+ghost use Rattle.std.specs.Prelude.{◌≡◌, ◌∷◌, [], false, IfErr, IfOk, IsTrue};
+ghost use Rattle.std.specs.Prelude.{length, OnOk, Some, true};
+ghost use Rattle.cedar_disk.specs.Words.{asked_after, Keeps, LiesBeside, is_usable_after, IsPlaced};
+ghost use Rattle.cedar_disk.specs.Words.{IsWholeBeside, IsUnplacedAt, open_call, seen_after};
+ghost use Rattle.cedar_disk.specs.Words.{WriteAppends, WritesAtMost};
 ghost use Rattle.cedar_disk.specs.NotedFiles.{is_beside, noted_calls};
 
 use crate::names::{NAMES, PATH_LEN, name_beside};
@@ -59,6 +62,7 @@ impl<'a, F: Files> NewFile<'a, F> {
     /// Those of looking at the path, of opening its folder and of making the file. `AlreadyExists` if all names are taken,
     /// `InvalidFilename` if the path is too long for one, `Unsupported` if something other than a file is at the path. Nothing was made then.
     pub fn beside(files: &'a F, path: &'a str) -> io::Result<NewFile<'a, F>>
+        //= A new file is empty, and is to have the name at the path. [with path]
         ensures empty { IfOk result (λ new. new_bytes new ≡ []) }
         ensures path { IfOk result (λ new. new_path new ≡ path.now) }
     {
@@ -93,7 +97,7 @@ impl<'a, F: Files> NewFile<'a, F> {
         ensures unplaced { IfErr result (λ failed. IsUnplacedAt (new_path self.entry) (new_bytes self.entry) (path_calls failed.calls)) }
     {
         if let Err(error) = self.make_ready() {
-            return Err(self.removed(error));
+            return Err(self.remove_after(error));
         }
         self.take_place()
     }
@@ -123,8 +127,8 @@ impl<'a, F: Files> NewFile<'a, F> {
         }
     }
 
-    /// Removes it, and tells why.
-    fn removed(self, error: io::Error) -> NotPlaced
+    /// Removes it, and returns why.
+    fn remove_after(self, error: io::Error) -> NotPlaced
         ensures { path_calls result.calls ≡ new_calls self.entry }
     {
         self.file.remove(self.files, self.name.as_str(), self.path);
@@ -173,6 +177,7 @@ impl<F: Files> Write for NewFile<'_, F> {
     ghost contents = { λ new. Some (new_bytes new) };
 
     fn write(&mut self, buf: &[u8]) -> io::Result<usize>
+        //= A write appends as many of its bytes as it returns, at most all of them, and none if it fails; the path stays. [with bound, path]
         ensures bytes { WriteAppends (Some (new_bytes self.old)) (Some (new_bytes self.new)) result buf.now }
         ensures bound { WritesAtMost result buf.now }
         ensures path { new_path self.new ≡ new_path self.old }
@@ -200,6 +205,7 @@ impl<F: Files> Write for NewFile<'_, F> {
     }
 
     fn flush(&mut self) -> io::Result<()>
+        //= A flush changes neither bytes nor path. [with path]
         ensures bytes { Keeps (Some (new_bytes self.old)) (Some (new_bytes self.new)) }
         ensures path { new_path self.new ≡ new_path self.old }
     {
@@ -214,7 +220,7 @@ pub(crate) fn make_named<F: Files>(
     mode: u32,
 ) -> io::Result<(ArrayString<PATH_LEN>, Noted<F::File>)>
     ensures named { IfOk result (λ made. LiesBeside path.now made.0.bytes) }
-    ensures noted { IfOk result (λ made. noted_calls made.1 ≡ opened [] ∷ []) }
+    ensures noted { IfOk result (λ made. noted_calls made.1 ≡ open_call [] ∷ []) }
     ensures beside { IfOk result (λ made. is_beside made.1 ≡ true) }
 {
     for number in 0..NAMES {

@@ -1,7 +1,10 @@
 //! Bytes written by as many calls as the system takes for them.
 
-ghost use Rattle.std.specs.Prelude.{◌≡◌, ◌<◌, ◌≤◌, ◌∷◌, [], false, IfErr, IfOk, IsErrOf, length, OnErr, OnOk, true};
-ghost use Rattle.cedar_disk.specs.Words.{AreWritten, AreWrittenInPart, compaction_path, faults_in, is_locked_after, IsUnplaced, MayLeave, named, Only, opened, renamed, seen_after, Spoils};
+ghost use Rattle.std.specs.Prelude.{◌≡◌, ◌<◌, ◌≤◌, ◌∷◌, [], false, IfErr, IfOk, IsErrOf};
+ghost use Rattle.std.specs.Prelude.{length, OnErr, OnOk, true};
+ghost use Rattle.cedar_disk.specs.Words.{AreWritten, AreWrittenInPart, compaction_path, faults_in};
+ghost use Rattle.cedar_disk.specs.Words.{folder_sync_call, is_locked_after, IsUnplaced, MayLeave};
+ghost use Rattle.cedar_disk.specs.Words.{Only, open_call, rename_call, seen_after, Spoils};
 ghost use Rattle.cedar_disk.specs.NotedFiles.{is_beside, noted_calls};
 ghost use Rattle.cedar_disk.specs.PathFiles.{place_path};
 
@@ -95,7 +98,7 @@ fn fill_like<T: Read + Write + Seek + OpenFile + Drop + LockFile, F: Files>(
     like: &Noted<T>,
     bytes: &[u8],
 ) -> Result<(), DeviceError>
-    requires made { noted_calls file.old ≡ opened [] ∷ [] }
+    requires made { noted_calls file.old ≡ open_call [] ∷ [] }
     ensures bytes { OnOk result (seen_after (noted_calls file.new) ≡ bytes.now) }
     ensures durable { OnOk result (Only bytes.now (MayLeave (noted_calls file.new))) }
     ensures locked { OnOk result (is_locked_after (noted_calls file.new) ≡ true) }
@@ -119,7 +122,7 @@ fn fill<T: Read + Write + Seek + OpenFile + Drop>(
     file: &mut Noted<T>,
     bytes: &[u8],
 ) -> Result<(), DeviceError>
-    requires made { noted_calls file.old ≡ opened [] ∷ [] }
+    requires made { noted_calls file.old ≡ open_call [] ∷ [] }
     ensures bytes { OnOk result (seen_after (noted_calls file.new) ≡ bytes.now) }
     ensures durable { OnOk result (Only bytes.now (MayLeave (noted_calls file.new))) }
     ensures name { is_beside file.new ≡ is_beside file.old }
@@ -148,7 +151,7 @@ pub(crate) fn put_in_place<T: Read + Write + Seek + OpenFile + Drop, F: Files + 
     requires other { is_beside other ≡ false }
     requires bytes { seen_after (noted_calls file.old) ≡ bytes.now }
     requires durable { Only bytes.now (MayLeave (noted_calls file.old)) }
-    ensures placed { OnOk result (noted_calls file.new ≡ named true ∷ renamed bytes.now true ∷ noted_calls other) }
+    ensures placed { OnOk result (noted_calls file.new ≡ folder_sync_call true ∷ rename_call bytes.now true ∷ noted_calls other) }
     ensures unknown { OnErr result (IsUnplaced bytes.now (noted_calls other) (noted_calls file.new)) }
     ensures name { is_beside file.new ≡ false }
 {

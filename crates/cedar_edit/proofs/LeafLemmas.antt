@@ -1,12 +1,12 @@
 -- A leaf that owns no slot: its first base, and its first label.
-use Rattle.std.proofs.Common.{◌≡◌, ◌∙◌, ℕ, List, [], ◌∷◌, ap, inl, inr, refl, subst, sym}
+use Rattle.std.proofs.Common.{◌≡◌, ◌∙◌, ℕ, [], ap, inl, inr, refl, subst, sym}
 use Rattle.std.specs.Prelude.{◌%◌, ◌≤◌, ◌<◌, ◌⊎◌, Bool, bit_xor, pos}
 use Rattle.std.specs.Int.Bits.{xor_self}
 use lib.Bits.{xor_assoc, xor_zero_r}
-use Rattle.cedar_tree.specs.Tree.{Forest}
+use Rattle.cedar_model.specs.Tree.{Forest}
 use Rattle.cedar_model.specs.declared.layout.Stored.TheVariants.{AtBase}
 use Rattle.cedar_model.specs.Table.Cells.{Cells, Held, SameHeld, Takes}
-use Rattle.cedar_model.specs.Meaning.Family.{base_in, base_of, below, Family, Head, own, plain, top, valued}
+use Rattle.cedar_model.specs.Meaning.Family.{base_in, base_of, below}
 use Rattle.cedar_model.specs.Relocation.Renaming.{OwnsNothing, Rebased}
 use Rattle.cedar_model.specs.Edit.NodeEdits.{follow_on, GoesFirst, IsNodeOf, LinkedChild, SetsChild, SetsSibling}
 use Rattle.cedar_model.specs.Edit.Steps.{Placed}
@@ -19,6 +19,7 @@ use Rattle.cedar_model.proofs.EditLemmas.Room.{label_free, label_place, LabelPla
 use Rattle.cedar_model.proofs.MeaningLemmas.NumberSlots.{marks_same}
 use Rattle.cedar_model.proofs.RelocationLemmas.Movable.{node_at_end}
 use Rattle.cedar_model.proofs.UpdateLemmas.BlocksMade.{made_framed}
+use Rattle.cedar_model.proofs.EditLemmas.OwnNumber.{alone_child}
 
 -- a leaf without base owns nothing
 pub leaf_alone : (size : ℕ) (T : Cells) (ordered : Bool) (f : Forest) (a : ℕ) → IsNodeOf size T ordered f a → (a ≡ 0 → ⊥) → T.stored a ≡ AtBase 0 → OwnsNothing T a
@@ -34,16 +35,9 @@ still_alone T T₁ T₂ a b same set alone q o =
 pub found_below : (T₁ T₂ : Cells) (a slot l : ℕ) → Rebased T₁ T₂ a (bit_xor slot l) → slot ≡ below T₂ a l
 found_below T₁ T₂ a slot l set = sym (ap (λ st. bit_xor (base_in st) l) set.set ∙ xor_assoc slot l l ∙ ap (bit_xor slot) (xor_self l) ∙ xor_zero_r slot)
 
-no_label : (size : ℕ) (T : Cells) (a : ℕ) (hd : Head) (ls : List ℕ) → (a ≡ 0 → ⊥) → Family size T a hd ls → OwnsNothing T a → T.child a ≡ 0
-no_label size T a plain [] z k alone = k.begins
-no_label size T a plain (l ∷ ls) z k alone = absurd (alone _ k.begins.3)
-no_label size T a (valued v) ls z k alone = k.begins.0
-no_label size T a (own v) ls z k alone = k.begins.0
-no_label size T a top ls z k alone = absurd (z k.begins.0)
-
 -- a node that owns nothing names no label
 pub names_none : (size : ℕ) (T : Cells) (ordered : Bool) (f : Forest) (a : ℕ) → IsNodeOf size T ordered f a → (a ≡ 0 → ⊥) → OwnsNothing T a → T.child a ≡ 0
-names_none size T ordered f a k z alone = let x = node_at_end size T f a (follow_on k.path []) k.holds k.at.0 k.at.1 z in no_label size T a x.head x.labels z x.family alone
+names_none size T ordered f a k z alone = let x = node_at_end size T f a (follow_on k.path []) k.holds k.at.0 k.at.1 z in alone_child size T a x.head x.labels z alone x.family
 
 -- so its first label begins the chain
 pub goes_alone : (T : Cells) (ordered : Bool) (a l : ℕ) → (a ≡ 0 → ⊥) → OwnsNothing T a → T.child a ≡ 0 → GoesFirst T ordered a l

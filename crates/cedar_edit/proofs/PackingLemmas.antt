@@ -2,8 +2,8 @@
 use Rattle.std.proofs.Common.{◌≡◌, ◌≢◌, ◌∙◌, false, ℕ, zero, suc, ◌+◌, ◌*◌, ◌≤◌, ◌⊎◌, ◌==◌, cond, List, [], ◌∷◌, ◌++◌, length, take, drop, ap, arith, inl, inr, refl, subst, sym, Some, Result, Ok, Err}
 use Rattle.std.specs.Prelude.{ℤ, IfOk, OnOk}
 use Rattle.std.proofs.lemmas.Bool.{cases_eq, cond-false, ne_eqb}
-use Rattle.cedar_tree.specs.Edits.{edit_at}
-use Rattle.cedar_tree.specs.Tree.{Forest, IsKey, Tree}
+use Rattle.cedar_model.specs.Edits.{edit_at}
+use Rattle.cedar_model.specs.Tree.{Forest, IsKey, Tree}
 use Rattle.cedar_slots.specs.declared.shortage.Shortage.{Shortage}
 use Rattle.cedar_model.specs.declared.layout.Stored.TheVariants.{AtBase}
 use Rattle.cedar_model.specs.Edit.KeyWalk.{Walked}
@@ -19,6 +19,7 @@ use Rattle.cedar_model.proofs.MeaningLemmas.NumberSlots.{root_unmarked}
 use Rattle.cedar_model.proofs.MeaningLemmas.TreeOf.{tree_of_is}
 use Rattle.cedar_model.proofs.UpdateLemmas.Packing.{joined, number_labels, small_on}
 use Rattle.cedar_edit.specs.Changes.{WalksIn}
+use Rattle.std.proofs.lemmas.List.{append-nil}
 
 -- more slots are no less
 pub small_more : (m n : ℕ) (T : Fields) → m ≤ n → StaysSmall m T → StaysSmall n T
@@ -64,16 +65,12 @@ key_front : (key : List ℕ) → IsKey key → key ≡ [] → ⊥
 key_front [] h e = h
 key_front (b ∷ key) h e = cc
 
-append_none : (key : List ℕ) → key ++ [] ≡ key
-append_none [] = refl
-append_none (b ∷ key) = ap (λ k. b ∷ k) (append_none key)
-
 -- the number of a key was set
 pub number_small : (slots : ℕ) (T mid T' : Fields) (key : List ℕ) (a : ℕ) (v : ℤ) → IsKey key → Walked slots T mid key key [] a → WalksIn T mid key a
     → ((f : Forest) (w : List ℕ) → TableHolds mid f → IsAt (cells_in mid) w a → TableHolds T' (edit_at w (λ _. Some v) (λ u. u) f))
     → (n : ℕ) × (n ≤ 1) × MakesBlocks n mid T' → ((cells_in mid).stored a ≡ AtBase 0 → TakesSingle mid T') → StaysSmall (size_of T + 256 * joins (tree_of T) key) T'
 number_small slots T mid T' key a v is_key k (inl same) set blocks single =
-    let one : joins (root_of k.forest) key ≡ 1 = joined (size_of mid) (cells_in mid) k.forest key key [] a k.holds k.at (key_front key is_key) (append_none key) in
+    let one : joins (root_of k.forest) key ≡ 1 = joined (size_of mid) (cells_in mid) k.forest key key [] a k.holds k.at (key_front key is_key) (append-nil key) in
     let tree : joins (tree_of T) key ≡ 1 = ap (λ (x : Fields). joins (tree_of x) key) (sym same) ∙ ap (λ (t : Tree). joins t key) (tree_of_is mid k.forest k.holds) ∙ one in
     let size : size_of mid ≡ size_of T = ap size_of same in
     inl (omega (arith, tree, size, blocks.1, blocks.2.active))

@@ -1,7 +1,7 @@
--- What a call answers that puts a key.
+-- What a call returns that puts a key.
 use Rattle.std.proofs.Common.{◌≡◌, ◌+◌, ◌*◌, ◌<◌, ℤ, ℕ, List, arith, Option, Result, Ok, Err, inl, inr, subst, sym}
 use Rattle.std.specs.Prelude.{IsErrAnd}
-use Rattle.cedar_tree.specs.Tree.{number_at}
+use Rattle.cedar_model.specs.Tree.{number_at}
 use Rattle.cedar_slots.specs.declared.shortage.Shortage.{Shortage}
 use Rattle.cedar_slots.specs.Places.{MayRefuse}
 use Rattle.cedar_model.specs.Edit.KeyWalk.{TakenBack}

@@ -1,4 +1,4 @@
--- What steps that may make a block answer.
+-- What steps that may make a block return.
 use Rattle.std.proofs.Common.{◌≡◌, ℕ, Result, Ok, Err, sym, subst}
 use Rattle.std.specs.Prelude.{IsErrAnd}
 use Rattle.cedar_slots.specs.declared.shortage.Shortage.{Shortage}

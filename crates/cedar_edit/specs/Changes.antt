@@ -1,7 +1,9 @@
 -- What the calls of this crate change of a tree, of its numbers' slots and of the blocks, each as one word.
-use Rattle.std.specs.Prelude.{◌≡◌, ◌≢◌, ◌⊎◌, ◌↔◌, ◌+◌, ◌*◌, ◌<◌, ◌≤◌, ℕ, ℤ, bit_xor, Bool, false, IfErr, IfOk, is_some, IsTrue, length, List, [], ◌∷◌, MatchOption, OnErr, OnOk, Option, pos, Result, Some, take, true}
-use Rattle.cedar_tree.specs.Tree.{Forest, has_label, IsAscending, number_at, put}
-use Rattle.cedar_tree.specs.Edits.{add_leaf, edit_at}
+use Rattle.std.specs.Prelude.{◌≡◌, ◌≢◌, ◌⊎◌, ◌↔◌, ◌+◌, ◌*◌, ◌<◌, ◌≤◌, ℕ, ℤ, bit_xor, Bool, false}
+use Rattle.std.specs.Prelude.{IfErr, IfOk, is_some, IsTrue, length, List, [], ◌∷◌, MatchOption}
+use Rattle.std.specs.Prelude.{OnErr, OnOk, Option, pos, Result, Some, take, true}
+use Rattle.cedar_model.specs.Tree.{Forest, has_label, IsAscending, number_at, put}
+use Rattle.cedar_model.specs.Edits.{add_leaf, edit_at}
 use Rattle.cedar_slots.specs.Places.{MayRefuse}
 use Rattle.cedar_slots.specs.declared.shortage.Shortage.{Shortage}
 use Rattle.cedar_model.specs.Table.Cells.{Cells, NoPlace}
@@ -85,7 +87,7 @@ WalksIn before after key a =
 pub record PutsKey (slots : ℕ) (before after : Fields) (key : List ℕ) (value : ℤ) (result : Result (Option ℤ) Shortage) : Type 0 where
   pub well_formed : IsWellFormed slots after
   pub put : OnOk result (tree_of after ≡ put (tree_of before) before.ordered key value)
-  -- the answer is the number that the key held
+  -- the result is the number that the key held
   pub held : IfOk result (λ number. number ≡ number_at (tree_of before) key)
   pub taken_back : OnErr result (tree_of after ≡ tree_of before)
   -- what there is too little of
@@ -98,7 +100,7 @@ pub record PutsKey (slots : ℕ) (before after : Fields) (key : List ℕ) (value
   pub packs : OnOk result (PacksKey before after key)
   pub modes : SameModes before after
 
--- ---- where numbers stand
+-- ---- where numbers are kept
 
 -- in the reduced layout the tree of the numbers that have slots is that of before with the key put
 abbrev pub PutsInMarks : Fields → Fields → List ℕ → Type 0
@@ -109,7 +111,7 @@ abbrev pub PutsInSlot : Fields → Fields → ℕ → Type 0
 PutsInSlot before after a =
     (before.layout ≡ reduced_layout → base_of (cells_in before) a ≢ 0) → PutsMark (cells_in before) (cells_in after) a true
 
--- and else it stands in the node's own base field
+-- and else it is kept in the node's own base field
 abbrev pub PutsInBase : Fields → Fields → ℕ → Type 0
 PutsInBase before after a =
     before.layout ≡ reduced_layout → base_of (cells_in before) a ≡ 0 → PutsMark (cells_in before) (cells_in after) a false
@@ -150,7 +152,7 @@ MovesForLabel before after a l =
 abbrev pub ChainsRest : ℕ → Cells → ℕ → ℕ → Type 0
 ChainsRest size T a l = (h : Head) (ls : List ℕ) → Family size T a h ls → Links T a l (rest_of (owned_slots h ls))
 
--- an answer says whether slot a owns more slots than slot b, which owns some
+-- a result says whether slot a owns more slots than slot b, which owns some
 abbrev pub TellsLonger : ℕ → Cells → ℕ → ℕ → Bool → Type 0
 TellsLonger size T a b longer =
     (h k : Head) (ls ms : List ℕ) → Family size T a h ls → Family size T b k ms

@@ -1,4 +1,4 @@
--- What a step that may make a block answers.
+-- What a step that may make a block returns.
 use Rattle.std.specs.Prelude.{ℕ, IfErr, OnErr, Result}
 use Rattle.cedar_slots.specs.declared.shortage.Shortage.{Shortage}
 use Rattle.cedar_slots.specs.Places.{MayRefuse, SameSlots}

@@ -1,4 +1,4 @@
--- Each exit of a load is the answer that the bytes decide.
+-- Each exit of a load is the result that the bytes decide.
 use Rattle.std.proofs.Common.{◌≡◌, ℕ, ℤ, pos, length, ◌+◌, ◌*◌, ◌/◌, ◌^◌, ◌≤◌, ◌≤ℤ◌, arith, rules, Bool, true, false, List, [], ◌∷◌, ◌++◌, take, Option, Some, None, Ok, Err, inl, inr, refl, sym, ap, ◌∙◌, subst, append-nil, append_assoc, take_at}
 use Rattle.std.specs.Prelude.{IfSome, MatchOption, int_lt}
 use Rattle.std.specs.Io.KnownBytes.{Consumes, IsAtEnd}
@@ -48,7 +48,7 @@ pub refuses : {X : Type 0} (table_in : X → Fields) (kind : LayoutKind) (slots 
     → LoadsBy table_in kind slots limit before after failed (Err e)
 refuses table_in kind slots limit before after failed e answer io lacks = record { bytes = tt; formed = tt; answer = answer; io = io; lacks = lacks }
 
--- what was loaded stands in something else now, which has the same table
+-- what was loaded is part of something else now, which has the same table
 pub stands_in : {X Y : Type 0} (table_in : X → Fields) (shown_in : Y → Fields) (kind : LayoutKind) (slots limit : ℕ) (before after : Option (List ℕ)) (failed : Bool) (x : X) (y : Y)
     → table_in x ≡ shown_in y → LoadsBy table_in kind slots limit before after failed (Ok x) → LoadsBy shown_in kind slots limit before after failed (Ok y)
 stands_in table_in shown_in kind slots limit before after failed x y same loads = record {

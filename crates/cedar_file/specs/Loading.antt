@@ -1,11 +1,13 @@
--- What a load answers.
-use Rattle.std.specs.Prelude.{◌≡◌, ◌⊎◌, ℕ, Bool, true, false, List, take, Option, Some, None, MatchOption, Result, Ok, Err, IfErr, IfOk, IfSome, IsErrAnd}
+-- What a load returns.
+use Rattle.std.specs.Prelude.{◌≡◌, ◌⊎◌, ℕ, Bool, true, false, List, take, Option, Some, None}
+use Rattle.std.specs.Prelude.{MatchOption, Result, Ok, Err, IfErr, IfOk, IfSome, IsErrAnd}
 use Rattle.std.specs.Io.KnownBytes.{Consumes}
 use Rattle.cedar_model.specs.Meaning.WellFormed.{IsWellFormed}
 use Rattle.cedar_model.specs.Table.Layouts.{LayoutKind, layout_byte}
 use Rattle.cedar_model.specs.Table.TableFields.{Fields}
 use Rattle.cedar_format.specs.declared.error.CedarPersistenceError.{CedarPersistenceError}
-use Rattle.cedar_format.specs.Format.{header_answer, header_at, header_refusal, size_refusal, IsVersion, Passes}
+use Rattle.cedar_format.specs.Format.{header_answer, header_at, header_refusal}
+use Rattle.cedar_format.specs.Format.{size_refusal, IsVersion, Passes}
 use Rattle.cedar_format.specs.Reading.{IsIo, LacksNoMore, LacksTable}
 use Rattle.cedar_format.specs.Refusal.{CorruptData, refusal, refusal_of}
 use Rattle.cedar_format.specs.Tables.{table_bytes, IsTableFile}
@@ -33,7 +35,7 @@ pub record LoadsBy {X : Type 0} (table : X → Fields) (kind : LayoutKind) (slot
   -- whatever the reader does, a table comes only with just its bytes, and it is well-formed
   pub bytes : IfOk result (λ x. (version : ℕ) × IsVersion version × Consumes before after (table_bytes version (table x)))
   pub formed : IfOk result (λ x. IsWellFormed slots (table x))
-  -- a reader that tells its bytes and doesn't fail, as bytes in memory, gets the answer that they decide
+  -- a reader that reports its bytes and doesn't fail, as bytes in memory, gets the result that they decide
   pub answer : IfSome before (λ bytes. failed ≡ false → LoadAnswers table kind slots limit bytes result)
   pub io : IfErr result (λ e. IsIo e → failed ≡ true)
   pub lacks : IfErr result (LacksNoMore (Passes (layout_byte kind) slots limit before))

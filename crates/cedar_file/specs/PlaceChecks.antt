@@ -1,13 +1,16 @@
 -- What a check of slots and blocks that nobody has vouched for looks for.
-use Rattle.std.specs.Prelude.{◌≡◌, ℕ, ◌*◌, ◌/◌, ◌≤◌, ◌&&◌, Bool, true, false, cond, ◌==◌, nat_lt, List, MatchResult, Result, pos, count_by}
+use Rattle.std.specs.Prelude.{◌≡◌, ℕ, ◌*◌, ◌/◌, ◌≤◌, ◌&&◌, Bool, true, false, cond, ◌==◌, nat_lt}
+use Rattle.std.specs.Prelude.{List, MatchResult, Result, pos, count_by}
 use Rattle.std.specs.List.{range_with_len}
-use Rattle.cedar_slots.specs.Blocks.{blank_block, block_at, BlockFields, BlockLink, counts_at, head_of, kind_of, ring_of}
+use Rattle.cedar_slots.specs.Blocks.{blank_block, block_at, BlockFields, BlockLink}
+use Rattle.cedar_slots.specs.Blocks.{counts_at, head_of, kind_of, ring_of}
 use Rattle.cedar_slots.specs.declared.blocks.BlockType.{BlockType}
 use Rattle.cedar_slots.specs.declared.blocks.BlockType.TheVariants.{Open, Closed, Full}
 use Rattle.cedar_slots.specs.declared.records.NodeRecord.{NodeRecord}
 use Rattle.cedar_slots.specs.Places.{Bounded, PlaceFields}
 use Rattle.cedar_slots.specs.Ring.{first_of, occurs, Ring}
-use Rattle.cedar_slots.specs.Slots.{blank_info, blank_node, info_at, is_free, node_record_at, SlotFields}
+use Rattle.cedar_slots.specs.Slots.{blank_info, blank_node, info_at, is_free}
+use Rattle.cedar_slots.specs.Slots.{node_record_at, SlotFields}
 
 -- xs has each number that passes the test once, and nothing else, and they are linked as a ring that begins at first
 pub record RingOf (Link : ℕ → ℕ → Type 0) (test : ℕ → Bool) (first : ℕ) (xs : List ℕ) : Type 0 where
@@ -19,7 +22,7 @@ pub record RingOf (Link : ℕ → ℕ → Type 0) (test : ℕ → Bool) (first :
 abbrev pub HasRing : (ℕ → ℕ → Type 0) → (ℕ → Bool) → ℕ → Type 0
 HasRing Link test first = (xs : List ℕ) × RingOf Link test first xs
 
--- y may stand after x in such a ring
+-- y may be after x in such a ring
 abbrev pub IsAfter : (ℕ → ℕ → Type 0) → (ℕ → Bool) → ℕ → ℕ → Type 0
 IsAfter Link test x y = Link x y × (test y ≡ true)
 

@@ -1,5 +1,6 @@
--- A walk over the nodes of a table of which it isn't known yet whether it stands for a tree.
-use Rattle.std.specs.Prelude.{◌≡◌, ◌≢◌, ℕ, zero, suc, ◌+◌, ◌*◌, ◌<◌, ◌≤◌, ◌⊎◌, Bool, true, ℤ, negsuc, pos, None, IfOk, IfSome, OnErr, Result, ◌^◌, is_some, cond}
+-- A walk over the nodes of a table of which it isn't known yet whether it represents a tree.
+use Rattle.std.specs.Prelude.{◌≡◌, ◌≢◌, ℕ, zero, suc, ◌+◌, ◌*◌, ◌<◌, ◌≤◌, ◌⊎◌, Bool, true, ℤ}
+use Rattle.std.specs.Prelude.{negsuc, pos, None, IfOk, IfSome, OnErr, Result, ◌^◌, is_some, cond}
 use Rattle.cedar_file.specs.declared.check.tree.Walk.{Walk}
 use Rattle.cedar_model.specs.declared.layout.Stored.{Stored}
 use Rattle.cedar_model.specs.declared.layout.Stored.TheVariants.{AtBase, OwnNumber, Nothing}

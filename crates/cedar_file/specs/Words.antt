@@ -1,8 +1,10 @@
 -- The words that the contracts of this crate cite, from one place.
 pub use Rattle.cedar_file.specs.Loading.{LoadsBy}
-pub use Rattle.cedar_file.specs.PlaceChecks.{BlankBlocks, BlankSlots, CountsInRange, free_count, free_here, HasBlankLabels, HasList}
+pub use Rattle.cedar_file.specs.PlaceChecks.{BlankBlocks, BlankSlots, CountsInRange, free_count}
+pub use Rattle.cedar_file.specs.PlaceChecks.{free_here, HasBlankLabels, HasList}
 pub use Rattle.cedar_file.specs.PlaceChecks.{HasRing, in_ring, ring_count, StepsFrom}
-pub use Rattle.cedar_file.specs.TreeWalk.{ComesBackIn, GoesDown, GoesOn, GoesUp, HasRoom, LooksLikeRoot, MeetsNode, StepsDown, StepsUp}
+pub use Rattle.cedar_file.specs.TreeWalk.{ComesBackIn, GoesDown, GoesOn, GoesUp, HasRoom}
+pub use Rattle.cedar_file.specs.TreeWalk.{LooksLikeRoot, MeetsNode, StepsDown, StepsUp}
 pub use Rattle.cedar_file.specs.TreeWalk.{walk_start}
 pub use Rattle.cedar_format.specs.Format.{CountsWithin, IsFile, need, trial_refusal}
 pub use Rattle.cedar_format.specs.Reading.{IsIo, IsLack, TellsBreaks}
@@ -16,7 +18,8 @@ pub use Rattle.cedar_model.specs.Table.Layouts.{layout_byte, reading}
 pub use Rattle.cedar_model.specs.Table.TableFields.{capacity_of, size_of}
 pub use Rattle.cedar_model.specs.declared.layout.Stored.TheVariants.{AtBase, OwnNumber}
 pub use Rattle.cedar_slots.specs.Blocks.{block_at, BlockLink, counts_at, HasLists, Sized}
-pub use Rattle.cedar_slots.specs.Places.{FreeBlock, HasFree, IsPowerOfTwo, IsSlotLimit, IsTable, Pruned, reject_at, Rejects, Shaped, Sound}
+pub use Rattle.cedar_slots.specs.Places.{FreeBlock, HasFree, IsPowerOfTwo, IsSlotLimit, IsTable}
+pub use Rattle.cedar_slots.specs.Places.{Pruned, reject_at, Rejects, Shaped, Sound}
 pub use Rattle.cedar_slots.specs.Slots.{info_at, is_free, node_record_at, SlotLink}
 pub use Rattle.cedar_slots.specs.Views.{blocks_of, places_of, slots_of}
 pub use Rattle.cedar_slots.specs.declared.blocks.BlockType.TheVariants.{Full}

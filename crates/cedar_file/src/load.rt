@@ -1,7 +1,9 @@
 //! How a table is loaded, and tested before anybody gets it.
 
 ghost use Rattle.std.specs.Prelude.{◌*◌, ◌+◌, ◌^◌, ◌≡◌, ◌≤◌, IfErr};
-ghost use Rattle.cedar_file.specs.Words.{CorruptData, CountsWithin, fields, file_fields, IsFile, IsIo, IsLack, IsSlotLimit, layout_byte, LoadsBy, need, refusal, refusal_of, TellsBreaks, trial_refusal};
+ghost use Rattle.cedar_file.specs.Words.{CorruptData, CountsWithin, fields, file_fields, IsFile};
+ghost use Rattle.cedar_file.specs.Words.{IsIo, IsLack, IsSlotLimit, layout_byte, LoadsBy, need};
+ghost use Rattle.cedar_file.specs.Words.{refusal, refusal_of, TellsBreaks, trial_refusal};
 
 use crate::check::check_well_formed;
 use cedar_format::{CedarPersistenceError, Decoded, Header, Source, decode_counted};

@@ -1,7 +1,8 @@
 //! How a table is written.
 
 ghost use Rattle.std.specs.Prelude.{◌≡◌, IfErr, OnOk, take, true};
-ghost use Rattle.cedar_file.specs.Words.{Appends, device_of, fields, FitsTable, has_failed, header_of, IsIo, table_bytes};
+ghost use Rattle.cedar_file.specs.Words.{Appends, device_of, fields, FitsTable, has_failed};
+ghost use Rattle.cedar_file.specs.Words.{header_of, IsIo, table_bytes};
 
 use cedar_format::{
     CedarPersistenceError, Header, Watched, listed_slots, write_header, write_lists,

@@ -29,7 +29,7 @@ front_that_came (Some bytes) (Some rest) buf size count len within took ended =
           ap (take size) took ∙ take_at (take count buf) rest size (short ∙ same)
     ]
 
--- without a fault the answer is that of the bytes that came
+-- without a fault the result is that of the bytes that came
 pub answer_known : {X F : Type 0} (old new : Option (List ℕ)) (buf : List ℕ) (size count : ℕ) (failed : Bool) (fault : Option F) (answer result : Result X CedarPersistenceError) (expected : List ℕ → Option Refusal)
     → length buf ≡ size → count ≤ size → Consumes old new (take count buf) → IfNone fault (count < size → IsAtEnd new)
     → OnSome fault (failed ≡ true) → IfNone fault (result ≡ answer) → refusal answer ≡ expected (take count buf)

@@ -1,6 +1,6 @@
--- What the tests of a header's sizes tell.
+-- What the tests of a header's sizes say.
 use Rattle.std.proofs.Common.{◌≡◌, ℕ, zero, suc, ◌*◌, ◌/◌, ◌%◌, ◌^◌, ◌≤◌, Bool, true, false, ◌&&◌, [], ◌∷◌, None, arith, refl, sym, ap, ◌∙◌, inl, inr}
-use Rattle.std.proofs.lemmas.Bool.{cases_lt, eqb-true, leb-true}
+use Rattle.std.proofs.lemmas.Bool.{cases_lt, eqb-true, leb-true, and_parts}
 use Rattle.std.proofs.lemmas.Nat.{ones_le_self, pow_pos, zero_from_ones}
 use Rattle.std.specs.Prelude.{◌==◌, codes, count_ones, nat_le}
 use Rattle.std.specs.Int.{is_power_of_two}
@@ -67,10 +67,6 @@ tests_pass true true false d e p q r s t none = absurd cc
 tests_pass true false c d e p q r s t none = absurd cc
 tests_pass false b c d e p q r s t none = absurd cc
 
-both : (a b : Bool) → (a && b) ≡ true → (a ≡ true) × (b ≡ true)
-both true b e = (refl, e)
-both false b e = absurd cc
-
 all_three : (a b c : Bool) → (a && b && c) ≡ true → (a ≡ true) × (b ≡ true) × (c ≡ true)
 all_three true true c e = (refl, refl, e)
 all_three true false c e = absurd cc
@@ -84,7 +80,7 @@ has_sizes slots limit h e =
     let state_test = (h.blocks_len == listed_in h / 256) && (h.reject_len == 257) && nat_le h.entries h.size in
     let (lens, capacity, size, state) = tests_pass lens_test capacity_test size_test state_test (nat_le (need h) limit)
     (InvalidHeader (codes "node_vector_lengths") h.array_len) (InvalidHeader (codes "capacity") h.capacity) (InvalidHeader (codes "size") h.size) (InvalidHeader (codes "state_lengths") h.blocks_len) (AllocationLimitExceeded (need h) limit) e in
-    let (array, infos) = both (h.array_len == listed_in h) (h.n_infos_len == listed_in h) lens in
+    let (array, infos) = and_parts (h.array_len == listed_in h) (h.n_infos_len == listed_in h) lens in
     let (one, least, most) = all_three (is_power_of_two h.capacity) (nat_le 256 h.capacity) (nat_le h.capacity slots) capacity in
     let (whole, some, in_capacity) = all_three (h.size % 256 == 0) (nat_le 256 h.size) (nat_le h.size h.capacity) size in
     let (blocks, reject, entries) = all_three (h.blocks_len == listed_in h / 256) (h.reject_len == 257) (nat_le h.entries h.size) state in

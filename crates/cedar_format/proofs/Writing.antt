@@ -8,18 +8,18 @@ use Rattle.cedar_slots.specs.declared.records.BlockRecord.{BlockRecord}
 use Rattle.cedar_slots.specs.declared.records.NInfoRecord.{NInfoRecord}
 use Rattle.cedar_slots.specs.declared.records.NodeRecord.{NodeRecord}
 use Rattle.cedar_slots.specs.Blocks.{blank_block}
-use Rattle.cedar_slots.specs.Padded.{padded}
+use Rattle.cedar_slots.specs.Padded.{with_blanks}
 use Rattle.cedar_slots.specs.Places.{Shaped}
 use Rattle.cedar_slots.specs.Slots.{blank_info, blank_node}
 use Rattle.cedar_model.specs.Table.TableFields.{Fields}
 use Rattle.cedar_format.specs.declared.header.Header.{Header}
-use Rattle.cedar_format.specs.Format.{filled_bytes, filled_list, FitsFilled, FitsHeader, header_bytes, listed_bytes}
+use Rattle.cedar_format.specs.Format.{filled_bytes, filled_list, FitsFilled, FitsHeader, header_bytes}
 use Rattle.cedar_format.specs.Records.{body_bytes, FitsBody}
 use Rattle.cedar_format.specs.Tables.{header_of, slots_listed, table_bytes, FitsTable}
 use Rattle.cedar_format.proofs.OneTable.{listed_fits}
 
 -- the first n items of a list with blanks behind its front
-pub listed_front : {X : Type 0} (blank : X) (len n : ℕ) (all front : List X) → all ≡ padded blank len front → n ≤ len → take n all ≡ filled_list blank n (take n front)
+pub listed_front : {X : Type 0} (blank : X) (len n : ℕ) (all front : List X) → all ≡ with_blanks blank len front → n ≤ len → take n all ≡ filled_list blank n (take n front)
 listed_front blank len n all front is most = ap (take n) is ∙ elim (cases_lt (length front) n) [
   | inl short ↦
       let k = n - length front in
@@ -33,9 +33,9 @@ listed_front blank len n all front is most = ap (take n) is ∙ elim (cases_lt (
 ]
 
 module _ (version : ℕ) (T : Fields) (h : Header) (is : h ≡ header_of version T) (shaped : Shaped T.places) (nodes : List NodeRecord) (infos : List NInfoRecord) (blocks : List BlockRecord)
-    (nodes_is : T.places.slots.nodes ≡ padded blank_node (length T.places.slots.nodes) nodes)
-    (infos_is : T.places.slots.infos ≡ padded blank_info (length T.places.slots.infos) infos)
-    (blocks_is : T.places.blocks.records ≡ padded blank_block (length T.places.blocks.records) blocks) where
+    (nodes_is : T.places.slots.nodes ≡ with_blanks blank_node (length T.places.slots.nodes) nodes)
+    (infos_is : T.places.slots.infos ≡ with_blanks blank_info (length T.places.slots.infos) infos)
+    (blocks_is : T.places.blocks.records ≡ with_blanks blank_block (length T.places.blocks.records) blocks) where
   abbrev n : ℕ
   n = slots_listed version T
 

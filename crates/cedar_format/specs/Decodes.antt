@@ -1,9 +1,11 @@
 -- What a decoding promises, whatever it reads from.
-use Rattle.std.specs.Prelude.{◌≡◌, ℕ, Bool, true, false, List, ◌++◌, Option, Result, IfErr, IfOk, IfSome, OnOk}
+use Rattle.std.specs.Prelude.{◌≡◌, ℕ, Bool, true, false, List, ◌++◌, Option, Result}
+use Rattle.std.specs.Prelude.{IfErr, IfOk, IfSome, OnOk}
 use Rattle.std.specs.Io.KnownBytes.{Consumes, IsAtEnd}
 use Rattle.cedar_format.specs.declared.body.Decoded.{Decoded}
 use Rattle.cedar_format.specs.declared.error.CedarPersistenceError.{CedarPersistenceError}
-use Rattle.cedar_format.specs.Format.{listed_bytes, listed_in, DecodeAnswers, IsFile, IsHeader, Passes}
+use Rattle.cedar_format.specs.Format.{listed_bytes, listed_in, DecodeAnswers}
+use Rattle.cedar_format.specs.Format.{IsFile, IsHeader, Passes}
 use Rattle.cedar_format.specs.Reading.{IsIo, LacksNoMore}
 
 -- fields were read of a source that had `before` left and now has `after`; `failed` is whether a read of it failed so far
@@ -12,7 +14,7 @@ pub record DecodesBy {A : Type 0} (layout slots limit : ℕ) (before after : Opt
   pub bytes : IfOk result (λ d. (front : List ℕ) × IsHeader layout front d.header
       × Consumes before after (front ++ listed_bytes (listed_in d.header) d.nodes.items d.n_infos.items d.blocks.items d.reject.items))
   pub file : IfOk result (λ d. IsFile slots limit d.header d.nodes.items d.n_infos.items d.blocks.items d.reject.items)
-  -- a reader that tells its bytes and doesn't fail gets the first refusal, if there is one
+  -- a reader that reports its bytes and doesn't fail gets the first refusal, if there is one
   pub answer : IfSome before (λ bytes. failed ≡ false → DecodeAnswers layout slots limit bytes result)
   pub at_end : OnOk result (failed ≡ false → IsAtEnd after)
   pub io : IfErr result (λ e. IsIo e → failed ≡ true)

@@ -1,5 +1,8 @@
 -- Formats 1.0 and 1.1: what their bytes mean, and which of them are refused.
-use Rattle.std.specs.Prelude.{◌≡◌, ◌⊎◌, ℕ, zero, suc, ℤ, pos, ◌+◌, ◌*◌, ◌/◌, ◌%◌, ◌-◌, ◌++◌, ◌==◌, ◌&&◌, ◌<◌, ◌≤◌, ◌^◌, nat_lt, nat_le, nat_eq, List, [], ◌∷◌, length, replicate, take, drop, slice_index, Option, None, codes, int_lt, if◌then◌else◌, Result, IsErrAnd}
+use Rattle.std.specs.Prelude.{◌≡◌, ◌⊎◌, ℕ, zero, suc, ℤ, pos, ◌+◌, ◌*◌, ◌/◌, ◌%◌, ◌-◌, ◌++◌, ◌==◌}
+use Rattle.std.specs.Prelude.{◌&&◌, ◌<◌, ◌≤◌, ◌^◌, nat_lt, nat_le, nat_eq, List, [], ◌∷◌, length}
+use Rattle.std.specs.Prelude.{replicate, take, drop, slice_index, Option, None, codes, int_lt}
+use Rattle.std.specs.Prelude.{if◌then◌else◌, Result, IsErrAnd}
 use Rattle.std.specs.Int.{w16, w32, w64, from_le_bytes, cast_signed, cast_unsigned, is_power_of_two}
 use Rattle.std.specs.List.{concat, starts_with}
 use Rattle.cedar_slots.specs.declared.records.NodeRecord.{NodeRecord}
@@ -11,11 +14,14 @@ use Rattle.cedar_slots.specs.Places.{IsPowerOfTwo}
 use Rattle.cedar_format.specs.Numbers.{i32_bytes, u16_bytes, u64_bytes, IsI32}
 use Rattle.cedar_format.specs.Records.{body_bytes, FitsBody}
 use Rattle.cedar_format.specs.declared.header.Header.{Header}
-use Rattle.cedar_format.specs.Refusal.{Refusal, InvalidMagic, UnsupportedVersion, UnsupportedByteOrder, LayoutMismatch, InvalidHeader, AllocationLimitExceeded, Truncated, TrailingData, unless, first_refusal, refusal}
+use Rattle.cedar_format.specs.Refusal.{Refusal, InvalidMagic, UnsupportedVersion}
+use Rattle.cedar_format.specs.Refusal.{UnsupportedByteOrder, LayoutMismatch, InvalidHeader}
+use Rattle.cedar_format.specs.Refusal.{AllocationLimitExceeded, Truncated, TrailingData, unless}
+use Rattle.cedar_format.specs.Refusal.{first_refusal, refusal}
 use Rattle.cedar_format.specs.declared.error.CedarPersistenceError.{CedarPersistenceError}
 use Rattle.cedar_format.specs.Reading.{BeginsWithFront, LacksTable}
 
--- the number that stands at a place of the bytes, the lowest byte first
+-- the number at a position of the bytes, the lowest byte first
 abbrev pub u8_at : ℕ → List ℕ → ℕ
 u8_at at bytes = slice_index bytes at
 
@@ -32,7 +38,7 @@ u64_at at bytes = from_le_bytes w64 (drop at bytes)
 abbrev pub magic : List ℕ
 magic = 67 ∷ 69 ∷ 68 ∷ 65 ∷ 82 ∷ 87 ∷ 0 ∷ 0 ∷ []
 
--- the header that stands in the first 88 bytes
+-- the header in the first 88 bytes
 abbrev pub header_at : List ℕ → Header
 header_at bytes = record {
   minor = u16_at 10 bytes;
@@ -50,7 +56,7 @@ header_at bytes = record {
   entries = u64_at 80 bytes;
 }
 
--- a step that reads the bytes up to a place
+-- a step that reads the bytes up to a position
 abbrev pub reads_to : ℕ → List ℕ → Option Refusal
 reads_to end bytes = unless (nat_le end (length bytes)) Truncated
 

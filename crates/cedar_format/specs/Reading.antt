@@ -1,8 +1,11 @@
--- What reads and writes tell of the bytes that a reader has left and a writer holds, where those are known.
-use Rattle.std.specs.Prelude.{ℕ, ◌≡◌, ◌<◌, ◌/◌, ◌⊎◌, Bool, true, false, List, length, take, Option, Some, None, ⊤, Result, IfErr, IfOk, MatchResult}
+-- What reads and writes say of the bytes that a reader has left and a writer holds, where those are known.
+use Rattle.std.specs.Prelude.{ℕ, ◌≡◌, ◌<◌, ◌/◌, ◌⊎◌, Bool, true, false, List, length, take, Option}
+use Rattle.std.specs.Prelude.{Some, None, ⊤, Result, IfErr, IfOk, MatchResult}
 use Rattle.std.specs.Io.KnownBytes.{Consumes}
 use Rattle.cedar_format.specs.declared.error.CedarPersistenceError.{CedarPersistenceError}
-use Rattle.cedar_format.specs.declared.error.CedarPersistenceError.TheVariants.{Io, Truncated, AllocationFailed, TrailingData}
+use Rattle.cedar_format.specs.declared.error.CedarPersistenceError.TheVariants.{Io, Truncated}
+use Rattle.cedar_format.specs.declared.error.CedarPersistenceError.TheVariants.{AllocationFailed}
+use Rattle.cedar_format.specs.declared.error.CedarPersistenceError.TheVariants.{TrailingData}
 use Rattle.cedar_format.specs.declared.header.Header.{Header}
 
 -- fewer than n bytes are left
@@ -21,7 +24,7 @@ abbrev pub IsIo : CedarPersistenceError → Type 0
 IsIo (Io cause) = ⊤
 IsIo _ = ⊥
 
--- where a success or an end of the input is answered, no read was broken off
+-- where a success or an end of the input is returned, no read was broken off
 abbrev pub TellsBreaks : {X : Type 0} → Bool → Bool → Result X CedarPersistenceError → Type 0
 TellsBreaks old new answer = MatchResult answer (λ x. new ≡ old) (λ e. e ≡ Truncated → new ≡ old)
 
@@ -36,7 +39,7 @@ abbrev pub IsLack : CedarPersistenceError → Type 0
 IsLack (AllocationFailed n) = ⊤
 IsLack _ = ⊥
 
--- what a byte behind the end answers, or a fault there
+-- what a byte behind the end makes a read return, or a fault there
 abbrev pub Trails : Option (List ℕ) → Bool → CedarPersistenceError → Type 0
 Trails left failed (Io cause) = failed ≡ true
 Trails None failed TrailingData = ⊤

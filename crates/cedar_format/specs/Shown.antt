@@ -1,9 +1,18 @@
 -- The texts of refusals.
 use Rattle.std.specs.Prelude.{ℕ, List, Option, None, Some, ◌++◌, codes, decimal}
 use Rattle.cedar_format.specs.declared.error.CedarPersistenceError.{CedarPersistenceError}
-use Rattle.cedar_format.specs.declared.error.CedarPersistenceError.TheVariants.{Io, Truncated, InvalidMagic, UnsupportedVersion, UnsupportedByteOrder, LayoutMismatch, InvalidHeader, AllocationLimitExceeded, AllocationFailed, CorruptData, TrailingData}
+use Rattle.cedar_format.specs.declared.error.CedarPersistenceError.TheVariants.{Io, Truncated}
+use Rattle.cedar_format.specs.declared.error.CedarPersistenceError.TheVariants.{InvalidMagic}
+use Rattle.cedar_format.specs.declared.error.CedarPersistenceError.TheVariants.{UnsupportedVersion}
+use Rattle.cedar_format.specs.declared.error.CedarPersistenceError.TheVariants.{UnsupportedByteOrder}
+use Rattle.cedar_format.specs.declared.error.CedarPersistenceError.TheVariants.{LayoutMismatch}
+use Rattle.cedar_format.specs.declared.error.CedarPersistenceError.TheVariants.{InvalidHeader}
+use Rattle.cedar_format.specs.declared.error.CedarPersistenceError.TheVariants.{AllocationLimitExceeded}
+use Rattle.cedar_format.specs.declared.error.CedarPersistenceError.TheVariants.{AllocationFailed}
+use Rattle.cedar_format.specs.declared.error.CedarPersistenceError.TheVariants.{CorruptData}
+use Rattle.cedar_format.specs.declared.error.CedarPersistenceError.TheVariants.{TrailingData}
 
--- what stands in front of a device's own text
+-- what comes before a device's own text
 abbrev pub fault_prefix : List ℕ
 fault_prefix = codes "persistence I/O error: "
 

@@ -4,7 +4,8 @@ use Rattle.cedar_model.specs.Table.Layouts.{layout_byte}
 use Rattle.cedar_model.specs.Table.TableFields.{Fields}
 use Rattle.cedar_model.specs.Meaning.WellFormed.{IsWellFormed}
 use Rattle.cedar_format.specs.declared.header.Header.{Header}
-use Rattle.cedar_format.specs.Format.{header_answer, header_at, header_bytes, need, FitsHeader, IsVersion}
+use Rattle.cedar_format.specs.Format.{header_answer, header_at, header_bytes, need}
+use Rattle.cedar_format.specs.Format.{FitsHeader, IsVersion}
 use Rattle.cedar_format.specs.Tables.{header_of, table_bytes, FitsTable}
 
 -- two well-formed tables with the same bytes in any of the versions are one, field by field, and the version is the same

@@ -10,7 +10,8 @@ use Rattle.cedar_slots.specs.Slots.{blank_info, blank_node}
 use Rattle.cedar_model.specs.Table.TableFields.{Fields, capacity_of, size_of}
 use Rattle.cedar_model.specs.Meaning.WellFormed.{IsWellFormed}
 use Rattle.cedar_format.specs.declared.header.Header.{Header}
-use Rattle.cedar_format.specs.Format.{filled_list, header_bytes, listed_slots, listed_bytes, FitsHeader, IsVersion}
+use Rattle.cedar_format.specs.Format.{filled_list, header_bytes, listed_slots}
+use Rattle.cedar_format.specs.Format.{listed_bytes, FitsHeader, IsVersion}
 use Rattle.cedar_format.specs.Records.{FitsBody}
 
 -- how many slots a table's file of this version lists

@@ -14,7 +14,7 @@ has_failed w = w.failed
 abbrev pub is_broken : {D : Type 0} → Watched D → Bool
 is_broken w = w.broken
 
--- a write of these bytes answered a fault, or took none of some bytes
+-- a write of these bytes returned a fault, or took none of some bytes
 abbrev pub is_write_fault : {E : Type 0} → Result ℕ E → List ℕ → Bool
 is_write_fault (Ok n) bytes = n == 0 && not (length bytes == 0)
 is_write_fault (Err e) bytes = true

@@ -1,7 +1,13 @@
 //! The tables of a file.
 
-ghost use Rattle.std.specs.Prelude.{◌+◌, ◌/◌, ◌<◌, ◌^◌, ◌≡◌, ◌≤◌, [], false, IfErr, IfOk, length, OnOk, true, vec_capacity};
-ghost use Rattle.cedar_format.specs.Words.{Appends, blank_block, blank_info, blank_node, body_bytes, body_len, Consumes, CountsWithin, DecodesBy, device_of, filled_bytes, filled_list, FitsBody, FitsFilled, has_failed, IsAtEnd, IsIo, IsSlotLimit, LacksTable, Misses, need, Passes, tables_len, TellsBreaks, Trails};
+ghost use Rattle.std.specs.Prelude.{◌+◌, ◌/◌, ◌<◌, ◌^◌, ◌≡◌, ◌≤◌, [], false, IfErr, IfOk};
+ghost use Rattle.std.specs.Prelude.{length, OnOk, true, vec_capacity};
+ghost use Rattle.cedar_format.specs.Words.{Appends, blank_block, blank_info, blank_node};
+ghost use Rattle.cedar_format.specs.Words.{body_bytes, body_len, Consumes, CountsWithin, DecodesBy};
+ghost use Rattle.cedar_format.specs.Words.{device_of, filled_bytes, filled_list, FitsBody};
+ghost use Rattle.cedar_format.specs.Words.{FitsFilled, has_failed, IsAtEnd, IsIo, IsSlotLimit};
+ghost use Rattle.cedar_format.specs.Words.{LacksTable, Misses, need, Passes, tables_len};
+ghost use Rattle.cedar_format.specs.Words.{TellsBreaks, Trails};
 
 use crate::buffer::BUFFER_LEN;
 use crate::error::CedarPersistenceError;
@@ -191,11 +197,11 @@ pub fn decode<S: Source, A: Allocator + Copy>(
     //  read_i16, read_i32, read_u64, read_usize; by TellsBreaks]
     ensures told { TellsBreaks (S.broken reader.old) (S.broken reader.new) result }
 {
-    uncounted::<Brand, S, A>(alloc, reader, layout, slots, memory_limit, Blank::new(1))
+    decode_uncounted::<Brand, S, A>(alloc, reader, layout, slots, memory_limit, Blank::new(1))
 }
 
 /// Decodes with a count of its own, which nothing reads.
-fn uncounted<C: Ledger, S: Source, A: Allocator + Copy>(
+fn decode_uncounted<C: Ledger, S: Source, A: Allocator + Copy>(
     alloc: A,
     reader: &mut S,
     layout: u8,

@@ -1,7 +1,8 @@
-//! Numbers at the start of some bytes, at a place among them, and after those in a buffer.
+//! Numbers at the start of some bytes, at a position among them, and after those in a buffer.
 
 ghost use Rattle.std.specs.Prelude.{◌++◌, ◌+◌, ◌∷◌, ◌≡◌, ◌≤◌, length, take};
-ghost use Rattle.cedar_format.specs.Words.{array_vec_len, i16_bytes, i32_bytes, IsI16, IsI32, u16_bytes, u64_bytes};
+ghost use Rattle.cedar_format.specs.Words.{array_vec_len, i16_bytes, i32_bytes, IsI16, IsI32};
+ghost use Rattle.cedar_format.specs.Words.{u16_bytes, u64_bytes};
 
 use crate::header::HEADER_LEN;
 use arrayvec::ArrayVec;
@@ -52,7 +53,7 @@ pub(crate) fn put_usize(buffer: &mut Buffer, value: usize)
     put_bytes(buffer, &(value as u64).to_le_bytes());
 }
 
-/// Writes a signed number as 2 bytes at a place.
+/// Writes a signed number as 2 bytes at a position.
 #[tactic(auto, unfolding(crate::specs::Numbers::i16_bytes))]
 #[inline(always)]
 pub(crate) fn write_i16_at(bytes: &mut [u8], at: usize, value: i16)
@@ -64,7 +65,7 @@ pub(crate) fn write_i16_at(bytes: &mut [u8], at: usize, value: i16)
     bytes[at..at + 2].copy_from_slice(&value.to_le_bytes());
 }
 
-/// Writes a signed number as 4 bytes at a place.
+/// Writes a signed number as 4 bytes at a position.
 #[tactic(auto, unfolding(crate::specs::Numbers::i32_bytes))]
 #[inline(always)]
 pub(crate) fn write_i32_at(bytes: &mut [u8], at: usize, value: i32)

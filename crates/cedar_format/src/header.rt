@@ -1,7 +1,14 @@
 //! The header of a file.
 
-ghost use Rattle.std.specs.Prelude.{◌+◌, ◌<◌, ◌^◌, ◌≡◌, ◌≢◌, ◌≤◌, ◌⊎◌, Err, false, IfErr, IfNone, IfOk, IfSome, IsSome, length, List, nat_eq, Ok, OnOk, slice_index, take, true, ℕ};
-ghost use Rattle.cedar_format.specs.Words.{Appends, Consumes, device_of, error_kind, FitsHeader, has_failed, header_at, header_bytes, header_refusal, i32_at, InvalidHeader, Io, IsHeader, IsIo, IsLack, IsVersion, kind_refusal, listed_slots, magic, refusal, refusal_of, size_refusal, starts_with, TellsBreaks, Truncated, u16_at, u64_at, version_refusal};
+ghost use Rattle.std.specs.Prelude.{◌+◌, ◌<◌, ◌^◌, ◌≡◌, ◌≢◌, ◌≤◌, ◌⊎◌, Err, false, IfErr, IfNone};
+ghost use Rattle.std.specs.Prelude.{IfOk, IfSome, IsSome, length, List, nat_eq, Ok, OnOk};
+ghost use Rattle.std.specs.Prelude.{slice_index, take, true, ℕ};
+ghost use Rattle.cedar_format.specs.Words.{Appends, Consumes, device_of, error_kind, FitsHeader};
+ghost use Rattle.cedar_format.specs.Words.{has_failed, header_at, header_bytes, header_refusal};
+ghost use Rattle.cedar_format.specs.Words.{i32_at, InvalidHeader, Io, IsHeader, IsIo, IsLack};
+ghost use Rattle.cedar_format.specs.Words.{IsVersion, kind_refusal, listed_slots, magic, refusal};
+ghost use Rattle.cedar_format.specs.Words.{refusal_of, size_refusal, starts_with, TellsBreaks};
+ghost use Rattle.cedar_format.specs.Words.{Truncated, u16_at, u64_at, version_refusal};
 
 use crate::buffer::{Buffer, put_bytes, put_i32, put_u16, put_usize};
 use crate::error::CedarPersistenceError;
@@ -56,7 +63,7 @@ pub struct Header {
     pub entries: usize,
 }
 
-/// Returns the number of 2 bytes at a place.
+/// Returns the number of 2 bytes at a position.
 #[tactic(auto, unfolding(crate::specs::Format::u16_at))]
 fn u16_at(bytes: &[u8], at: usize) -> u16
     requires { at + 2 ≤ length bytes.now }
@@ -65,7 +72,7 @@ fn u16_at(bytes: &[u8], at: usize) -> u16
     u16::from_le_bytes([bytes[at], bytes[at + 1]])
 }
 
-/// Returns the signed number of 4 bytes at a place.
+/// Returns the signed number of 4 bytes at a position.
 #[tactic(auto, unfolding(crate::specs::Format::i32_at))]
 fn i32_at(bytes: &[u8], at: usize) -> i32
     requires { at + 4 ≤ length bytes.now }
@@ -74,7 +81,7 @@ fn i32_at(bytes: &[u8], at: usize) -> i32
     i32::from_le_bytes([bytes[at], bytes[at + 1], bytes[at + 2], bytes[at + 3]])
 }
 
-/// Returns the number of 8 bytes at a place.
+/// Returns the number of 8 bytes at a position.
 #[tactic(auto, unfolding(crate::specs::Format::u64_at))]
 fn u64_at(bytes: &[u8], at: usize) -> u64
     requires { at + 8 ≤ length bytes.now }
@@ -292,6 +299,8 @@ pub fn write_header<W: Write>(
 ) -> Result<(), CedarPersistenceError>
     //= A header is written as exactly its bytes, in the version that it names. [with err]
     ensures bytes { OnOk result (Appends (W.contents (device_of writer.old)) (W.contents (device_of writer.new)) (header_bytes layout header)) }
+
+    //= Each number of a header fits its field.
     ensures fits { FitsHeader header }
     ensures err { IfErr result (λ e. IsIo e × (has_failed writer.new ≡ true)) }
     ensures failed { has_failed writer.old ≡ true → has_failed writer.new ≡ true }

@@ -1,7 +1,9 @@
 //! Lists of records, in large pieces.
 
-ghost use Rattle.std.specs.Prelude.{◌*◌, ◌++◌, ◌+◌, ◌≡◌, ◌≤◌, [], All, flat_map, IfErr, length, List, OnOk, replicate, true, vec_capacity, vec_len, ℕ};
-ghost use Rattle.cedar_format.specs.Words.{Appends, Consumes, device_of, filled_list, has_failed, IsIo, Misses, TellsBreaks};
+ghost use Rattle.std.specs.Prelude.{◌*◌, ◌++◌, ◌+◌, ◌≡◌, ◌≤◌, [], All, flat_map, IfErr, length};
+ghost use Rattle.std.specs.Prelude.{List, OnOk, replicate, true, vec_capacity, vec_len, ℕ};
+ghost use Rattle.cedar_format.specs.Words.{Appends, Consumes, device_of, filled_list, has_failed};
+ghost use Rattle.cedar_format.specs.Words.{IsIo, Misses, TellsBreaks};
 
 use crate::buffer::BUFFER_LEN;
 use crate::error::CedarPersistenceError;

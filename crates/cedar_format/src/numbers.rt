@@ -1,7 +1,8 @@
 //! One number at a time, little-endian.
 
 ghost use Rattle.std.specs.Prelude.{◌∷◌, ◌≡◌, [], IfErr, OnOk, true};
-ghost use Rattle.cedar_format.specs.Words.{Appends, device_of, has_failed, i16_bytes, i32_bytes, IsIo, ReadsBy, TellsBreaks, u16_bytes, u64_bytes};
+ghost use Rattle.cedar_format.specs.Words.{Appends, device_of, has_failed, i16_bytes, i32_bytes};
+ghost use Rattle.cedar_format.specs.Words.{IsIo, ReadsBy, TellsBreaks, u16_bytes, u64_bytes};
 
 use crate::buffer::{i16_of, i32_of, u16_of, u64_of};
 use crate::error::CedarPersistenceError;

@@ -1,7 +1,9 @@
 //! The records that a file has lists of: those of a table, and single numbers.
 
 ghost use Rattle.std.specs.Prelude.{◌++◌, ◌+◌, ◌<◌, ◌≡◌, ◌≤◌, length, List, take, ℕ};
-ghost use Rattle.cedar_format.specs.Words.{block_bytes, FitsBlock, FitsInfo, FitsNode, i16_bytes, info_bytes, IsI16, length-append, length-i16_bytes, length-i32_bytes, node_bytes, rules};
+ghost use Rattle.cedar_format.specs.Words.{block_bytes, FitsBlock, FitsInfo, FitsNode, i16_bytes};
+ghost use Rattle.cedar_format.specs.Words.{info_bytes, IsI16, length-append, length-i16_bytes};
+ghost use Rattle.cedar_format.specs.Words.{length-i32_bytes, node_bytes, rules};
 
 use crate::buffer::{take_i16, take_i32, take_u8, write_i16_at, write_i32_at};
 use cedar_slots::{BlockRecord, NInfoRecord, NodeRecord};
@@ -26,7 +28,7 @@ pub(crate) trait Record: Copy + Drop {
         ensures len { length bytes.old.now ≡ LEN + length bytes.new.now }
         ensures fits { Fits result };
 
-    /// Writes its bytes at a place. The bytes before that place stay.
+    /// Writes its bytes at a position. The bytes before that position stay.
     fn write_at(&self, bytes: &mut [u8], at: usize)
         requires { at + LEN ≤ length bytes.old }
         ensures front { take (at + LEN) bytes.new ≡ take at bytes.old ++ bytes_of self.now }

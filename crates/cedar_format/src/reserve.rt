@@ -1,6 +1,7 @@
 //! Room for a table's lists.
 
-ghost use Rattle.std.specs.Prelude.{◌*◌, ◌+◌, ◌<◌, ◌^◌, ◌≡◌, ◌≤◌, IfErr, OnOk, vec_capacity, vec_len};
+ghost use Rattle.std.specs.Prelude.{◌*◌, ◌+◌, ◌<◌, ◌^◌, ◌≡◌, ◌≤◌, IfErr, OnOk};
+ghost use Rattle.std.specs.Prelude.{vec_capacity, vec_len};
 ghost use Rattle.cedar_format.specs.Words.{AllocationFailed, refusal_of};
 
 use crate::error::CedarPersistenceError;
@@ -20,6 +21,8 @@ pub fn reserve_exact<T, A: Allocator>(
     //= Room for so many more elements is made, or refused with their number; the elements stay. [with ok, err]
     ensures items { vec.new.items ≡ vec.old.items }
     ensures ok { OnOk result (vec_len vec.new + len ≤ vec_capacity vec.new) }
+
+    //= If there was no room for more, there is room for exactly so many then.
     ensures exact { OnOk result (vec_capacity vec.old ≤ vec_len vec.old + len → vec_capacity vec.new ≡ vec_len vec.old + len) }
     ensures err { IfErr result (λ e. refusal_of e ≡ AllocationFailed len) }
 {

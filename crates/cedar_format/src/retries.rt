@@ -2,8 +2,11 @@
 //!
 //! The flags of `Watched` are out of reach here. So only a failed call of the device sets them.
 
-ghost use Rattle.std.specs.Prelude.{◌||◌, ◌≡◌, ◌≢◌, false, IfErr, is_err, length, OnErr, OnOk, true};
-ghost use Rattle.cedar_format.specs.Words.{Appends, Consumes, device_of, EndsWithin, error_kind, has_failed, is_broken, is_write_fault, Keeps, ReadConsumes, ReadsAtMost, WriteAppends, WritesAtMost};
+ghost use Rattle.std.specs.Prelude.{◌||◌, ◌≡◌, ◌≢◌, false, IfErr, is_err, length};
+ghost use Rattle.std.specs.Prelude.{OnErr, OnOk, true};
+ghost use Rattle.cedar_format.specs.Words.{Appends, Consumes, device_of, EndsWithin, error_kind};
+ghost use Rattle.cedar_format.specs.Words.{has_failed, is_broken, is_write_fault, Keeps};
+ghost use Rattle.cedar_format.specs.Words.{ReadConsumes, ReadsAtMost, WriteAppends, WritesAtMost};
 
 use crate::error::CedarPersistenceError;
 use crate::source::{Source, fault_of};

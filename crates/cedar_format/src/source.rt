@@ -1,7 +1,9 @@
 //! What a file is loaded from: a watched reader, or bytes in memory.
 
-ghost use Rattle.std.specs.Prelude.{◌<◌, ◌≡◌, ◌≢◌, ◌≤◌, Bool, false, IfErr, IfNone, IfSome, length, List, OnOk, OnSome, Option, Some, take, true, ℕ};
-ghost use Rattle.cedar_format.specs.Words.{Consumes, error_kind, Io, IsAtEnd, IsLack, Misses, TellsBreaks, Truncated};
+ghost use Rattle.std.specs.Prelude.{◌<◌, ◌≡◌, ◌≢◌, ◌≤◌, Bool, false, IfErr, IfNone, IfSome, length};
+ghost use Rattle.std.specs.Prelude.{List, OnOk, OnSome, Option, Some, take, true, ℕ};
+ghost use Rattle.cedar_format.specs.Words.{Consumes, error_kind, Io, IsAtEnd, IsLack, Misses};
+ghost use Rattle.cedar_format.specs.Words.{TellsBreaks, Truncated};
 
 use crate::buffer::take_bytes;
 use crate::error::CedarPersistenceError;

@@ -1,7 +1,9 @@
 //! A reader or writer that remembers whether one of its calls failed.
 
 ghost use Rattle.std.specs.Prelude.{◌||◌, ◌≡◌, ◌≢◌, false, IfErr, is_err, OnOk, true};
-ghost use Rattle.cedar_format.specs.Words.{device_of, error_kind, has_failed, is_broken, is_write_fault, Keeps, ReadConsumes, ReadsAtMost, WriteAppends, WritesAtMost};
+ghost use Rattle.cedar_format.specs.Words.{device_of, error_kind, has_failed, is_broken};
+ghost use Rattle.cedar_format.specs.Words.{is_write_fault, Keeps, ReadConsumes, ReadsAtMost};
+ghost use Rattle.cedar_format.specs.Words.{WriteAppends, WritesAtMost};
 
 use std::io;
 use std::io::{ErrorKind, Read, Write};

@@ -8,7 +8,7 @@ use Rattle.hex.specs.declared.error.FromHexError.{FromHexError}
 use Rattle.hex.specs.declared.error.FromHexError.TheVariants.{InvalidHexCharacter}
 use Rattle.hex.proofs.Pairs.{decode_err, decode_step, prepend}
 
--- a number tells the value of a digit, or is 16 or more where there is none
+-- a number is the value of a digit, or 16 or more where there is none
 abbrev pub Tells : ℕ → ℕ → Type 0
 Tells digit n = MatchOption (hex_digit_value digit) (16 ≤ n) (λ value. n ≡ value)
 

@@ -1,7 +1,9 @@
 //! Digits read as bytes, and bytes written as digits.
 
-ghost use Rattle.std.specs.Prelude.{◌%◌, ◌*◌, ◌+◌, ◌/◌, ◌<◌, ◌≡◌, ◌≤◌, drop, IfSome, is_err, length, MatchOption, Ok, option_map, slice_index, take, true};
-ghost use Rattle.cedar_hex.specs.Words.{decode_of, decode_pairs, encode_lower, hex_digit_value, lower_digits, result_ok};
+ghost use Rattle.std.specs.Prelude.{◌%◌, ◌*◌, ◌+◌, ◌/◌, ◌<◌, ◌≡◌, ◌≤◌, drop, IfSome, is_err};
+ghost use Rattle.std.specs.Prelude.{length, MatchOption, Ok, option_map, slice_index, take, true};
+ghost use Rattle.cedar_hex.specs.Words.{decode_of, decode_pairs, encode_lower};
+ghost use Rattle.cedar_hex.specs.Words.{hex_digit_value, lower_digits, result_ok};
 
 /// Reads hexadecimal digits of either case, two for each byte, writes the bytes to the start of `room`, and returns how many they are.
 ///
@@ -17,9 +19,11 @@ ghost use Rattle.cedar_hex.specs.Words.{decode_of, decode_pairs, encode_lower, h
 pub fn decode_into(text: &[u8], room: &mut [u8]) -> Option<usize>
     requires { length text.now ≤ 2 * length room.old }
 
-    //= Digits are read as the bytes that they stand for, two digits each, in either case; an odd number of them and a text with another
+    //= Digits are read as the bytes that they represent, two digits each, in either case; an odd number of them and a text with another
     //  byte are refused (`decode_of`).
     ensures bytes { option_map (λ n. take n room.new) result ≡ result_ok (decode_of text.now) }
+
+    //= It never returns more bytes than the room has.
     ensures within { IfSome result (λ n. n ≤ length room.old) }
 
     //= Only the first bytes of the room change, half as many as the text has, whether it is refused or not. [with len]
@@ -34,7 +38,7 @@ pub fn decode_into(text: &[u8], room: &mut [u8]) -> Option<usize>
     (values < 16).then_some(count)
 }
 
-/// Writes the two hexadecimal digits of each byte, in lower case. `text` has two places for each of them. It allocates nothing.
+/// Writes the two hexadecimal digits of each byte, in lower case. `text` has two bytes for each of them. It allocates nothing.
 ///
 /// ```
 /// let mut text = [0; 4];

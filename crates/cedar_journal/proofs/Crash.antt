@@ -3,7 +3,7 @@ use Rattle.std.proofs.Common.{◌≡◌, inl, inr, ℕ, ◌+◌, ◌-◌, ◌≤
 use Rattle.std.proofs.lemmas.List.{take_at, drop_at, drop_more, take_all, drop_all, append-nil}
 use Rattle.cedar_journal.specs.declared.format.Format.{Format}
 use Rattle.cedar_journal.specs.Device.{Holds, Torn, Cut, Follows, Only}
-use Rattle.cedar_journal.specs.Files.{HasRecords, IsWholeFront, added, recovered}
+use Rattle.cedar_journal.specs.Files.{HasRecords, IsWholeFront, with_payload, file_payloads}
 use Rattle.cedar_journal.specs.Formats.{frame_of, record_head, opening, overhead, records_read, stands}
 use Rattle.cedar_journal.specs.Journal.{IsBeforeOrAfter, IsSettled, IsStaged}
 use Rattle.cedar_journal.proofs.Fronts.{take_both}
@@ -81,7 +81,7 @@ module _ {D : Type 0} (seen : D → List ℕ) (may_leave : D → List ℕ → Ty
         room = room;
       }
 
--- where the closed gate stands
+-- where the closed gate is
 pub front_ends : (file : List ℕ) (end : ℕ) → file ≡ take end file ++ 0 ∷ drop (end + 1) file → length (take end file) ≡ end
 front_ends file end split = omega (arith, ap length split, length-append (take end file) (0 ∷ drop (end + 1) file), length-take end file)
 
@@ -90,13 +90,13 @@ module _ (file : List ℕ) (f : Format) (end : ℕ) (split : file ≡ take end f
   ends : length (take end file) ≡ end
   ends = front_ends file end split
 
-  pub stands_for : recovered file ≡ Some front.0
-  stands_for = ap recovered split ∙ headers.front_ends f (take end file) front.0 front.1 (0 ∷ drop (end + 1) file) (shut f (drop (end + 1) file))
+  pub stands_for : file_payloads file ≡ Some front.0
+  stands_for = ap file_payloads split ∙ headers.front_ends f (take end file) front.0 front.1 (0 ∷ drop (end + 1) file) (shut f (drop (end + 1) file))
 
-  pub closed_stands : (c rest : List ℕ) → c ≡ take end file ++ 0 ∷ rest → recovered c ≡ recovered file
-  closed_stands c rest is = ap recovered is ∙ headers.front_ends f (take end file) front.0 front.1 (0 ∷ rest) (shut f rest) ∙ sym stands_for
+  pub closed_stands : (c rest : List ℕ) → c ≡ take end file ++ 0 ∷ rest → file_payloads c ≡ file_payloads file
+  closed_stands c rest is = ap file_payloads is ∙ headers.front_ends f (take end file) front.0 front.1 (0 ∷ rest) (shut f rest) ∙ sym stands_for
 
-  pub stage_crash : (n : ℕ) (old new : List ℕ → Type 0) → Only file old → Follows (Torn (end + 1) n) old new → (c : List ℕ) → new c → recovered c ≡ recovered file
+  pub stage_crash : (n : ℕ) (old new : List ℕ → Type 0) → Only file old → Follows (Torn (end + 1) n) old new → (c : List ℕ) → new c → file_payloads c ≡ file_payloads file
   stage_crash n old new only follows c left =
       let from = follows c left in
       closed_stands c (drop (end + 1) c) (torn_behind (take end file) end ends n (drop (end + 1) file) c (subst (λ d. Torn (end + 1) n d c) (only from.0 from.1 ∙ split) from.2))
@@ -110,7 +110,7 @@ module _ (file : List ℕ) (f : Format) (end : ℕ) (split : file ≡ take end f
       ap (λ (l : List ℕ). take (end + 1) l) (torn_behind (take end file) end ends n (drop (end + 1) file) c (subst (λ d. Torn (end + 1) n d c) split torn))
       ∙ through (take end file) end ends 0 (drop (end + 1) c)
 
-  pub gated_stands : (c : List ℕ) → take (end + 1) c ≡ take end file ++ 0 ∷ [] → recovered c ≡ recovered file
+  pub gated_stands : (c : List ℕ) → take (end + 1) c ≡ take end file ++ 0 ∷ [] → file_payloads c ≡ file_payloads file
   gated_stands c is =
       closed_stands c (drop (end + 1) c)
       (sym (take-append-drop (end + 1) c) ∙ ap (λ (l : List ℕ). l ++ drop (end + 1) c) is ∙ append_assoc (take end file) (0 ∷ []) (drop (end + 1) c))
@@ -119,7 +119,7 @@ module _ (file : List ℕ) (f : Format) (end : ℕ) (split : file ≡ take end f
   staged_file bytes c holds = written_behind (take end file) end ends bytes (drop (end + 1) file) c (subst (λ d. Holds d (end + 1) bytes c) split holds)
 
   module _ (bytes tail : List ℕ) (staged : drop (end + 1) file ≡ frame_of f bytes ++ tail) (short : length bytes < 4294967296) where
-    pub gate_crash : (old new : List ℕ → Type 0) → Only file old → Follows (Torn end 1) old new → (c : List ℕ) → new c → IsBeforeOrAfter (recovered file) bytes c
+    pub gate_crash : (old new : List ℕ → Type 0) → Only file old → Follows (Torn end 1) old new → (c : List ℕ) → new c → IsBeforeOrAfter (file_payloads file) bytes c
     gate_crash old new only follows c left =
         let from = follows c left in
         let gate = get_or c end 0 in
@@ -127,8 +127,8 @@ module _ (file : List ℕ) (f : Format) (end : ℕ) (split : file ≡ take end f
         torn_gate (take end file) end ends (drop (end + 1) file) c (subst (λ d. Torn end 1 d c) (only from.0 from.1 ∙ split) from.2)
         ∙ ap (λ (l : List ℕ). take end file ++ gate ∷ l) staged in
         elim (staged_reads f bytes tail gate short) [
-          | inl none ↦ inl (ap recovered is ∙ headers.front_ends f (take end file) front.0 front.1 (gate ∷ (frame_of f bytes ++ tail)) none ∙ sym stands_for)
-          | inr more ↦ inr (one_more file c bytes front.0 stands_for (ap recovered is ∙ front_stands f (take end file) front.0 front.1 (gate ∷ (frame_of f bytes ++ tail)) (bytes ∷ []) more))
+          | inl none ↦ inl (ap file_payloads is ∙ headers.front_ends f (take end file) front.0 front.1 (gate ∷ (frame_of f bytes ++ tail)) none ∙ sym stands_for)
+          | inr more ↦ inr (one_more file c bytes front.0 stands_for (ap file_payloads is ∙ front_stands f (take end file) front.0 front.1 (gate ∷ (frame_of f bytes ++ tail)) (bytes ∷ []) more))
         ]
 
     -- the front is longer by the record
@@ -148,10 +148,10 @@ module _ (file : List ℕ) (f : Format) (end : ℕ) (split : file ≡ take end f
     pub longer_front : IsWholeFront f longer
     longer_front = (front.0 ++ bytes ∷ [], front_and f (take end file) (opening f ∷ (record_head f bytes ++ bytes)) front.0 (bytes ∷ []) front.1 (written f (opening f) bytes (opening_open f) short))
 
-    pub opened_stands : (c : List ℕ) → c ≡ longer ++ 0 ∷ tail → recovered c ≡ added bytes (recovered file)
+    pub opened_stands : (c : List ℕ) → c ≡ longer ++ 0 ∷ tail → file_payloads c ≡ with_payload bytes (file_payloads file)
     unfolding longer_front
     opened_stands c is =
-        one_more file c bytes front.0 stands_for (ap recovered is ∙ headers.front_ends f longer longer_front.0 longer_front.1 (0 ∷ tail) (shut f tail))
+        one_more file c bytes front.0 stands_for (ap file_payloads is ∙ headers.front_ends f longer longer_front.0 longer_front.1 (0 ∷ tail) (shut f tail))
 
 -- ---- a repair
 
@@ -159,25 +159,25 @@ module _ (file : List ℕ) (f : Format) (end : ℕ) (at : HasRecords file f end)
   pub file_size : length (take end file) ≡ end
   file_size = length-take-le end file at.within
 
-  pub stays : recovered (take end file) ≡ recovered file
+  pub stays : file_payloads (take end file) ≡ file_payloads file
   stays =
       front_alone f (take end file) at.front.0 at.front.1
-      ∙ sym (ap recovered (sym (take-append-drop end file)) ∙ headers.front_ends f (take end file) at.front.0 at.front.1 (drop end file) (closed_end f (drop end file) at.no_more))
+      ∙ sym (ap file_payloads (sym (take-append-drop end file)) ∙ headers.front_ends f (take end file) at.front.0 at.front.1 (drop end file) (closed_end f (drop end file) at.no_more))
 
-  -- nothing that counts stands behind the records
-  behind_them : (c rest : List ℕ) → c ≡ take end file ++ rest → records_read f rest ≡ stands [] → recovered c ≡ recovered file
+  -- nothing that counts is behind the records
+  behind_them : (c rest : List ℕ) → c ≡ take end file ++ rest → records_read f rest ≡ stands [] → file_payloads c ≡ file_payloads file
   behind_them c rest is ends =
-      ap recovered is ∙ headers.front_ends f (take end file) at.front.0 at.front.1 rest ends ∙ sym (front_alone f (take end file) at.front.0 at.front.1) ∙ stays
+      ap file_payloads is ∙ headers.front_ends f (take end file) at.front.0 at.front.1 rest ends ∙ sym (front_alone f (take end file) at.front.0 at.front.1) ∙ stays
 
   -- any cut keeps the records
-  pub cut_keeps : (c : List ℕ) → Cut end file c → recovered c ≡ recovered file
+  pub cut_keeps : (c : List ℕ) → Cut end file c → file_payloads c ≡ file_payloads file
   cut_keeps c cut =
       let n = length c - end in
       let more : length c ≡ end + n = omega (arith, cut.no_shorter, at.within) in
       behind_them c (take n (drop end file)) (sym cut.front ∙ ap (λ (k : ℕ). take k file) more ∙ take_both end n file at.within) (at.no_more n)
 
   -- one byte behind them is no record
-  pub torn_end : (c : List ℕ) → Torn end 1 (take end file) c → recovered c ≡ recovered file
+  pub torn_end : (c : List ℕ) → Torn end 1 (take end file) c → file_payloads c ≡ file_payloads file
   torn_end c torn =
       let kept : take end c ≡ take end file = torn_front end 1 (take end file) c (omega (arith, file_size)) torn ∙ take_all end (take end file) (omega (arith, file_size)) in
       let few : length (drop end c) ≤ 1 = omega (arith, length-drop end c, file_size, torn.no_longer) in
@@ -190,5 +190,5 @@ module _ (file : List ℕ) (f : Format) (end : ℕ) (at : HasRecords file f end)
       ∙ ap (λ (l : List ℕ). take end file ++ (0 ∷ []) ++ l) (drop_all (end + 1) (take end file) (omega (arith, file_size)))
       ∙ append-nil (take end file ++ 0 ∷ [])
 
-  pub closed_same : (c : List ℕ) → c ≡ take end file ++ 0 ∷ [] → recovered c ≡ recovered file
+  pub closed_same : (c : List ℕ) → c ≡ take end file ++ 0 ∷ [] → file_payloads c ≡ file_payloads file
   closed_same c is = behind_them c (0 ∷ []) is (shut f [])

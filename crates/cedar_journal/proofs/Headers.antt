@@ -1,15 +1,16 @@
 -- What a file is read as, by its header; and headers that a crash has cut short.
 use Rattle.std.specs.Prelude.{◌&&◌, ◌||◌, ◌==◌, nat_eq, nat_le}
-use Rattle.std.proofs.Common.{◌≡◌, ◌≢◌, ◌⊎◌, inl, inr, ℕ, zero, suc, ◌≤◌, ◌<◌, Bool, true, false, List, [], ◌∷◌, ◌++◌, length, take, drop, Option, Some, None, refl, sym, subst, ◌∙◌, ap, arith, append_assoc, length-append, length-take, take-append-drop}
+use Rattle.std.proofs.Common.{◌≡◌, ◌≢◌, inl, inr, ℕ, zero, suc, ◌≤◌, ◌<◌, Bool, true, false, List, [], ◌∷◌, ◌++◌, length, take, drop, Option, Some, None, refl, sym, subst, ◌∙◌, ap, arith, append_assoc, length-append, length-take, take-append-drop}
 use Rattle.std.specs.List.{starts_with}
 use Rattle.std.specs.Cmp.Lexicographic.{pointwise, same_text}
-use Rattle.std.proofs.lemmas.Bool.{cases_Bool, cases_eq, cond-true, cond-false, le-leb, leb-true, false≢true, and_parts, eq-eqb, ne_eqb}
+use Rattle.std.proofs.lemmas.Bool.{cases_Bool, cases_eq, cond-true, cond-false, le-leb, leb-true, false≢true, and_parts, eq-eqb, ne_eqb, and_from, or_cases, or_right, or_left}
 use Rattle.std.proofs.lemmas.List.{append-nil}
 use Rattle.cedar_journal.specs.declared.format.Format.{Format}
 use Rattle.cedar_journal.specs.declared.format.Format.TheVariants.{Plain, Summed}
 use Rattle.cedar_journal.specs.Formats.{ArePieces, read_behind, records_read, stands}
-use Rattle.cedar_journal.specs.Files.{IsFileFront, IsNewFile, IsWholeFront, added, file_reading, format_of, header_frame, journal_header, is_begun, read_by, recovered, recovered_by}
+use Rattle.cedar_journal.specs.Files.{IsFileFront, IsNewFile, IsWholeFront, with_payload, file_reading, format_of, header_frame, journal_header, is_begun, read_by, file_payloads, recovered_by}
 use Rattle.cedar_journal.proofs.Readings.{behind_behind, few_end, nothing_read}
+use Rattle.std.proofs.lemmas.Option.{none-some, same_Some}
 
 -- ---- by the header
 
@@ -36,23 +37,17 @@ header_is_front f rest = named_reads (journal_header f ++ rest) f (header_names 
 starts_there : (file header : List ℕ) → starts_with nat_eq file header ≡ true → header ≡ take (length header) file
 starts_there file header is = same_text header (take (length header) file) (sym is)
 
-some_is : {A : Type 0} (a b : A) → Some a ≡ Some b → a ≡ b
-some_is {A = A} a b e = let same : ◌≡◌ {A = Option A} (Some a) (Some b) = e in cc
-
-pub none_is : {A : Type 0} (a : A) → None ≡ Some a → ⊥
-none_is {A = A} a e = let apart : ◌≡◌ {A = Option A} None (Some a) = e in cc
-
 pub named_header : (file : List ℕ) (f : Format) → format_of file ≡ Some f → journal_header f ≡ take 13 file
 unfolding format_of
 named_header file f named = elim (cases_Bool (starts_with nat_eq file (journal_header Summed))) [
   | inl second ↦
-      let is : Summed ≡ f = some_is Summed f (sym (cond-true _ _ _ second) ∙ named) in
+      let is : Summed ≡ f = same_Some Summed f (sym (cond-true _ _ _ second) ∙ named) in
       subst (λ g. journal_header g ≡ take 13 file) is (starts_there file (journal_header Summed) second)
   | inr other ↦ elim (cases_Bool (starts_with nat_eq file (journal_header Plain))) [
     | inl first ↦
-        let is : Plain ≡ f = some_is Plain f (sym (cond-false _ _ _ other ∙ cond-true _ _ _ first) ∙ named) in
+        let is : Plain ≡ f = same_Some Plain f (sym (cond-false _ _ _ other ∙ cond-true _ _ _ first) ∙ named) in
         subst (λ g. journal_header g ≡ take 13 file) is (starts_there file (journal_header Plain) first)
-    | inr none ↦ absurd (none_is f (sym (cond-false _ _ _ other ∙ cond-false _ _ _ none) ∙ named))
+    | inr none ↦ absurd (none-some f (sym (cond-false _ _ _ other ∙ cond-false _ _ _ none) ∙ named))
   ]
 ]
 
@@ -97,23 +92,23 @@ front_and f a b ps qs first second rest =
     ∙ ap (λ n. Some (read_behind n (ps ++ qs) (records_read f rest))) (sym (length-append a b))
 
 module _ (f : Format) (front : List ℕ) (ps : List (List ℕ)) (is_front : IsFileFront f front ps) where
-  pub front_stands : (rest : List ℕ) (qs : List (List ℕ)) → records_read f rest ≡ stands qs → recovered (front ++ rest) ≡ Some (ps ++ qs)
-  unfolding recovered
+  pub front_stands : (rest : List ℕ) (qs : List (List ℕ)) → records_read f rest ≡ stands qs → file_payloads (front ++ rest) ≡ Some (ps ++ qs)
+  unfolding file_payloads
   front_stands rest qs is = ap recovered_by (is_front rest ∙ ap (λ r. Some (read_behind (length front) ps r)) is)
 
-  pub front_ends : (rest : List ℕ) → records_read f rest ≡ stands [] → recovered (front ++ rest) ≡ Some ps
+  pub front_ends : (rest : List ℕ) → records_read f rest ≡ stands [] → file_payloads (front ++ rest) ≡ Some ps
   front_ends rest is = front_stands rest [] is ∙ ap Some (append-nil ps)
 
-  pub front_alone : recovered front ≡ Some ps
-  front_alone = ap recovered (sym (append-nil front)) ∙ front_ends [] (nothing_read f)
+  pub front_alone : file_payloads front ≡ Some ps
+  front_alone = ap file_payloads (sym (append-nil front)) ∙ front_ends [] (nothing_read f)
 
-pub one_more : (file c payload : List ℕ) (ps : List (List ℕ)) → recovered file ≡ Some ps → recovered c ≡ Some (ps ++ payload ∷ []) → recovered c ≡ added payload (recovered file)
-one_more file c payload ps was is = is ∙ sym (ap (added payload) was)
+pub one_more : (file c payload : List ℕ) (ps : List (List ℕ)) → file_payloads file ≡ Some ps → file_payloads c ≡ Some (ps ++ payload ∷ []) → file_payloads c ≡ with_payload payload (file_payloads file)
+one_more file c payload ps was is = is ∙ sym (ap (with_payload payload) was)
 
 -- ---- no header
 
-pub begun_stands : (file : List ℕ) → format_of file ≡ None → is_begun file ≡ true → recovered file ≡ Some []
-unfolding recovered file_reading
+pub begun_stands : (file : List ℕ) → format_of file ≡ None → is_begun file ≡ true → file_payloads file ≡ Some []
+unfolding file_payloads file_reading
 begun_stands file unnamed begun = ap recovered_by (ap (λ (o : Option Format). read_by o file) unnamed ∙ cond-true (is_begun file) _ _ begun)
 
 pub is_new : (file : List ℕ) → format_of file ≡ None → is_begun file ≡ true → IsNewFile file
@@ -124,20 +119,6 @@ unfolding file_reading
 foreign_reads file unnamed begun = ap (λ (o : Option Format). read_by o file) unnamed ∙ cond-false (is_begun file) _ _ begun
 
 -- ---- headers that are cut short
-
-either : (a b : Bool) → a ≡ true → (a || b) ≡ true
-either a b is = ap (λ t. t || b) is
-
-or_else : (a b : Bool) → b ≡ true → (a || b) ≡ true
-or_else false b is = is
-or_else true b is = refl
-
-or_parts : (a b : Bool) → (a || b) ≡ true → (a ≡ true) ⊎ (b ≡ true)
-or_parts false b is = inr is
-or_parts true b is = inl refl
-
-both : (a b : Bool) → a ≡ true → b ≡ true → (a && b) ≡ true
-both a b x y = ap (λ t. t && b) x ∙ y
 
 pub empty_begun : is_begun [] ≡ true
 unfolding is_begun
@@ -157,7 +138,7 @@ framed_begun gate = refl
 
 closed_begun : (rest : List ℕ) → length rest ≤ 13 → is_begun (0 ∷ rest) ≡ true
 unfolding is_begun
-closed_begun rest few = or_else _ _ (or_else _ _ (le-leb (length (0 ∷ rest)) 14 (omega (arith, few))))
+closed_begun rest few = or_right _ _ (or_right _ _ (le-leb (length (0 ∷ rest)) 14 (omega (arith, few))))
 
 cut_starts : (m : ℕ) (xs ys : List ℕ) → pointwise nat_eq xs (take (length xs) ys) ≡ true → pointwise nat_eq (take m xs) (take (length (take m xs)) ys) ≡ true
 cut_starts zero xs ys starts = refl
@@ -165,7 +146,7 @@ cut_starts (suc m) [] ys starts = refl
 cut_starts (suc m) (x ∷ xs) [] starts = absurd (false≢true starts)
 cut_starts (suc m) (x ∷ xs) (y ∷ ys) starts =
     let parts = and_parts (nat_eq x y) (pointwise nat_eq xs (take (length xs) ys)) starts in
-    both (nat_eq x y) (pointwise nat_eq (take m xs) (take (length (take m xs)) ys)) parts.0 (cut_starts m xs ys parts.1)
+    and_from (nat_eq x y) (pointwise nat_eq (take m xs) (take (length (take m xs)) ys)) parts.0 (cut_starts m xs ys parts.1)
 
 cut_begun : (n : ℕ) (file : List ℕ) → is_begun file ≡ true → is_begun (take n file) ≡ true
 unfolding is_begun
@@ -176,14 +157,14 @@ cut_begun (suc n) (x ∷ file) begun =
     let second = starts_with nat_eq (header_frame Summed) front in
     let first = starts_with nat_eq (header_frame Plain) front in
     let shut = x == 0 && nat_le (length (x ∷ front)) 14 in
-    elim (or_parts _ _ begun) [
-      | inl starts ↦ either second (first || shut) (cut_starts n file (header_frame Summed) starts)
-      | inr others ↦ elim (or_parts _ _ others) [
-        | inl starts ↦ or_else second (first || shut) (either first shut (cut_starts n file (header_frame Plain) starts))
+    elim (or_cases _ _ begun) [
+      | inl starts ↦ or_left second (first || shut) (cut_starts n file (header_frame Summed) starts)
+      | inr others ↦ elim (or_cases _ _ others) [
+        | inl starts ↦ or_right second (first || shut) (or_left first shut (cut_starts n file (header_frame Plain) starts))
         | inr few ↦
             let parts = and_parts (x == 0) (nat_le (length (x ∷ file)) 14) few in
             let size = length-take n file in
-            or_else second (first || shut) (or_else first shut (both (x == 0) (nat_le (length (x ∷ front)) 14) parts.0
+            or_right second (first || shut) (or_right first shut (and_from (x == 0) (nat_le (length (x ∷ front)) 14) parts.0
             (le-leb (length (x ∷ front)) 14 (omega (arith, size, leb-true (length (x ∷ file)) 14 parts.1)))))
       ]
     ]
@@ -192,12 +173,12 @@ cut_begun (suc n) (x ∷ file) begun =
 module _ (file rest : List ℕ) (gate : ℕ) (same : file ≡ gate ∷ rest) (second first : Bool) (by_second : second ≡ starts_with nat_eq (header_frame Summed) rest) where
   pub second_begun : second ≡ true → second ≡ is_begun file
   unfolding is_begun
-  second_begun is = is ∙ sym (ap is_begun same ∙ either _ _ (sym by_second ∙ is))
+  second_begun is = is ∙ sym (ap is_begun same ∙ or_left _ _ (sym by_second ∙ is))
 
   module _ (by_first : first ≡ starts_with nat_eq (header_frame Plain) rest) (lacks : second ≡ false) where
     pub first_begun : first ≡ true → first ≡ is_begun file
     unfolding is_begun
-    first_begun is = is ∙ sym (ap is_begun same ∙ or_else _ _ (either _ _ (sym by_first ∙ is)))
+    first_begun is = is ∙ sym (ap is_begun same ∙ or_right _ _ (or_left _ _ (sym by_first ∙ is)))
 
     not_started : first ≡ false → is_begun file ≡ (gate == 0 && nat_le (length file) 14)
     unfolding is_begun
@@ -220,10 +201,10 @@ none_from : (o : Option Format) → ((f : Format) → o ≡ Some f → ⊥) → 
 none_from None not = refl
 none_from (Some f) not = absurd (not f refl)
 
-pub cut_stands : (n : ℕ) (file : List ℕ) → IsNewFile file → recovered (take n file) ≡ Some []
+pub cut_stands : (n : ℕ) (file : List ℕ) → IsNewFile file → file_payloads (take n file) ≡ Some []
 cut_stands n file new =
     begun_stands (take n file)
-    (none_from _ (λ f named. none_is f (sym new.unnamed ∙ ap format_of (sym (take-append-drop n file)) ∙ header_stays (take n file) (drop n file) f named)))
+    (none_from _ (λ f named. none-some f (sym new.unnamed ∙ ap format_of (sym (take-append-drop n file)) ∙ header_stays (take n file) (drop n file) f named)))
     (cut_begun n file new.begun)
 
 -- a gate that isn't open begins no header
@@ -237,21 +218,21 @@ shut_unnamed gate rest shut = none_from _ (λ f named. shut (first_gate f (named
 few_unnamed : (file : List ℕ) → length file < 13 → format_of file ≡ None
 few_unnamed file few = none_from _ (λ f named. let long = named_long file f named in absurd (omega (arith, few, long)))
 
-pub empty_stands : recovered [] ≡ Some []
+pub empty_stands : file_payloads [] ≡ Some []
 empty_stands = begun_stands [] (few_unnamed [] (omega arith)) empty_begun
 
-pub byte_stands : (gate : ℕ) → recovered (gate ∷ []) ≡ Some []
+pub byte_stands : (gate : ℕ) → file_payloads (gate ∷ []) ≡ Some []
 byte_stands gate = begun_stands (gate ∷ []) (few_unnamed (gate ∷ []) (omega arith)) (byte_begun gate)
 
-pub closed_stands : (rest : List ℕ) → length rest ≤ 13 → recovered (0 ∷ rest) ≡ Some []
+pub closed_stands : (rest : List ℕ) → length rest ≤ 13 → file_payloads (0 ∷ rest) ≡ Some []
 closed_stands rest few = begun_stands (0 ∷ rest) (shut_unnamed 0 rest (omega arith)) (closed_begun rest few)
 
 -- the whole header, and the closed gate behind it
-pub header_stands : recovered (1 ∷ header_frame Summed) ≡ Some []
+pub header_stands : file_payloads (1 ∷ header_frame Summed) ≡ Some []
 header_stands = front_ends Summed (journal_header Summed) [] (header_is_front Summed) (0 ∷ []) (few_end Summed (0 ∷ []) (omega arith))
 
-pub gate_stands : (gate : ℕ) → recovered (gate ∷ header_frame Summed) ≡ Some []
+pub gate_stands : (gate : ℕ) → file_payloads (gate ∷ header_frame Summed) ≡ Some []
 gate_stands gate = elim (cases_eq gate 1) [
-  | inl is_open ↦ ap (λ g. recovered (g ∷ header_frame Summed)) is_open ∙ header_stands
+  | inl is_open ↦ ap (λ g. file_payloads (g ∷ header_frame Summed)) is_open ∙ header_stands
   | inr shut ↦ begun_stands (gate ∷ header_frame Summed) (shut_unnamed gate (header_frame Summed) shut) (framed_begun gate)
 ]

@@ -4,7 +4,7 @@ use Rattle.std.proofs.Common.{◌≡◌, ◌⊎◌, inl, inr, ⊎_elim, ℕ, ◌
 use Rattle.std.proofs.lemmas.List.{set-append_right, take_at}
 use Rattle.cedar_journal.specs.declared.format.Format.TheVariants.{Summed}
 use Rattle.cedar_journal.specs.Device.{Only}
-use Rattle.cedar_journal.specs.Files.{IsFileFront, journal_header, recovered}
+use Rattle.cedar_journal.specs.Files.{file_payloads, IsFileFront, journal_header}
 use Rattle.cedar_journal.specs.Formats.{ArePieces, AreWhole, frame_of, record_head, payloads_read, records_read}
 use Rattle.cedar_journal.specs.Images.{image_of, records_of}
 use Rattle.cedar_journal.specs.Journal.{IsSettled, StandsForEither}
@@ -12,13 +12,13 @@ use Rattle.cedar_journal.proofs.Crash.{settled_at}
 use Rattle.cedar_journal.proofs.Headers.{front_and, front_ends, header_is_front}
 use Rattle.cedar_journal.proofs.Readings.{no_pieces, opening_open, pieces_and, pieces_listed, pieces_whole, shut, written}
 
--- ---- what it stands for
+-- ---- what it represents
 
 module _ (records : List ℕ) (whole : AreWhole Summed records) where
   pub front_whole : IsFileFront Summed (journal_header Summed ++ records) (payloads_read (records_read Summed records))
   front_whole = front_and Summed (journal_header Summed) records [] (payloads_read (records_read Summed records)) (header_is_front Summed) whole
 
-  pub image_stands : recovered (image_of records) ≡ Some (payloads_read (records_read Summed records))
+  pub image_stands : file_payloads (image_of records) ≡ Some (payloads_read (records_read Summed records))
   image_stands = front_ends Summed (journal_header Summed ++ records) (payloads_read (records_read Summed records)) front_whole (0 ∷ []) (shut Summed [])
 
 -- ---- its records
@@ -88,14 +88,14 @@ module _ (bytes : List ℕ) (is : bytes ≡ image_of []) where
 -- ---- put in the place of a file
 
 pub either_stands : (file bytes c : List ℕ) (may_leave : List ℕ → Type 0) → Only file may_leave → bytes ≡ image_of (records_of bytes) → AreWhole Summed (records_of bytes) → may_leave c ⊎ (c ≡ bytes)
-    → StandsForEither (recovered file) (payloads_read (records_read Summed (records_of bytes))) c
+    → StandsForEither (file_payloads file) (payloads_read (records_read Summed (records_of bytes))) c
 either_stands file bytes c may_leave only shape whole = ⊎_elim
-    (λ left. inl (ap recovered (only c left)))
-    (λ now. inr (ap recovered (now ∙ shape) ∙ image_stands (records_of bytes) whole))
+    (λ left. inl (ap file_payloads (only c left)))
+    (λ now. inr (ap file_payloads (now ∙ shape) ∙ image_stands (records_of bytes) whole))
 
 module _ {D : Type 0} (seen : D → List ℕ) (may_leave : D → List ℕ → Type 0) (device : D) (bytes : List ℕ) (shape : bytes ≡ image_of (records_of bytes)) (whole : AreWhole Summed (records_of bytes)) (is : seen device ≡ bytes) where
-  pub replaced_stands : recovered (seen device) ≡ Some (payloads_read (records_read Summed (records_of bytes)))
-  replaced_stands = ap recovered (is ∙ shape) ∙ image_stands (records_of bytes) whole
+  pub replaced_stands : file_payloads (seen device) ≡ Some (payloads_read (records_read Summed (records_of bytes)))
+  replaced_stands = ap file_payloads (is ∙ shape) ∙ image_stands (records_of bytes) whole
 
   pub replaced_settled : (end : ℕ) → end + 1 ≡ length bytes → Only bytes (may_leave device) → IsSettled seen may_leave device Summed end
   replaced_settled end ends only =

@@ -8,13 +8,14 @@ use Rattle.cedar_journal.specs.declared.format.Format.{Format}
 use Rattle.cedar_journal.specs.declared.format.Format.TheVariants.{Plain, Summed}
 use Rattle.cedar_journal.specs.declared.records.Next.{Next}
 use Rattle.cedar_journal.specs.declared.records.Next.TheVariants as nexts
-use Rattle.cedar_journal.specs.Files.{HasRecords, EndsThere, IsFoundThere, IsWholeFront, file_reading, format_of, recovered, recovered_by}
+use Rattle.cedar_journal.specs.Files.{HasRecords, EndsThere, IsFoundThere, IsWholeFront, file_reading, format_of, file_payloads, recovered_by}
 use Rattle.cedar_journal.specs.Formats.{ArePieces, AreUndamaged, Reading, read_behind, damaged, is_ended, is_summed, payloads_read, four_at, records_read, stands}
 use Rattle.cedar_journal.specs.Records.{behind_record, has_record, payload, payload_length, payloads_in}
 use Rattle.cedar_journal.proofs.Fronts.{first_of, record_is_front, take_both}
-use Rattle.cedar_journal.proofs.Headers.{front_and, named_reads, none_is}
+use Rattle.cedar_journal.proofs.Headers.{front_and, named_reads}
 use Rattle.cedar_journal.proofs.Reading.{payloads_first, payloads_none}
 use Rattle.cedar_journal.proofs.Readings.{closed_end, ended_gate, has_sum, is_whole, not_ended, plain_pieces, same_gate, same_number, same_text_of, summed_ends, summed_fails, summed_first, summed_pieces}
+use Rattle.std.proofs.lemmas.Option.{none-some}
 
 -- ---- version 1
 
@@ -111,10 +112,10 @@ only_end f bytes nexts.End is no_record no_damage = is
 only_end f bytes (nexts.Record n) is no_record no_damage = absurd (no_record n refl)
 only_end f bytes nexts.Damaged is no_record no_damage = absurd (no_damage refl)
 
-pub stands_unrefused : (file : List ℕ) (ps : List (List ℕ)) → recovered file ≡ Some ps → (false ≡ true) ↔ (recovered file ≡ None)
-stands_unrefused file ps is = (λ wrong. absurd (false≢true wrong), λ none. absurd (none_is ps (sym none ∙ is)))
+pub stands_unrefused : (file : List ℕ) (ps : List (List ℕ)) → file_payloads file ≡ Some ps → (false ≡ true) ↔ (file_payloads file ≡ None)
+stands_unrefused file ps is = (λ wrong. absurd (false≢true wrong), λ none. absurd (none-some ps (sym none ∙ is)))
 
-pub lost_refused : (file : List ℕ) → recovered file ≡ None → (true ≡ true) ↔ (recovered file ≡ None)
+pub lost_refused : (file : List ℕ) → file_payloads file ≡ None → (true ≡ true) ↔ (file_payloads file ≡ None)
 lost_refused file is = (λ yes. is, λ none. refl)
 
 module _ (bytes : List ℕ) (f : Format) (end : ℕ) (within : end ≤ length bytes) (front : IsWholeFront f (take end bytes)) where
@@ -131,16 +132,16 @@ module _ (bytes : List ℕ) (f : Format) (end : ℕ) (within : end ≤ length by
       let place : length (take end bytes) + 0 ≡ end = omega (arith, length-take-le end bytes within) in
       by_front ∙ ap (λ r. Some (read_behind (length (take end bytes)) front.0 r)) is ∙ ap (λ n. Some (damaged n)) place
 
-  pub stands_there : EndsThere f (drop end bytes) → (payloads : List (List ℕ)) × (recovered bytes ≡ Some payloads)
-  unfolding recovered
+  pub stands_there : EndsThere f (drop end bytes) → (payloads : List (List ℕ)) × (file_payloads bytes ≡ Some payloads)
+  unfolding file_payloads
   stands_there ends = (front.0 ++ [], ap recovered_by (by_front ∙ ap (λ r. Some (read_behind (length (take end bytes)) front.0 r)) (closed_end f (drop end bytes) ends)))
 
   by_header : (r : Reading) (ps : List (List ℕ)) → recovered_by (Some (read_behind 13 [] r)) ≡ Some ps → ((qs : List (List ℕ)) × (r ≡ stands qs)) × (recovered_by (Some (read_behind 13 [] r)) ≡ Some (payloads_read r))
   by_header (stands qs) ps is = ((qs, refl), refl)
-  by_header (damaged at) ps is = absurd (none_is ps is)
+  by_header (damaged at) ps is = absurd (none-some ps is)
 
   pub all_records : format_of bytes ≡ Some f → 13 ≤ end → EndsThere f (drop end bytes) → HasRecords bytes f end
-  unfolding recovered
+  unfolding file_payloads
   all_records named some ends =
       let there = stands_there ends in
       let r = records_read f (drop 13 bytes) in
@@ -156,10 +157,10 @@ module _ (bytes : List ℕ) (f : Format) (end : ℕ) (within : end ≤ length by
         stands = ap recovered_by by ∙ parts.1;
       }
 
-pub damaged_lost : (file : List ℕ) (at : ℕ) → file_reading file ≡ Some (damaged at) → recovered file ≡ None
-unfolding recovered
+pub damaged_lost : (file : List ℕ) (at : ℕ) → file_reading file ≡ Some (damaged at) → file_payloads file ≡ None
+unfolding file_payloads
 damaged_lost file at is = ap recovered_by is
 
-pub foreign_lost : (file : List ℕ) → file_reading file ≡ None → recovered file ≡ None
-unfolding recovered
+pub foreign_lost : (file : List ℕ) → file_reading file ≡ None → file_payloads file ≡ None
+unfolding file_payloads
 foreign_lost file is = ap recovered_by is

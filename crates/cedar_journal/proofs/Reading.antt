@@ -1,7 +1,6 @@
 -- How the records of a file are read one after another.
-use Rattle.std.specs.Prelude.{◌&&◌}
-use Rattle.std.proofs.Common.{◌≡◌, ◌≢◌, inl, inr, ℕ, zero, suc, ◌+◌, ◌-◌, ◌≤◌, ◌<◌, Bool, true, false, List, [], ◌∷◌, ◌++◌, length, take, drop, get_or, refl, sym, ◌∙◌, ap, arith, length-drop, length-append, take-append-drop}
-use Rattle.std.proofs.lemmas.Bool.{cases_Bool, cond-true, cond-false, le-leb, leb-true, false≢true, and_parts, eqb-true, eq-eqb, false_from_ne_true}
+use Rattle.std.proofs.Common.{◌≡◌, ◌≢◌, inl, inr, ℕ, zero, suc, ◌+◌, ◌-◌, ◌≤◌, ◌<◌, true, false, List, [], ◌∷◌, ◌++◌, length, take, drop, get_or, refl, sym, ◌∙◌, ap, arith, length-drop, length-append, take-append-drop}
+use Rattle.std.proofs.lemmas.Bool.{cases_Bool, cond-true, cond-false, le-leb, leb-true, false≢true, and_parts, eqb-true, eq-eqb, false_from_ne_true, and_from}
 use Rattle.std.proofs.lemmas.List.{take-append-le, drop-append-le, get_or_append_left}
 use Rattle.cedar_journal.specs.Records.{payload_length, payload, behind_record, has_record, first_payloads, payloads_in}
 
@@ -13,12 +12,9 @@ pub gate_is_open : (file : List ℕ) → has_record file ≡ true → get_or fil
 unfolding has_record
 gate_is_open file has = eqb-true (get_or file 0 0) 1 (and_parts _ _ has).0
 
-both : (a b : Bool) → a ≡ true → b ≡ true → (a && b) ≡ true
-both a b x y = ap (λ t. t && b) x ∙ y
-
 pub is_record : (file : List ℕ) → get_or file 0 0 ≡ 1 → 5 + payload_length file ≤ length file → has_record file ≡ true
 unfolding has_record
-is_record file gate fits = both _ _ (eq-eqb (get_or file 0 0) 1 gate) (le-leb (5 + payload_length file) (length file) fits)
+is_record file gate fits = and_from _ _ (eq-eqb (get_or file 0 0) 1 gate) (le-leb (5 + payload_length file) (length file) fits)
 
 pub closed : (gate : ℕ) (rest : List ℕ) → gate ≢ 1 → has_record (gate ∷ rest) ≡ false
 closed gate rest shut = false_from_ne_true _ (λ has. shut (gate_is_open (gate ∷ rest) has))

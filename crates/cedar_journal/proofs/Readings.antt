@@ -1,7 +1,7 @@
 -- What is read of records of either format.
-use Rattle.std.specs.Prelude.{◌&&◌, ◌||◌, nat_le}
-use Rattle.std.proofs.Common.{◌≡◌, ◌≢◌, ◌⊎◌, inl, inr, ℕ, zero, suc, ◌+◌, ◌≤◌, ◌<◌, Bool, true, false, List, [], ◌∷◌, ◌++◌, length, take, drop, get_or, refl, sym, subst, ◌∙◌, ap, arith, append_assoc, length-append, length-drop, length-take}
-use Rattle.std.proofs.lemmas.Bool.{cases_Bool, cases_eq, cond-true, cond-false, le-leb, leb-true, false≢true, and_parts, eqb-true, eq-eqb, false_from_ne_true}
+use Rattle.std.specs.Prelude.{◌||◌, nat_le}
+use Rattle.std.proofs.Common.{◌≡◌, ◌≢◌, ◌⊎◌, inl, inr, ℕ, zero, suc, ◌+◌, ◌≤◌, ◌<◌, true, false, List, [], ◌∷◌, ◌++◌, length, take, drop, get_or, refl, sym, subst, ◌∙◌, ap, arith, append_assoc, length-append, length-drop, length-take}
+use Rattle.std.proofs.lemmas.Bool.{cases_Bool, cases_eq, cond-true, cond-false, le-leb, leb-true, false≢true, and_parts, eqb-true, eq-eqb, false_from_ne_true, and_from, or_cases, or_right}
 use Rattle.std.proofs.lemmas.List.{append-nil, take-append-le, drop-append-le, drop_at, get_or_append_left, take_all}
 use Rattle.crc32c.specs.Sums.{crc32c}
 use Rattle.cedar_journal.specs.declared.format.Format.{Format}
@@ -39,21 +39,13 @@ pub ended_gate : (file : List ℕ) → get_or file 0 0 ≡ 0 → is_ended file �
 unfolding is_ended
 ended_gate file shut = ap (λ b. b || nat_le (length file) 1) (eq-eqb (get_or file 0 0) 0 shut)
 
-or_else : (a b : Bool) → b ≡ true → (a || b) ≡ true
-or_else false b is = is
-or_else true b is = refl
-
-or_parts : (a b : Bool) → (a || b) ≡ true → (a ≡ true) ⊎ (b ≡ true)
-or_parts false b is = inr is
-or_parts true b is = inl refl
-
 pub ended_few : (file : List ℕ) → length file ≤ 1 → is_ended file ≡ true
 unfolding is_ended
-ended_few file few = or_else _ _ (le-leb (length file) 1 few)
+ended_few file few = or_right _ _ (le-leb (length file) 1 few)
 
 pub ended_parts : (file : List ℕ) → is_ended file ≡ true → (get_or file 0 0 ≡ 0) ⊎ (length file ≤ 1)
 unfolding is_ended
-ended_parts file is = elim (or_parts _ _ is) [ inl shut ↦ inl (eqb-true (get_or file 0 0) 0 shut) | inr few ↦ inr (leb-true (length file) 1 few) ]
+ended_parts file is = elim (or_cases _ _ is) [ inl shut ↦ inl (eqb-true (get_or file 0 0) 0 shut) | inr few ↦ inr (leb-true (length file) 1 few) ]
 
 pub not_ended : (file : List ℕ) → get_or file 0 0 ≢ 0 → 1 < length file → is_ended file ≡ false
 not_ended file ajar long = false_from_ne_true _ (λ is. elim (ended_parts file is) [ inl shut ↦ ajar shut | inr few ↦ absurd (omega (arith, few, long)) ])
@@ -69,12 +61,9 @@ pub has_sum : (file : List ℕ) → is_summed file ≡ true → crc32c (take (4 
 unfolding is_summed
 has_sum file is = eqb-true _ (four_at file 1) (and_parts _ _ is).1
 
-both : (a b : Bool) → a ≡ true → b ≡ true → (a && b) ≡ true
-both a b x y = ap (λ t. t && b) x ∙ y
-
 pub summed : (file : List ℕ) → 9 + four_at file 5 ≤ length file → crc32c (take (4 + four_at file 5) (drop 5 file)) ≡ four_at file 1 → is_summed file ≡ true
 unfolding is_summed
-summed file fits sum = both _ _ (le-leb (9 + four_at file 5) (length file) fits) (eq-eqb _ (four_at file 1) sum)
+summed file fits sum = and_from _ _ (le-leb (9 + four_at file 5) (length file) fits) (eq-eqb _ (four_at file 1) sum)
 
 turn_ends : (n : ℕ) (file : List ℕ) → is_ended file ≡ true → read_first n file ≡ stands []
 unfolding read_first

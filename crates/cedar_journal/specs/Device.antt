@@ -1,5 +1,6 @@
 -- What the calls of a device do to its file, and what a crash may do between two syncs.
-use Rattle.std.specs.Prelude.{◌<◌, ◌≡◌, ◌⊎◌, ℕ, ◌+◌, ◌≤◌, max, min, List, ◌++◌, length, take, drop, Result, IsErrOf}
+use Rattle.std.specs.Prelude.{◌<◌, ◌≡◌, ◌⊎◌, ℕ, ◌+◌, ◌≤◌, max, min, List, ◌++◌, length}
+use Rattle.std.specs.Prelude.{take, drop, Result, IsErrOf}
 use Rattle.cedar_journal.specs.declared.device.DeviceError.{DeviceError}
 use Rattle.cedar_journal.specs.declared.device.DeviceError.TheVariants.{Failed, NoRoom}
 
@@ -45,7 +46,7 @@ pub record LeavesOnly {D : Type 0} (moment : D → ℕ) (left_since : D → ℕ 
   -- for a run that began earlier
   pub before : (t : ℕ) (c : List ℕ) → t ≤ moment old → left_since new t c → left_since old t c ⊎ P c
 
--- `Failed` is told only where the disk has failed since, and `NoRoom` only where a write has found no room
+-- `Failed` is reported only where the disk has failed since, and `NoRoom` only where a write has found no room
 pub record HasCause {T : Type 0} (before now : ℕ) (result : Result T DeviceError) : Type 0 where
   pub later : before ≤ now
   pub failed : IsErrOf result Failed → before < now

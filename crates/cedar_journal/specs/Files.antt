@@ -1,5 +1,7 @@
--- What a journal's file stands for. Its first record is the header, whose payload names what the file is, and the format of the others.
-use Rattle.std.specs.Prelude.{◌≡◌, ℕ, ◌-◌, ◌≤◌, ◌<◌, ◌&&◌, ◌||◌, ◌==◌, nat_eq, nat_le, Bool, true, false, List, [], ◌∷◌, ◌++◌, length, take, drop, get_or, slice_index, cond, Option, Some, None}
+-- What a journal's file represents. Its first record is the header, whose payload names what the file is, and the format of the others.
+use Rattle.std.specs.Prelude.{◌≡◌, ℕ, ◌-◌, ◌≤◌, ◌<◌, ◌&&◌, ◌||◌, ◌==◌, nat_eq, nat_le, Bool, true}
+use Rattle.std.specs.Prelude.{false, List, [], ◌∷◌, ◌++◌, length, take, drop, get_or, slice_index}
+use Rattle.std.specs.Prelude.{cond, Option, Some, None}
 use Rattle.std.specs.List.{starts_with}
 use Rattle.cedar_journal.specs.declared.format.Format.{Format}
 use Rattle.cedar_journal.specs.declared.format.Format.TheVariants.{Plain, Summed}
@@ -9,17 +11,18 @@ use Rattle.cedar_journal.specs.declared.records.FileFault.{FileFault}
 use Rattle.cedar_journal.specs.declared.records.FileFault.TheVariants as fault
 use Rattle.cedar_journal.specs.declared.records.Next.{Next}
 use Rattle.cedar_journal.specs.declared.records.Next.TheVariants as next
-use Rattle.cedar_journal.specs.Formats.{ArePieces, AreUndamaged, Reading, read_behind, damaged, payloads_read, records_read, stands}
-use Rattle.cedar_journal.specs.Records.{framed}
+use Rattle.cedar_journal.specs.Formats.{ArePieces, AreUndamaged, Reading, read_behind, damaged}
+use Rattle.cedar_journal.specs.Formats.{payloads_read, records_read, stands}
+use Rattle.cedar_journal.specs.Records.{frame_body}
 
 -- the payload of a header: "CEDARJ" and two bytes that name the version
 abbrev pub magic_of : Format → List ℕ
 magic_of Plain = 67 ∷ 69 ∷ 68 ∷ 65 ∷ 82 ∷ 74 ∷ 0 ∷ 0 ∷ []
 magic_of Summed = 67 ∷ 69 ∷ 68 ∷ 65 ∷ 82 ∷ 74 ∷ 2 ∷ 253 ∷ []
 
--- what stands behind a header's gate, and the closed gate behind it
+-- what follows a header's gate, and the closed gate behind it
 abbrev pub header_frame : Format → List ℕ
-header_frame format = framed (magic_of format)
+header_frame format = frame_body (magic_of format)
 
 -- a header: its gate is open
 abbrev pub journal_header : Format → List ℕ
@@ -31,7 +34,7 @@ format_of file =
     cond (starts_with nat_eq file (journal_header Summed)) (Some Summed)
     (cond (starts_with nat_eq file (journal_header Plain)) (Some Plain) None)
 
--- A header that a crash has cut short: behind its gate, whatever that is, stands a front of what belongs there; or its gate is closed, and
+-- A header that a crash has cut short: its gate, whatever that is, is followed by a front of what belongs there; or its gate is closed, and
 -- there are no more bytes than a header and a closed gate have. An empty file is one.
 unfoldable pub is_begun : List ℕ → Bool
 is_begun file =
@@ -52,16 +55,16 @@ recovered_by None = None
 recovered_by (Some (damaged at)) = None
 recovered_by (Some (stands payloads)) = Some payloads
 
--- The payloads that a file stands for, whatever a crash made of it. None: it is refused.
-unfoldable pub recovered : List ℕ → Option (List (List ℕ))
-recovered file = recovered_by (file_reading file)
+-- The payloads that a file represents, whatever a crash made of it. None: it is refused.
+unfoldable pub file_payloads : List ℕ → Option (List (List ℕ))
+file_payloads file = recovered_by (file_reading file)
 
 -- and one more
-abbrev pub added : List ℕ → Option (List (List ℕ)) → Option (List (List ℕ))
-added payload None = None
-added payload (Some payloads) = Some (payloads ++ payload ∷ [])
+abbrev pub with_payload : List ℕ → Option (List (List ℕ)) → Option (List (List ℕ))
+with_payload payload None = None
+with_payload payload (Some payloads) = Some (payloads ++ payload ∷ [])
 
--- a file's header and whole records with these payloads, and no more: what follows is read as if it stood alone
+-- a file's header and whole records with these payloads, and no more: what follows is read as if it were alone
 abbrev pub IsFileFront : Format → List ℕ → List (List ℕ) → Type 0
 IsFileFront format front payloads = (rest : List ℕ) → file_reading (front ++ rest) ≡ Some (read_behind (length front) payloads (records_read format rest))
 
@@ -80,20 +83,20 @@ pub record HasRecords (file : List ℕ) (format : Format) (end : ℕ) : Type 0 w
   pub front : IsWholeFront format (take end file)
   pub no_more : EndsThere format (drop end file)
   pub sound : AreUndamaged format (drop 13 file)
-  pub stands : recovered file ≡ Some (payloads_read (records_read format (drop 13 file)))
+  pub stands : file_payloads file ≡ Some (payloads_read (records_read format (drop 13 file)))
 
 -- the file is a journal's that has no whole header yet
 pub record IsNewFile (file : List ℕ) : Type 0 where
   pub unnamed : format_of file ≡ None
   pub begun : is_begun file ≡ true
-  pub stands : recovered file ≡ Some []
+  pub stands : file_payloads file ≡ Some []
 
 -- how far it goes
 abbrev pub HasExtent : List ℕ → Extent → Type 0
 HasExtent file New = IsNewFile file
 HasExtent file (Until format end) = HasRecords file format end
 
--- behind this place there is one byte more, a closed gate
+-- behind this position there is one byte more, a closed gate
 abbrev pub ends_closed : List ℕ → ℕ → Bool
 ends_closed file end = length file - end == 1 && slice_index file end == 0
 

@@ -1,12 +1,13 @@
 -- The two formats of records, and what is read of them. A record of version 2 is a gate, a sum in four bytes, the length of its payload in
 -- four bytes, the lowest first, and the payload. The sum is the CRC-32C of what follows it. Any gate but 0 is open.
-use Rattle.std.specs.Prelude.{◌≡◌, ℕ, zero, suc, ◌+◌, ◌-◌, ◌*◌, ◌&&◌, ◌||◌, ◌==◌, nat_le, Bool, List, [], ◌∷◌, ◌++◌, length, take, drop, get_or, cond}
+use Rattle.std.specs.Prelude.{◌≡◌, ℕ, zero, suc, ◌+◌, ◌-◌, ◌*◌, ◌&&◌, ◌||◌, ◌==◌, nat_le, Bool}
+use Rattle.std.specs.Prelude.{List, [], ◌∷◌, ◌++◌, length, take, drop, get_or, cond}
 use Rattle.crc32c.specs.Sums.{crc32c}
 use Rattle.cedar_journal.specs.declared.format.Format.{Format}
 use Rattle.cedar_journal.specs.declared.format.Format.TheVariants.{Plain, Summed}
 use Rattle.cedar_journal.specs.Records.{length_bytes, payloads_in}
 
--- what some records are read as: these payloads; or the one that begins at this place is damaged
+-- what some records are read as: these payloads; or the one that begins at this position is damaged
 pub data Reading : Type 0 where
   stands : List (List ℕ) → Reading
   damaged : ℕ → Reading
@@ -21,7 +22,7 @@ abbrev pub payloads_read : Reading → List (List ℕ)
 payloads_read (stands payloads) = payloads
 payloads_read (damaged at) = []
 
--- a number of four bytes from this place on, the lowest first
+-- a number of four bytes from this position on, the lowest first
 abbrev pub four_at : List ℕ → ℕ → ℕ
 four_at bytes at = get_or bytes at 0 + 256 * get_or bytes (at + 1) 0 + 65536 * get_or bytes (at + 2) 0 + 16777216 * get_or bytes (at + 3) 0
 
@@ -49,7 +50,7 @@ records_read Summed bytes = read_first (length bytes) bytes
 abbrev pub AreUndamaged : Format → List ℕ → Type 0
 AreUndamaged format bytes = (payloads : List (List ℕ)) × (records_read format bytes ≡ stands payloads)
 
--- whole records with these payloads and no more: what follows them is read as if it stood alone
+-- whole records with these payloads and no more: what follows them is read as if it were alone
 abbrev pub ArePieces : Format → List ℕ → List (List ℕ) → Type 0
 ArePieces format front payloads = (rest : List ℕ) → records_read format (front ++ rest) ≡ read_behind (length front) payloads (records_read format rest)
 
@@ -71,15 +72,15 @@ overhead Summed = 9
 abbrev pub sum_of : List ℕ → ℕ
 sum_of payload = crc32c (length_bytes (length payload) ++ payload)
 
--- what stands between a record's gate and its payload
+-- what is between a record's gate and its payload
 abbrev pub record_head : Format → List ℕ → List ℕ
 record_head Plain payload = length_bytes (length payload)
 record_head Summed payload = length_bytes (sum_of payload) ++ length_bytes (length payload)
 
--- what stands behind a record's gate, and the closed gate behind it
+-- what follows a record's gate, and the closed gate behind it
 abbrev pub frame_of : Format → List ℕ → List ℕ
 frame_of format payload = record_head format payload ++ (payload ++ 0 ∷ [])
 
 -- the payload that a frame of version 2 with these bytes has
-abbrev pub unframed : List ℕ → List ℕ
-unframed bytes = take (length bytes - 9) (drop 8 bytes)
+abbrev pub payload_of_frame : List ℕ → List ℕ
+payload_of_frame bytes = take (length bytes - 9) (drop 8 bytes)

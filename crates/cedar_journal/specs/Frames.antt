@@ -1,7 +1,7 @@
 use Rattle.std.specs.Prelude.{ℕ, List}
 use Rattle.cedar_journal.specs.declared.frame.Frame.{Frame}
-use Rattle.cedar_journal.specs.Formats.{unframed}
+use Rattle.cedar_journal.specs.Formats.{payload_of_frame}
 
 -- the payload that a frame is of
 abbrev pub payload_of : {A : Type 0} → Frame A → List ℕ
-payload_of frame = unframed frame.bytes.items
+payload_of frame = payload_of_frame frame.bytes.items

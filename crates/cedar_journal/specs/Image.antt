@@ -1,4 +1,4 @@
--- What a file made in memory stands for.
+-- What a file made in memory represents.
 use Rattle.std.specs.Prelude.{ℕ, List}
 use Rattle.cedar_journal.specs.declared.format.Format.TheVariants.{Summed}
 use Rattle.cedar_journal.specs.declared.image.Image.{Image}

@@ -1,12 +1,12 @@
 -- What a crash never makes of a file.
 use Rattle.std.specs.Prelude.{◌⊎◌, List, ℕ, IsSome}
 use Rattle.cedar_journal.specs.declared.records.Extent.{Extent}
-use Rattle.cedar_journal.specs.Files.{HasExtent, recovered}
+use Rattle.cedar_journal.specs.Files.{file_payloads, HasExtent}
 use Rattle.cedar_journal.specs.Journal.{IsBeforeOrAfter, StandsForEither}
 
--- The file stands for some payloads. `extent_of` refuses exactly a file that doesn't.
+-- The file represents some payloads. `extent_of` refuses exactly a file that doesn't.
 abbrev pub IsAccepted : List ℕ → Type 0
-IsAccepted file = IsSome (recovered file)
+IsAccepted file = IsSome (file_payloads file)
 
 abbrev pub ExtentsAreAccepted : Type 0
 ExtentsAreAccepted = (file : List ℕ) (extent : Extent) → HasExtent file extent → IsAccepted file
@@ -14,7 +14,7 @@ ExtentsAreAccepted = (file : List ℕ) (extent : Extent) → HasExtent file exte
 -- what a crash may leave of a file by the clauses `any_moment`
 abbrev pub MayBeLeft : List ℕ → List ℕ → Type 0
 MayBeLeft file c =
-    ((payload : List ℕ) × IsBeforeOrAfter (recovered file) payload c) ⊎ ((payloads : List (List ℕ)) × StandsForEither (recovered file) payloads c)
+    ((payload : List ℕ) × IsBeforeOrAfter (file_payloads file) payload c) ⊎ ((payloads : List (List ℕ)) × StandsForEither (file_payloads file) payloads c)
 
 abbrev pub CrashesAreAccepted : Type 0
 CrashesAreAccepted = (file c : List ℕ) → IsAccepted file → MayBeLeft file c → IsAccepted c

@@ -1,8 +1,9 @@
 -- Records of version 1, one after another. A record is a gate, the length of its payload in four bytes, the lowest first, and the payload.
 -- It counts if its gate is open (1) and all of it is there.
-use Rattle.std.specs.Prelude.{◌≡◌, ℕ, zero, suc, ◌+◌, ◌*◌, ◌/◌, ◌%◌, ◌&&◌, ◌==◌, nat_le, Bool, List, [], ◌∷◌, ◌++◌, length, take, drop, get_or, cond}
+use Rattle.std.specs.Prelude.{◌≡◌, ℕ, zero, suc, ◌+◌, ◌*◌, ◌/◌, ◌%◌, ◌&&◌, ◌==◌, nat_le, Bool, List}
+use Rattle.std.specs.Prelude.{[], ◌∷◌, ◌++◌, length, take, drop, get_or, cond}
 
--- the length that a record tells, whether it is there or not
+-- the length that a record names, whether it is there or not
 abbrev pub payload_length : List ℕ → ℕ
 payload_length bytes = get_or bytes 1 0 + 256 * get_or bytes 2 0 + 65536 * get_or bytes 3 0 + 16777216 * get_or bytes 4 0
 
@@ -14,7 +15,7 @@ has_record bytes = get_or bytes 0 0 == 1 && nat_le (5 + payload_length bytes) (l
 unfoldable pub payload : List ℕ → List ℕ
 payload bytes = take (payload_length bytes) (drop 5 bytes)
 
--- what stands behind the first record
+-- what follows the first record
 unfoldable pub behind_record : List ℕ → List ℕ
 behind_record bytes = drop (5 + payload_length bytes) bytes
 
@@ -27,7 +28,7 @@ first_payloads (suc n) bytes = cond (has_record bytes) (payload bytes ∷ first_
 unfoldable pub payloads_in : List ℕ → List (List ℕ)
 payloads_in bytes = first_payloads (length bytes) bytes
 
--- whole records and no more: what follows them is read as if it stood alone
+-- whole records and no more: what follows them is read as if it were alone
 abbrev pub AreWholeRecords : List ℕ → Type 0
 AreWholeRecords front = (rest : List ℕ) → payloads_in (front ++ rest) ≡ payloads_in front ++ payloads_in rest
 
@@ -35,6 +36,6 @@ AreWholeRecords front = (rest : List ℕ) → payloads_in (front ++ rest) ≡ pa
 abbrev pub length_bytes : ℕ → List ℕ
 length_bytes n = n % 256 ∷ n / 256 % 256 ∷ n / 65536 % 256 ∷ n / 16777216 % 256 ∷ []
 
--- what stands behind a record's gate, and the closed gate behind it
-abbrev pub framed : List ℕ → List ℕ
-framed payload = length_bytes (length payload) ++ (payload ++ 0 ∷ [])
+-- what follows a record's gate, and the closed gate behind it
+abbrev pub frame_body : List ℕ → List ℕ
+frame_body payload = length_bytes (length payload) ++ (payload ++ 0 ∷ [])

@@ -1,4 +1,4 @@
--- What a replacement tells.
+-- What a replacement returns.
 use Rattle.std.specs.Prelude.{Result, Ok, Err}
 use Rattle.cedar_journal.specs.declared.device.DeviceError.{DeviceError}
 use Rattle.cedar_journal.specs.declared.device.DeviceError.TheVariants.{Memory}
@@ -11,6 +11,6 @@ IfKept (Ok done) P = Unit {0}
 IfKept (Err (Kept why)) P = P
 IfKept (Err Failed) P = Unit {0}
 
--- a refused request for memory, as a device tells it
+-- a refused request for memory, as a device reports it
 abbrev pub device_memory : DeviceError
 device_memory = Memory

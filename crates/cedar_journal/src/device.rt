@@ -1,7 +1,8 @@
 //! A file as the journal sees it: what a read returns, and what a crash may leave.
 
 ghost use Rattle.std.specs.Prelude.{◌≡◌, ◌≤◌, IfOk, IsErrOf, length, List, OnOk, take, ℕ};
-ghost use Rattle.cedar_journal.specs.Words.{Cut, Elapses, Follows, HasCause, Holds, Memory, Only, Torn};
+ghost use Rattle.cedar_journal.specs.Words.{Cut, Elapses, Follows, HasCause, Holds};
+ghost use Rattle.cedar_journal.specs.Words.{Memory, Only, Torn};
 
 use std::alloc::{AllocError, AllocFailed, Allocator};
 

@@ -1,7 +1,8 @@
 //! A record as it is written: made before anything is written, so that a lack of memory changes nothing.
 
 ghost use Rattle.std.specs.Prelude.{◌+◌, ◌++◌, ◌<◌, ◌^◌, ◌≡◌, ◌≤◌, IfOk, IsErrOf, length, OnOk};
-ghost use Rattle.cedar_journal.specs.Fields.{frame_of, length_bytes, Memory, Summed, unframed};
+ghost use Rattle.cedar_journal.specs.Fields.{frame_of, length_bytes, Memory};
+ghost use Rattle.cedar_journal.specs.Fields.{payload_of_frame, Summed};
 
 use crate::Format;
 use crc32c::crc32c_joined;
@@ -42,7 +43,7 @@ impl<T: Drop> From<AllocFailed<T>> for FrameError {
 pub struct Frame<A: Allocator> {
     // That of version 2. Without its sum, which comes first, it is that of version 1.
     bytes: Vec<u8, A>,
-    ghost framed: { bytes.items ≡ frame_of Summed (unframed bytes.items) },
+    ghost framed: { bytes.items ≡ frame_of Summed (payload_of_frame bytes.items) },
     ghost short: { length bytes.items < 4294967305 },
     ghost some: { 9 ≤ length bytes.items },
 }

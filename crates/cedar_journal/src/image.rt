@@ -23,7 +23,7 @@ impl<A: Allocator> Image<A> {
     /// # Errors
     /// If an allocation failed.
     pub fn new(alloc: A) -> Result<Image<A>, AllocError>
-        //= A new image stands for no payload, and has the 14 bytes of the header and of a closed gate. [with length]
+        //= A new image represents no payload, and has the 14 bytes of the header and of a closed gate. [with length]
         ensures none { IfOk result (λ image. payloads_of image ≡ []) }
         ensures length { IfOk result (λ image. length (image_bytes image) ≡ 14) }
     {
@@ -38,7 +38,7 @@ impl<A: Allocator> Image<A> {
     /// # Errors
     /// If an allocation failed. Then nothing has changed.
     pub fn push<B: Allocator>(&mut self, frame: &Frame<B>) -> Result<(), AllocError>
-        //= An image to which a record is pushed stands for one more payload, this one, and is longer by the record; a refused one is as it
+        //= An image to which a record is pushed represents one more payload, this one, and is longer by the record; a refused one is as it
         //  was. [with longer, refused]
         ensures pushed { OnOk result (payloads_of self.new ≡ payloads_of self.old ++ payload_of frame.now ∷ []) }
         ensures longer { OnOk result (length (image_bytes self.new) ≡ length (image_bytes self.old) + 9 + length (payload_of frame.now)) }

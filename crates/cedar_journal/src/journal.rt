@@ -3,15 +3,19 @@
 //! A closed gate (0) comes after the last record. It is on the disk before anything is written after it, and is opened by a write of its
 //! own after a sync. So no sum is trusted: those of version 2 only show that somebody else has changed the file.
 
-ghost use Rattle.std.specs.Prelude.{◌+◌, ◌<◌, ◌^◌, ◌≡◌, ◌≤◌, IfErr, IfOk, IsErrOf, IsOkAnd, length, OnErr, OnOk, Some, true};
-ghost use Rattle.cedar_journal.specs.Words.{added, Device, HasExtent, IfKept, image_bytes, extent_end, is_at_rest, IsBeforeOrAfter, IsSettled, IsStaged, LeavesOnly, Only, payload_of, payloads_of, recovered, StandsForEither};
+ghost use Rattle.std.specs.Prelude.{◌+◌, ◌<◌, ◌^◌, ◌≡◌, ◌≤◌, IfErr, IfOk, IsErrOf, IsOkAnd};
+ghost use Rattle.std.specs.Prelude.{length, OnErr, OnOk, Some, true};
+ghost use Rattle.cedar_journal.specs.Words.{with_payload, Device, HasExtent, IfKept, image_bytes};
+ghost use Rattle.cedar_journal.specs.Words.{extent_end, is_at_rest, IsBeforeOrAfter, IsSettled};
+ghost use Rattle.cedar_journal.specs.Words.{IsStaged, LeavesOnly, Only, payload_of, payloads_of};
+ghost use Rattle.cedar_journal.specs.Words.{file_payloads, StandsForEither};
 
 use crate::records::{ends_closed, open_gate};
 use crate::repair::{cut_off, make_ready};
 use crate::{Device, DeviceError, Extent, Format, Frame, Image, ReplaceDevice, ReplaceError};
 use std::alloc::Allocator;
 
-/// The last place at which the records may end for one more to be written.
+/// The last position at which the records may end for one more to be written.
 pub const MAX_END: usize = 1 << 60;
 
 /// Why a record wasn't written.
@@ -41,7 +45,7 @@ pub struct Journal<D: Device> {
     pub device: D,
     /// How its records are written.
     pub format: Format,
-    /// The place of the closed gate after the last record.
+    /// The position of the closed gate after the last record.
     pub end: usize,
 }
 
@@ -50,22 +54,22 @@ impl<D: Device> Journal<D> {
     /// whole records, and gives a new file its header.
     ///
     /// # Errors
-    /// The device's, with the device. The file stands for the same payloads.
+    /// The device's, with the device. The file represents the same payloads.
     pub fn open(device: D, extent: Extent) -> Result<Journal<D>, (DeviceError, D)>
         // After a restart, a read returns what is on the disk.
         requires restarted { Only (D.seen device) (D.may_leave device) }
         requires extent { HasExtent (D.seen device) extent }
 
-        //= An opened journal is at rest and on the disk, and stands for the payloads that the file stood for. [also open_read]
+        //= An opened journal is at rest and on the disk, and represents the payloads that the file represented. [also open_read]
         ensures settled { IfOk result (λ journal. IsSettled D.seen D.may_leave journal.device journal.format journal.end
-            × (recovered (D.seen journal.device) ≡ recovered (D.seen device))) }
+            × (file_payloads (D.seen journal.device) ≡ file_payloads (D.seen device))) }
 
         //= A crash at any moment while it is opened leaves the same payloads, and never a file of another kind; even if a device fails.
         //  [with any_moment_err; also open_read]
         ensures any_moment { IfOk result (λ journal. LeavesOnly D.moment D.left_since device journal.device
-            (λ c. recovered c ≡ recovered (D.seen device))) }
+            (λ c. file_payloads c ≡ file_payloads (D.seen device))) }
         ensures any_moment_err { IfErr result (λ e. LeavesOnly D.moment D.left_since device e.1
-            (λ c. recovered c ≡ recovered (D.seen device))) }
+            (λ c. file_payloads c ≡ file_payloads (D.seen device))) }
 
         //= An opening returns `Failed` only if the disk has failed. [also open_read]
         ensures failed { IfErr result (λ e. e.0 ≡ DeviceError.Failed → D.faults device < D.faults e.1) }
@@ -98,11 +102,11 @@ impl<D: Device> Journal<D> {
         requires extent { HasExtent (D.seen device) extent }
         requires bytes { bytes.now ≡ D.seen device }
         ensures settled { IfOk result (λ journal. IsSettled D.seen D.may_leave journal.device journal.format journal.end
-            × (recovered (D.seen journal.device) ≡ recovered (D.seen device))) }
+            × (file_payloads (D.seen journal.device) ≡ file_payloads (D.seen device))) }
         ensures any_moment { IfOk result (λ journal. LeavesOnly D.moment D.left_since device journal.device
-            (λ c. recovered c ≡ recovered (D.seen device))) }
+            (λ c. file_payloads c ≡ file_payloads (D.seen device))) }
         ensures any_moment_err { IfErr result (λ e. LeavesOnly D.moment D.left_since device e.1
-            (λ c. recovered c ≡ recovered (D.seen device))) }
+            (λ c. file_payloads c ≡ file_payloads (D.seen device))) }
         ensures failed { IfErr result (λ e. e.0 ≡ DeviceError.Failed → D.faults device < D.faults e.1) }
         ensures end { IfOk result (λ journal. journal.end ≡ extent_end extent) }
 
@@ -137,16 +141,16 @@ impl<D: Device> Journal<D> {
         ensures staged { OnOk result (IsStaged D.seen D.may_leave self.new.device self.old.format self.old.end (payload_of frame.now)) }
         ensures end { self.new.end ≡ self.old.end }
         ensures format { self.new.format ≡ self.old.format }
-        ensures same { OnOk result (recovered (D.seen self.new.device) ≡ recovered (D.seen self.old.device)) }
+        ensures same { OnOk result (file_payloads (D.seen self.new.device) ≡ file_payloads (D.seen self.old.device)) }
 
         //= A crash at any moment while a record is staged leaves the payloads as they were.
         ensures any_moment { LeavesOnly D.moment D.left_since self.old.device self.new.device
-            (λ c. recovered c ≡ recovered (D.seen self.old.device)) }
+            (λ c. file_payloads c ≡ file_payloads (D.seen self.old.device)) }
 
-        //= If the device had no room for a record, the file is at rest and on the disk, and stands for the same payloads. `NoRoom` is
+        //= If the device had no room for a record, the file is at rest and on the disk, and represents the same payloads. `NoRoom` is
         //  returned only if a write found no room. [with same_left, wanting]
         ensures no_room { IsErrOf result JournalError.NoRoom → IsSettled D.seen D.may_leave self.new.device self.new.format self.new.end }
-        ensures same_left { IsErrOf result JournalError.NoRoom → recovered (D.seen self.new.device) ≡ recovered (D.seen self.old.device) }
+        ensures same_left { IsErrOf result JournalError.NoRoom → file_payloads (D.seen self.new.device) ≡ file_payloads (D.seen self.old.device) }
         ensures wanting { IsErrOf result JournalError.NoRoom → D.faults self.old.device < D.faults self.new.device }
 
         //= Otherwise staging fails exactly if the records end after 2^60, and then nothing is written, or if the device fails; `Failed` is
@@ -180,13 +184,13 @@ impl<D: Device> Journal<D> {
     pub fn commit<A: Allocator>(&mut self, frame: &Frame<A>) -> Result<(), DeviceError>
         requires { IsStaged D.seen D.may_leave self.old.device self.old.format self.old.end (payload_of frame.now) }
 
-        //= Once a record is acknowledged, the file is at rest and on the disk, and stands for one more payload, this one. [with settled]
-        ensures acknowledged { OnOk result (recovered (D.seen self.new.device) ≡ added (payload_of frame.now) (recovered (D.seen self.old.device))) }
+        //= Once a record is acknowledged, the file is at rest and on the disk, and represents one more payload, this one. [with settled]
+        ensures acknowledged { OnOk result (file_payloads (D.seen self.new.device) ≡ with_payload (payload_of frame.now) (file_payloads (D.seen self.old.device))) }
         ensures settled { OnOk result (IsSettled D.seen D.may_leave self.new.device self.new.format self.new.end) }
 
         //= A crash at any moment of it leaves the payloads from before it, with or without the new one.
         ensures any_moment { LeavesOnly D.moment D.left_since self.old.device self.new.device
-            (IsBeforeOrAfter (recovered (D.seen self.old.device)) (payload_of frame.now)) }
+            (IsBeforeOrAfter (file_payloads (D.seen self.old.device)) (payload_of frame.now)) }
 
         //= An acknowledgement leaves the format, and if it fails, where the records end. [with format]
         ensures end { OnErr result (self.new.end ≡ self.old.end) }
@@ -210,21 +214,21 @@ impl<D: Device> Journal<D> {
     pub fn append<A: Allocator>(&mut self, frame: &Frame<A>) -> Result<(), JournalError>
         requires { IsSettled D.seen D.may_leave self.old.device self.old.format self.old.end }
 
-        //= Once a record is appended, the file is at rest and on the disk, and stands for one more payload, this one. [with settled]
-        ensures acknowledged { OnOk result (recovered (D.seen self.new.device) ≡ added (payload_of frame.now) (recovered (D.seen self.old.device))) }
+        //= Once a record is appended, the file is at rest and on the disk, and represents one more payload, this one. [with settled]
+        ensures acknowledged { OnOk result (file_payloads (D.seen self.new.device) ≡ with_payload (payload_of frame.now) (file_payloads (D.seen self.old.device))) }
         ensures settled { OnOk result (IsSettled D.seen D.may_leave self.new.device self.new.format self.new.end) }
 
         //= A crash at any moment of that leaves the payloads from before it, with or without the new one.
         ensures any_moment { LeavesOnly D.moment D.left_since self.old.device self.new.device
-            (IsBeforeOrAfter (recovered (D.seen self.old.device)) (payload_of frame.now)) }
+            (IsBeforeOrAfter (file_payloads (D.seen self.old.device)) (payload_of frame.now)) }
 
-        //= If the device had no room for the record, it isn't appended: the file is at rest and on the disk, and stands for the payloads
+        //= If the device had no room for the record, it isn't appended: the file is at rest and on the disk, and represents the payloads
         //  from before; a crash leaves these. `NoRoom` is returned only if a write found no room. [with same_left, kept, wanting, end,
         //  format]
         ensures no_room { IsErrOf result JournalError.NoRoom → IsSettled D.seen D.may_leave self.new.device self.new.format self.new.end }
-        ensures same_left { IsErrOf result JournalError.NoRoom → recovered (D.seen self.new.device) ≡ recovered (D.seen self.old.device) }
+        ensures same_left { IsErrOf result JournalError.NoRoom → file_payloads (D.seen self.new.device) ≡ file_payloads (D.seen self.old.device) }
         ensures kept { IsErrOf result JournalError.NoRoom → LeavesOnly D.moment D.left_since self.old.device self.new.device
-            (λ c. recovered c ≡ recovered (D.seen self.old.device)) }
+            (λ c. file_payloads c ≡ file_payloads (D.seen self.old.device)) }
         ensures wanting { IsErrOf result JournalError.NoRoom → D.faults self.old.device < D.faults self.new.device }
         ensures end { OnErr result (self.new.end ≡ self.old.end) }
         ensures format { self.new.format ≡ self.old.format }
@@ -252,16 +256,16 @@ impl<D: ReplaceDevice> Journal<D> {
     pub fn replace<A: Allocator>(&mut self, image: &Image<A>) -> Result<(), ReplaceError>
         requires { IsSettled D.seen D.may_leave self.old.device self.old.format self.old.end }
 
-        //= Once the records of a journal are replaced, the file has the image's bytes, is at rest and on the disk, and stands for its
+        //= Once the records of a journal are replaced, the file has the image's bytes, is at rest and on the disk, and represents its
         //  payloads. [with settled, bytes, end]
-        ensures replaced { OnOk result (recovered (D.seen self.new.device) ≡ Some (payloads_of image.now)) }
+        ensures replaced { OnOk result (file_payloads (D.seen self.new.device) ≡ Some (payloads_of image.now)) }
         ensures settled { OnOk result (IsSettled D.seen D.may_leave self.new.device self.new.format self.new.end) }
         ensures bytes { OnOk result (D.seen self.new.device ≡ image_bytes image.now) }
         ensures end { OnOk result (self.new.end + 1 ≡ length (image_bytes image.now)) }
 
         //= A crash at any moment of that leaves the payloads from before it, or those of the image.
         ensures any_moment { LeavesOnly D.moment D.left_since self.old.device self.new.device
-            (StandsForEither (recovered (D.seen self.old.device)) (payloads_of image.now)) }
+            (StandsForEither (file_payloads (D.seen self.old.device)) (payloads_of image.now)) }
 
         //= If the call reports that the records are kept, the file has the bytes from before, is at rest and on the disk. [with kept_bytes,
         //  kept_end, kept_format]

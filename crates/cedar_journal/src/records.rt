@@ -1,7 +1,12 @@
 //! Records as bytes: what is at the start of some bytes, where whole records end, and how far the file of a journal goes.
 
-ghost use Rattle.std.specs.Prelude.{◌*◌, ◌+◌, ◌∷◌, ◌≡◌, ◌≤◌, ◌↔◌, [], drop, false, get_or, IfErr, IfNone, IfOk, IfSome, IsErr, length, None, Some, true};
-ghost use Rattle.cedar_journal.specs.Words.{read_behind, behind_record, damaged, ends_closed, file_reading, format_of, HasExtent, HasRecords, has_record, is_begun, IsFault, IsFoundThere, AreUndamaged, opening, overhead, payload, records_read, recovered, stands};
+ghost use Rattle.std.specs.Prelude.{◌*◌, ◌+◌, ◌∷◌, ◌≡◌, ◌≤◌, ◌↔◌, [], drop, false, get_or, IfErr};
+ghost use Rattle.std.specs.Prelude.{IfNone, IfOk, IfSome, IsErr, length, None, Some, true};
+ghost use Rattle.cedar_journal.specs.Words.{read_behind, behind_record, damaged, ends_closed};
+ghost use Rattle.cedar_journal.specs.Words.{file_reading, format_of, HasExtent, HasRecords};
+ghost use Rattle.cedar_journal.specs.Words.{has_record, is_begun, IsFault, IsFoundThere};
+ghost use Rattle.cedar_journal.specs.Words.{AreUndamaged, opening, overhead, payload, records_read};
+ghost use Rattle.cedar_journal.specs.Words.{file_payloads, stands};
 
 use crate::Format;
 use crc32c::crc32c;
@@ -188,11 +193,11 @@ pub enum FileFault {
 /// # Errors
 /// `Foreign` if they are no journal's, `Damaged` if a record is damaged. A file of a single byte is taken for the beginning of one.
 pub fn extent_of(bytes: &[u8]) -> Result<Extent, FileFault>
-    //= `extent_of` returns how far a journal's file goes. It refuses exactly a file that stands for no payloads: as foreign one of another
-    //  kind, and as damaged one with a record that counts and isn't whole or has another sum, at the place of the first such record. [with
-    //  refused, cause]
+    //= `extent_of` returns how far a journal's file goes. It refuses exactly a file that represents no payloads: as foreign one of another
+    //  kind, and as damaged one with a record that counts and isn't whole or has another sum, at the position of the first such record.
+    //  [with refused, cause]
     ensures extent { IfOk result (λ extent. HasExtent bytes.now extent) }
-    ensures refused { IsErr result ↔ (recovered bytes.now ≡ None) }
+    ensures refused { IsErr result ↔ (file_payloads bytes.now ≡ None) }
     ensures cause { IfErr result (λ fault. IsFault bytes.now fault) }
 {
     match format_of(bytes) {
@@ -209,7 +214,7 @@ pub fn extent_of(bytes: &[u8]) -> Result<Extent, FileFault>
     }
 }
 
-/// Returns whether one byte is left behind a place, a closed gate.
+/// Returns whether one byte is left behind a position, a closed gate.
 pub(crate) fn ends_closed(bytes: &[u8], end: usize) -> bool
     requires { end ≤ length bytes.now }
     ensures { result ≡ ends_closed bytes.now end }

@@ -1,7 +1,9 @@
 //! Calls that make a file that a crash may have left ready for the next record. A crash may cut off each of these calls too.
 
-ghost use Rattle.std.specs.Prelude.{◌<◌, ◌∷◌, ◌≡◌, ◌≤◌, [], IfOk, IsErrOf, length, List, OnOk, Some, take, ℕ};
-ghost use Rattle.cedar_journal.specs.Words.{extent_end, HasExtent, HasFront, HasRecords, IsNewFile, IsSettled, LeavesOnly, Only, recovered};
+ghost use Rattle.std.specs.Prelude.{◌<◌, ◌∷◌, ◌≡◌, ◌≤◌, [], IfOk, IsErrOf, length};
+ghost use Rattle.std.specs.Prelude.{List, OnOk, Some, take, ℕ};
+ghost use Rattle.cedar_journal.specs.Words.{extent_end, file_payloads, HasExtent, HasFront};
+ghost use Rattle.cedar_journal.specs.Words.{HasRecords, IsNewFile, IsSettled, LeavesOnly, Only};
 
 use crate::records::{HEADER_FRAME, HEADER_LEN};
 use crate::{Device, DeviceError, Extent, Format};
@@ -15,9 +17,9 @@ pub(crate) fn make_ready<D: Device>(
     requires extent { HasExtent (D.seen device.old) extent }
     ensures settled { IfOk result (λ at. IsSettled D.seen D.may_leave device.new at.0 at.1) }
     ensures end { IfOk result (λ at. at.1 ≡ extent_end extent) }
-    ensures same { OnOk result (recovered (D.seen device.new) ≡ recovered (D.seen device.old)) }
+    ensures same { OnOk result (file_payloads (D.seen device.new) ≡ file_payloads (D.seen device.old)) }
     ensures any_moment { LeavesOnly D.moment D.left_since device.old device.new
-        (λ c. recovered c ≡ recovered (D.seen device.old)) }
+        (λ c. file_payloads c ≡ file_payloads (D.seen device.old)) }
     ensures failed { IsErrOf result DeviceError.Failed → D.faults device.old < D.faults device.new }
 {
     match extent {
@@ -38,9 +40,9 @@ fn close_behind<D: Device>(device: &mut D, format: Format, end: usize) -> Result
     requires restarted { Only (D.seen device.old) (D.may_leave device.old) }
     requires records { HasRecords (D.seen device.old) format end }
     ensures settled { OnOk result (IsSettled D.seen D.may_leave device.new format end) }
-    ensures same { OnOk result (recovered (D.seen device.new) ≡ recovered (D.seen device.old)) }
+    ensures same { OnOk result (file_payloads (D.seen device.new) ≡ file_payloads (D.seen device.old)) }
     ensures any_moment { LeavesOnly D.moment D.left_since device.old device.new
-        (λ c. recovered c ≡ recovered (D.seen device.old)) }
+        (λ c. file_payloads c ≡ file_payloads (D.seen device.old)) }
     ensures failed { IsErrOf result DeviceError.Failed → D.faults device.old < D.faults device.new }
 {
     device.cut(end)?;
@@ -72,7 +74,7 @@ fn clear<D: Device>(device: &mut D) -> Result<(), DeviceError>
     requires begun { IsNewFile (D.seen device.old) }
     ensures cleared { OnOk result (D.seen device.new ≡ 0 ∷ []) }
     ensures durable { OnOk result (Only (D.seen device.new) (D.may_leave device.new)) }
-    ensures any_moment { LeavesOnly D.moment D.left_since device.old device.new (λ c. recovered c ≡ Some []) }
+    ensures any_moment { LeavesOnly D.moment D.left_since device.old device.new (λ c. file_payloads c ≡ Some []) }
     ensures failed { IsErrOf result DeviceError.Failed → D.faults device.old < D.faults device.new }
     ensures faults { D.faults device.old ≤ D.faults device.new }
 {
@@ -88,8 +90,8 @@ fn write_header<D: Device>(device: &mut D) -> Result<(), DeviceError>
     requires cleared { D.seen device.old ≡ 0 ∷ [] }
     requires durable { Only (D.seen device.old) (D.may_leave device.old) }
     ensures settled { OnOk result (IsSettled D.seen D.may_leave device.new Format.Summed 13) }
-    ensures none { OnOk result (recovered (D.seen device.new) ≡ Some []) }
-    ensures any_moment { LeavesOnly D.moment D.left_since device.old device.new (λ c. recovered c ≡ Some []) }
+    ensures none { OnOk result (file_payloads (D.seen device.new) ≡ Some []) }
+    ensures any_moment { LeavesOnly D.moment D.left_since device.old device.new (λ c. file_payloads c ≡ Some []) }
     ensures failed { IsErrOf result DeviceError.Failed → D.faults device.old < D.faults device.new }
 {
     device.write_at(1, &HEADER_FRAME)?;

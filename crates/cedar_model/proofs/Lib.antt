@@ -1,3 +1,12 @@
+pub use Rattle.cedar_tree.proofs.WalkLemmas
+pub use Rattle.cedar_tree.proofs.VisitLemmas
+pub use Rattle.cedar_tree.proofs.TreeLemmas
+pub use Rattle.cedar_tree.proofs.PredictLemmas
+pub use Rattle.cedar_tree.proofs.OrderLemmas
+pub use Rattle.cedar_tree.proofs.GeneralLemmas
+pub use Rattle.cedar_tree.proofs.FrontFromLemmas
+pub use Rattle.cedar_tree.proofs.EntryLemmas
+pub use Rattle.cedar_tree.proofs.CutLemmas
 pub mod CellsLemmas
 pub mod EditLemmas
 pub mod MeaningLemmas

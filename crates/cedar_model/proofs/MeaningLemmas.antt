@@ -1,4 +1,4 @@
--- What the slots of a table stand for.
+-- What the slots of a table represent.
 pub mod AmongLabels
 pub mod BareSlot
 pub mod Chain

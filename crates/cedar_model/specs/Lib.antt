@@ -1,3 +1,8 @@
+pub use Rattle.cedar_tree.specs.Walks
+pub use Rattle.cedar_tree.specs.Tree
+pub use Rattle.cedar_tree.specs.Queries
+pub use Rattle.cedar_tree.specs.Laws
+pub use Rattle.cedar_tree.specs.Edits
 pub mod Edit
 pub mod Meaning
 pub mod Relocation

@@ -1,4 +1,4 @@
--- What the slots of a table stand for.
+-- What the slots of a table represent.
 pub mod Family
 pub mod Marks
 pub mod Reading

@@ -1,11 +1,16 @@
-//! Laws of what a table stands for.
+//! Laws of what a table represents.
 
-ghost use Rattle.std.specs.Prelude.{if◌then◌else◌, ◌+◌, ◌↔◌, ◌≡◌, count_by, length, List, None, true, ℕ};
-ghost use Rattle.cedar_model.specs.Words.{Cells, cells_in, default_layout, Fields, Forest, HasMark, HoldsTree, is_held, IsWellFormed, KeepsMarks, labels, Leads, MarkedAt, marks, NoPlace, occurs, prefixes, range_with_len, size_of, slot_at, slots_named, tree_of, used, walk};
+ghost use Rattle.std.specs.Prelude.{if◌then◌else◌, ◌+◌, ◌↔◌, ◌≡◌, count_by, length};
+ghost use Rattle.std.specs.Prelude.{List, None, true, ℕ};
+ghost use Rattle.cedar_model.specs.Words.{Cells, cells_in, default_layout, Fields, Forest, HasMark};
+ghost use Rattle.cedar_model.specs.Words.{HoldsTree, is_held, IsWellFormed, KeepsMarks, labels};
+ghost use Rattle.cedar_model.specs.Words.{Leads, MarkedAt, marks, NoPlace, occurs, prefixes};
+ghost use Rattle.cedar_model.specs.Words.{range_with_len, size_of, slot_at, slots_named};
+ghost use Rattle.cedar_model.specs.Words.{slots_of_tree, tree_of, walk};
 
-/// Slots stand for one tree at most, and those of a table for the one that is read from it.
+/// Slots represent one tree at most, and those of a table the one that is read from it.
 pub fn one_tree()
-    //= Slots stand for one labelled tree at most, and a table's is `tree_of`. [with read]
+    //= Slots represent one labelled tree at most, and a table's is `tree_of`. [with read]
     ensures only { (size : ℕ) (slots : Cells) (f : Forest) (g : Forest) → HoldsTree size slots f → HoldsTree size slots g → f ≡ g }
     ensures read { (table : Fields) (f : Forest) → HoldsTree (size_of table) (cells_in table) f → tree_of table ≡ record { number = None; children = f } }
 {}
@@ -29,13 +34,13 @@ pub fn held_slots_are_counted()
     ensures named { (limit : ℕ) (table : Fields) → IsWellFormed limit table → count_by (is_held (cells_in table)) (range_with_len 0 (size_of table)) ≡ length (slots_named (cells_in table) (tree_of table)) }
 
     //= In the default layout that is one, plus the prefixes, plus the entries.
-    ensures by_default { (limit : ℕ) (table : Fields) → IsWellFormed limit table → table.layout ≡ default_layout → count_by (is_held (cells_in table)) (range_with_len 0 (size_of table)) ≡ used (tree_of table) }
+    ensures by_default { (limit : ℕ) (table : Fields) → IsWellFormed limit table → table.layout ≡ default_layout → count_by (is_held (cells_in table)) (range_with_len 0 (size_of table)) ≡ slots_of_tree (tree_of table) }
 
     //= In either layout it is one, plus the distinct nonempty prefixes, plus the numbers that have slots of their own.
     ensures marked { (limit : ℕ) (table : Fields) → IsWellFormed limit table → count_by (is_held (cells_in table)) (range_with_len 0 (size_of table)) ≡ 1 + length (prefixes (tree_of table)) + length (walk (marks table)) }
 {}
 
-/// Two tables that stand for one tree hold equally many slots, if each number is kept in the one as in the other: in a slot, or in
+/// Two tables that represent one tree hold equally many slots, if each number is kept in the one as in the other: in a slot, or in
 /// its node's own base field.
 pub fn slots_stay()
     //= Two well-formed tables with one tree, whose numbers are kept alike, hold equally many slots.
@@ -54,5 +59,5 @@ pub fn marks_are_read()
 pub fn full_blocks_are_counted()
     //= In the default layout, if no slot outside block 0 is free, the slots in use and the root's children are together as many as the
     //  tree's slots and 255.
-    ensures { (limit : ℕ) (table : Fields) → IsWellFormed limit table → table.layout ≡ default_layout → NoPlace (size_of table) (cells_in table) → size_of table + length (labels (tree_of table).children) ≡ used (tree_of table) + 255 }
+    ensures { (limit : ℕ) (table : Fields) → IsWellFormed limit table → table.layout ≡ default_layout → NoPlace (size_of table) (cells_in table) → size_of table + length (labels (tree_of table).children) ≡ slots_of_tree (tree_of table) + 255 }
 {}

@@ -1,7 +1,8 @@
 //! How a node's base and number are kept in its base field.
 
 ghost use Rattle.std.specs.Prelude.{◌<◌, ◌^◌, ◌↔◌, ◌≡◌, ◌≢◌, IsTrue};
-ghost use Rattle.cedar_model.specs.Words.{AtBase, default_layout, layout_byte, LayoutKind, Nothing, reading, reduced_layout};
+ghost use Rattle.cedar_model.specs.Words.{AtBase, default_layout, layout_byte, LayoutKind};
+ghost use Rattle.cedar_model.specs.Words.{Nothing, reading, reduced_layout};
 
 /// What a node's base field says: where its slots begin, its own number, or neither.
 #[derive(Clone, Copy, Debug, PartialEq, Eq)]

@@ -1,4 +1,4 @@
-//! What slots stand for: the definitions by which a table of slots is one labelled tree, and their laws. Of the code only the
+//! What slots represent: the definitions by which a table of slots is one labelled tree, and their laws. Of the code only the
 //! layouts of a base field are here, since a node's meaning depends on them.
 #![tactic(auto)]
 

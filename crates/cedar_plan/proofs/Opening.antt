@@ -8,12 +8,12 @@ use Rattle.cedar_journal.specs.declared.format.Format.TheVariants.{Summed}
 use Rattle.cedar_journal.specs.declared.records.Extent.{Extent}
 use Rattle.cedar_journal.specs.declared.records.Extent.TheVariants.{New, Until}
 use Rattle.cedar_journal.specs.Device.{Cut}
-use Rattle.cedar_journal.specs.Files.{HasExtent, HasRecords, IsNewFile, ends_closed, header_frame, journal_header, recovered}
+use Rattle.cedar_journal.specs.Files.{HasExtent, HasRecords, IsNewFile, ends_closed, header_frame, journal_header, file_payloads}
 use Rattle.cedar_journal.specs.Journal.{IsSettled}
 use Rattle.cedar_journal.proofs.Crash.{closed_same, cut_keeps, file_size, settled_at, stays, torn_end, written_end}
 use Rattle.cedar_journal.proofs.HeaderCrash.{cut_leaves, torn_byte, torn_frame, torn_gate_of_header}
 use Rattle.cedar_journal.proofs.Headers.{byte_stands, empty_stands, gate_stands, header_is_front, header_stands}
-use Rattle.cedar_disk.specs.Calls.{Call, MayLeave, opened, overlaid, seen_after}
+use Rattle.cedar_disk.specs.Calls.{Call, MayLeave, open_call, overlay, seen_after}
 use Rattle.cedar_plan.specs.Safety.{CrashLeaves, IsAtRest, IsOpened}
 use Rattle.cedar_plan.specs.Works.{AreCarriedOut, Work, all_done, cut_to, end_of, format_in, opening_works, write_to}
 use Rattle.cedar_plan.proofs.Working.{Has, Keep, all_have, all_leave, has_opened}
@@ -22,10 +22,10 @@ use Rattle.cedar_plan.proofs.Working.{Has, Keep, all_have, all_leave, has_opened
 
 module _ (file : List ℕ) (f : Format) (end : ℕ) (records : HasRecords file f end) where
   abbrev Alike : List ℕ → Type 0
-  Alike c = recovered c ≡ recovered file
+  Alike c = file_payloads c ≡ file_payloads file
 
   abbrev gated : List ℕ
-  gated = overlaid (take end file) end (0 ∷ [])
+  gated = overlay (take end file) end (0 ∷ [])
 
   size : length (take end file) ≡ end
   size = file_size file f end records
@@ -33,7 +33,7 @@ module _ (file : List ℕ) (f : Format) (end : ℕ) (records : HasRecords file f
   is_gated : gated ≡ take end file ++ 0 ∷ []
   is_gated = written_end file f end records gated refl
 
-  pub until_same : recovered gated ≡ recovered file
+  pub until_same : file_payloads gated ≡ file_payloads file
   until_same = closed_same file f end records gated is_gated
 
   abbrev pub ending : List Work
@@ -48,7 +48,7 @@ module _ (file : List ℕ) (f : Format) (end : ℕ) (records : HasRecords file f
   until_settled calls has =
       settled_at seen_after MayLeave calls f end (take end file) [] size records.front (has.seen ∙ is_gated) (λ c left. has.only c left ∙ sym has.seen)
 
-  -- only a closed gate stands behind the records
+  -- only a closed gate is behind the records
   module _ (closed : ends_closed file end ≡ true) where
     is_closed : file ≡ take end file ++ 0 ∷ []
     is_closed =
@@ -59,16 +59,16 @@ module _ (file : List ℕ) (f : Format) (end : ℕ) (records : HasRecords file f
         sym (take-append-drop end file)
         ∙ ap (λ (l : List ℕ). take end file ++ l) (drop_more file end 0 (omega (arith, one)) ∙ (λ i. gate i ∷ none i))
 
-    pub rests : IsSettled seen_after MayLeave (opened file ∷ []) f end
-    rests = settled_at seen_after MayLeave (opened file ∷ []) f end (take end file) [] size records.front is_closed (λ c left. (has_opened file).only c left)
+    pub rests : IsSettled seen_after MayLeave (open_call file ∷ []) f end
+    rests = settled_at seen_after MayLeave (open_call file ∷ []) f end (take end file) [] size records.front is_closed (λ c left. (has_opened file).only c left)
 
 -- ---- a new file
 
 module _ (file : List ℕ) (new : IsNewFile file) where
   abbrev Empty : List ℕ → Type 0
-  Empty c = recovered c ≡ recovered file
+  Empty c = file_payloads c ≡ file_payloads file
 
-  is_empty : (c : List ℕ) → recovered c ≡ Some [] → Empty c
+  is_empty : (c : List ℕ) → file_payloads c ≡ Some [] → Empty c
   is_empty c is = is ∙ sym new.stands
 
   pub new_keeps : Keep (opening_works file New) file Empty
@@ -93,7 +93,7 @@ module _ (file : List ℕ) (new : IsNewFile file) where
         ),
       )
 
-  pub new_same : recovered (1 ∷ header_frame Summed) ≡ recovered file
+  pub new_same : file_payloads (1 ∷ header_frame Summed) ≡ file_payloads file
   new_same = is_empty (1 ∷ header_frame Summed) header_stands
 
   pub new_settled : (calls : List Call) → Has calls (1 ∷ header_frame Summed) → IsSettled seen_after MayLeave calls Summed 13
@@ -103,33 +103,33 @@ module _ (file : List ℕ) (new : IsNewFile file) where
 -- ---- any file
 
 abbrev Same : List ℕ → List ℕ → Type 0
-Same file c = recovered c ≡ recovered file
+Same file c = file_payloads c ≡ file_payloads file
 
 -- these works open the file
 record Opens (file : List ℕ) (extent : Extent) (works : List Work) : Type 0 where
-  rest : IsAtRest (all_done works (opened file ∷ [])) (format_in extent) (end_of extent)
-  same : recovered (seen_after (all_done works (opened file ∷ []))) ≡ recovered file
-  any_moment : (after : List Call) → AreCarriedOut works (opened file ∷ []) after → CrashLeaves (opened file ∷ []) after (Same file)
+  rest : IsAtRest (all_done works (open_call file ∷ [])) (format_in extent) (end_of extent)
+  same : file_payloads (seen_after (all_done works (open_call file ∷ []))) ≡ file_payloads file
+  any_moment : (after : List Call) → AreCarriedOut works (open_call file ∷ []) after → CrashLeaves (open_call file ∷ []) after (Same file)
 
 opens_new : (file : List ℕ) (new : IsNewFile file) → Opens file New (opening_works file New)
 opens_new file new =
     let keep = new_keeps file new in
-    let now = all_have (opening_works file New) (opened file ∷ []) file (Same file) (has_opened file) keep in
+    let now = all_have (opening_works file New) (open_call file ∷ []) file (Same file) (has_opened file) keep in
     record {
       rest = record { settled = new_settled file new _ now; within = now.within; usable = now.usable };
-      same = ap recovered now.seen ∙ new_same file new;
-      any_moment = λ after out. all_leave (opening_works file New) (opened file ∷ []) after file (Same file) (has_opened file) keep out;
+      same = ap file_payloads now.seen ∙ new_same file new;
+      any_moment = λ after out. all_leave (opening_works file New) (open_call file ∷ []) after file (Same file) (has_opened file) keep out;
     }
 
 opens_end : (file : List ℕ) (f : Format) (end : ℕ) (records : HasRecords file f end) → Opens file (Until f end) (ending file f end records)
 opens_end file f end records =
     let works = ending file f end records in
     let keep = until_keeps file f end records in
-    let now = all_have works (opened file ∷ []) file (Same file) (has_opened file) keep in
+    let now = all_have works (open_call file ∷ []) file (Same file) (has_opened file) keep in
     record {
       rest = record { settled = until_settled file f end records _ now; within = now.within; usable = now.usable };
-      same = ap recovered now.seen ∙ until_same file f end records;
-      any_moment = λ after out. all_leave works (opened file ∷ []) after file (Same file) (has_opened file) keep out;
+      same = ap file_payloads now.seen ∙ until_same file f end records;
+      any_moment = λ after out. all_leave works (open_call file ∷ []) after file (Same file) (has_opened file) keep out;
     }
 
 opens_rest : (file : List ℕ) (f : Format) (end : ℕ) (records : HasRecords file f end) → ends_closed file end ≡ true → Opens file (Until f end) []
@@ -138,7 +138,7 @@ opens_rest file f end records closed =
     record {
       rest = record { settled = rests file f end records closed; within = now.within; usable = now.usable };
       same = refl;
-      any_moment = λ after out. all_leave [] (opened file ∷ []) after file (Same file) now refl out;
+      any_moment = λ after out. all_leave [] (open_call file ∷ []) after file (Same file) now refl out;
     }
 
 by_gate : (file : List ℕ) (f : Format) (end : ℕ) (b : Bool) (works : List Work) → (b ≡ true → Opens file (Until f end) []) → Opens file (Until f end) works

@@ -1,16 +1,16 @@
 -- A record for which there was no room is withdrawn.
-use Rattle.std.specs.Prelude.{◌&&◌, IsTrue}
-use Rattle.std.proofs.Common.{◌≡◌, ◌⊎◌, inl, inr, ℕ, ◌+◌, ◌≤◌, Bool, true, false, List, [], ◌∷◌, ◌++◌, length, take, drop, refl, sym, ◌∙◌, ap, subst, arith, length-append, length-take}
-use Rattle.std.proofs.lemmas.Bool.{le-leb}
+use Rattle.std.specs.Prelude.{IsTrue}
+use Rattle.std.proofs.Common.{◌≡◌, inl, inr, ℕ, ◌+◌, ◌≤◌, Bool, true, false, List, [], ◌∷◌, ◌++◌, length, take, drop, refl, sym, ◌∙◌, ap, subst, arith, length-append, length-take}
+use Rattle.std.proofs.lemmas.Bool.{le-leb, and_from}
 use Rattle.std.proofs.lemmas.List.{take-take}
 use Rattle.cedar_journal.specs.declared.format.Format.{Format}
-use Rattle.cedar_journal.specs.Device.{Cut, Only, Torn}
-use Rattle.cedar_journal.specs.Files.{recovered}
+use Rattle.cedar_journal.specs.Device.{Cut, Torn}
+use Rattle.cedar_journal.specs.Files.{file_payloads}
 use Rattle.cedar_journal.proofs.Crash.{behind_gate, closed_stands, front_ends, gated_stands, settled_at}
 use Rattle.cedar_journal.proofs.Moments as moments
 use Rattle.cedar_journal.proofs.Tears.{torn_held}
-use Rattle.cedar_disk.specs.Calls.{Call, LeftSince, MayLeave, all_within, is_usable_after, overlaid, seen_after, shortened, synced, written}
-use Rattle.cedar_disk.proofs.Steps.{both, cut_follows, sync_keeps, synced_only, write_follows}
+use Rattle.cedar_disk.specs.Calls.{Call, LeftSince, MayLeave, all_within, is_usable_after, seen_after, truncate_call, sync_call, write_call}
+use Rattle.cedar_disk.proofs.Steps.{cut_follows, sync_keeps, synced_only, write_follows}
 use Rattle.cedar_plan.specs.Safety.{CrashLeaves, IsAtRest, IsCutBack, IsWithdrawn, cut_back}
 use Rattle.cedar_plan.proofs.Working.{leaves_one}
 
@@ -26,13 +26,13 @@ module _ (calls : List Call) (f : Format) (end : ℕ) (bytes : List ℕ) (rest :
   file = seen_after calls
 
   abbrev P : List ℕ → Type 0
-  P c = recovered c ≡ recovered file
+  P c = file_payloads c ≡ file_payloads file
 
   abbrev mid : List Call
-  mid = written (end + 1) bytes true ∷ calls
+  mid = write_call (end + 1) bytes true ∷ calls
 
   abbrev shorter : Bool → List Call
-  shorter ok = shortened (end + 1) ok ∷ mid
+  shorter ok = truncate_call (end + 1) ok ∷ mid
 
   -- all up to the closed gate
   abbrev gated : List ℕ
@@ -67,26 +67,26 @@ module _ (calls : List Call) (f : Format) (end : ℕ) (bytes : List ℕ) (rest :
       cut_keeps_front (end + 1) gated from.0 c gated_size (mid_left from.0 from.1) from.2
 
   within : IsTrue (all_within (shorter true))
-  within = both _ _ (le-leb (end + 1) (length (seen_after mid)) mid_long) (both _ _ (le-leb (end + 1) (length file) fits) rest.within)
+  within = and_from _ _ (le-leb (end + 1) (length (seen_after mid)) mid_long) (and_from _ _ (le-leb (end + 1) (length file) fits) rest.within)
 
   usable : IsTrue (is_usable_after (shorter true))
-  usable = both _ _ (both _ _ rest.usable refl) refl
+  usable = and_from _ _ (and_from _ _ rest.usable refl) refl
 
-  synced_left : (ok : Bool) (c : List ℕ) → MayLeave (synced ok ∷ shorter true) c → P c
-  synced_left ok c left = stands c (cut_left true c (sync_keeps (shorter true) (synced ok ∷ shorter true) within ok usable refl c left))
+  synced_left : (ok : Bool) (c : List ℕ) → MayLeave (sync_call ok ∷ shorter true) c → P c
+  synced_left ok c left = stands c (cut_left true c (sync_keeps (shorter true) (sync_call ok ∷ shorter true) within ok usable refl c left))
 
   written_leaves : CrashLeaves calls mid P
-  written_leaves = leaves_one (written (end + 1) bytes true) calls P (λ c left. ap recovered (rest.settled.durable c left)) (λ c left. stands c (mid_left c left))
+  written_leaves = leaves_one (write_call (end + 1) bytes true) calls P (λ c left. ap file_payloads (rest.settled.durable c left)) (λ c left. stands c (mid_left c left))
 
   cut_leaves : (ok : Bool) → CrashLeaves calls (shorter ok) P
   cut_leaves ok =
       moments.joins length LeftSince calls mid (shorter ok) P written_leaves
-      (leaves_one (shortened (end + 1) ok) mid P (λ c left. stands c (mid_left c left)) (λ c left. stands c (cut_left ok c left)))
+      (leaves_one (truncate_call (end + 1) ok) mid P (λ c left. stands c (mid_left c left)) (λ c left. stands c (cut_left ok c left)))
 
-  sync_leaves : (ok : Bool) → CrashLeaves calls (synced ok ∷ shorter true) P
+  sync_leaves : (ok : Bool) → CrashLeaves calls (sync_call ok ∷ shorter true) P
   sync_leaves ok =
-      moments.joins length LeftSince calls (shorter true) (synced ok ∷ shorter true) P (cut_leaves true)
-      (leaves_one (synced ok) (shorter true) P (λ c left. stands c (cut_left true c left)) (synced_left ok))
+      moments.joins length LeftSince calls (shorter true) (sync_call ok ∷ shorter true) P (cut_leaves true)
+      (leaves_one (sync_call ok) (shorter true) P (λ c left. stands c (cut_left true c left)) (synced_left ok))
 
   any_moment : (after : List Call) → IsCutBack end bytes calls after → CrashLeaves calls after P
   any_moment after (inl done) = subst (λ (l : List Call). CrashLeaves calls l P) (sym done) (sync_leaves true)
@@ -99,7 +99,7 @@ module _ (calls : List Call) (f : Format) (end : ℕ) (bytes : List ℕ) (rest :
       settled = settled_at seen_after MayLeave (cut_back end bytes calls) f end (take end file) [] (front_ends file end rest.settled.split) rest.settled.front mid_seen
           (synced_only (shorter true) usable);
       within = within;
-      usable = both _ _ usable refl;
+      usable = and_from _ _ usable refl;
     };
     same = closed_stands file f end rest.settled.split rest.settled.front (seen_after (cut_back end bytes calls)) [] mid_seen;
     any_moment = any_moment;

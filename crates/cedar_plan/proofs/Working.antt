@@ -1,12 +1,12 @@
 -- What becomes of a file while works are done to it, one after another.
 use Rattle.std.specs.Prelude.{◌&&◌, IsTrue}
 use Rattle.std.proofs.Common.{◌≡◌, ◌⊎◌, inl, inr, ⊎_elim, ℕ, ◌≤◌, Bool, true, false, List, [], ◌∷◌, length, take, refl, sym, ◌∙◌, ap, subst}
-use Rattle.std.proofs.lemmas.Bool.{le-leb}
+use Rattle.std.proofs.lemmas.Bool.{le-leb, and_from}
 use Rattle.cedar_journal.specs.Device.{Cut, Only, Torn}
 use Rattle.cedar_journal.proofs.Moments as moments
-use Rattle.cedar_disk.specs.Calls.{Call, LeftSince, MayLeave, all_within, is_usable_after, opened, overlaid, seen_after, shortened, synced, written}
+use Rattle.cedar_disk.specs.Calls.{Call, LeftSince, MayLeave, all_within, is_usable_after, open_call, overlay, seen_after, truncate_call, sync_call, write_call}
 use Rattle.cedar_disk.specs.Laws.{only_now}
-use Rattle.cedar_disk.proofs.Steps.{both, cut_follows, leaves, sync_keeps, synced_only, write_follows}
+use Rattle.cedar_disk.proofs.Steps.{cut_follows, leaves, sync_keeps, synced_only, write_follows}
 use Rattle.cedar_plan.specs.Safety.{CrashLeaves}
 use Rattle.cedar_plan.specs.Works.{AreCarriedOut, FailsIn, Work, all_done, cut_to, after_work, write_to}
 
@@ -26,7 +26,7 @@ pub record Has (calls : List Call) (file : List ℕ) : Type 0 where
   pub within : IsTrue (all_within calls)
   pub usable : IsTrue (is_usable_after calls)
 
-pub has_opened : (file : List ℕ) → Has (opened file ∷ []) file
+pub has_opened : (file : List ℕ) → Has (open_call file ∷ []) file
 has_opened file = record { seen = refl; only = λ c left. left; within = refl; usable = refl }
 
 -- a work begins within the file
@@ -42,7 +42,7 @@ Spoiled (write_to at bytes) file c = Torn at (length bytes) file c
 -- the file once a work is done
 abbrev pub made : Work → List ℕ → List ℕ
 made (cut_to n) file = take n file
-made (write_to at bytes) file = overlaid file at bytes
+made (write_to at bytes) file = overlay file at bytes
 
 abbrev pub all_made : List Work → List ℕ → List ℕ
 all_made [] file = file
@@ -52,33 +52,33 @@ module _ (calls : List Call) (file : List ℕ) (has : Has calls file) where
   sized : (n : ℕ) → n ≤ length file → n ≤ length (seen_after calls)
   sized n fits = subst (λ (f : List ℕ). n ≤ length f) (sym has.seen) fits
 
-  cut_within : (n : ℕ) (ok : Bool) → n ≤ length file → IsTrue (all_within (shortened n ok ∷ calls))
-  cut_within n ok fits = both _ _ (le-leb n (length (seen_after calls)) (sized n fits)) has.within
+  cut_within : (n : ℕ) (ok : Bool) → n ≤ length file → IsTrue (all_within (truncate_call n ok ∷ calls))
+  cut_within n ok fits = and_from _ _ (le-leb n (length (seen_after calls)) (sized n fits)) has.within
 
-  write_within : (at : ℕ) (bytes : List ℕ) (ok : Bool) → at ≤ length file → IsTrue (all_within (written at bytes ok ∷ calls))
-  write_within at bytes ok fits = both _ _ (le-leb at (length (seen_after calls)) (sized at fits)) has.within
+  write_within : (at : ℕ) (bytes : List ℕ) (ok : Bool) → at ≤ length file → IsTrue (all_within (write_call at bytes ok ∷ calls))
+  write_within at bytes ok fits = and_from _ _ (le-leb at (length (seen_after calls)) (sized at fits)) has.within
 
   usable_on : IsTrue (is_usable_after calls && true)
-  usable_on = both _ _ has.usable refl
+  usable_on = and_from _ _ has.usable refl
 
   pub work_done : (work : Work) → Fits work file → Has (after_work work calls) (made work file)
   work_done (cut_to n) fits =
-      let old = shortened n true ∷ calls in
-      let seen : seen_after (synced true ∷ old) ≡ take n file = ap (take n) has.seen in
+      let old = truncate_call n true ∷ calls in
+      let seen : seen_after (sync_call true ∷ old) ≡ take n file = ap (take n) has.seen in
       record {
         seen = seen;
         only = λ c left. synced_only old usable_on c left ∙ seen;
         within = cut_within n true fits;
-        usable = both _ _ usable_on refl;
+        usable = and_from _ _ usable_on refl;
       }
   work_done (write_to at bytes) fits =
-      let old = written at bytes true ∷ calls in
-      let seen : seen_after (synced true ∷ old) ≡ overlaid file at bytes = ap (λ f. overlaid f at bytes) has.seen in
+      let old = write_call at bytes true ∷ calls in
+      let seen : seen_after (sync_call true ∷ old) ≡ overlay file at bytes = ap (λ f. overlay f at bytes) has.seen in
       record {
         seen = seen;
         only = λ c left. synced_only old usable_on c left ∙ seen;
         within = write_within at bytes true fits;
-        usable = both _ _ usable_on refl;
+        usable = and_from _ _ usable_on refl;
       }
 
   module _ (P : List ℕ → Type 0) (was : P file) where
@@ -86,34 +86,34 @@ module _ (calls : List Call) (file : List ℕ) (has : Has calls file) where
     before c left = subst P (sym (has.only c left)) was
 
     module _ (n : ℕ) (fits : n ≤ length file) (spoiled : (c : List ℕ) → Cut n file c → P c) where
-      cut_short : (ok : Bool) (c : List ℕ) → MayLeave (shortened n ok ∷ calls) c → P c
+      cut_short : (ok : Bool) (c : List ℕ) → MayLeave (truncate_call n ok ∷ calls) c → P c
       cut_short ok c left =
-          let from = cut_follows calls (shortened n ok ∷ calls) n ok refl c left in
+          let from = cut_follows calls (truncate_call n ok ∷ calls) n ok refl c left in
           spoiled c (subst (λ d. Cut n d c) (has.only from.0 from.1) from.2)
 
-      cut_leaves : (ok : Bool) → CrashLeaves calls (shortened n ok ∷ calls) P
-      cut_leaves ok = leaves_one (shortened n ok) calls P before (cut_short ok)
+      cut_leaves : (ok : Bool) → CrashLeaves calls (truncate_call n ok ∷ calls) P
+      cut_leaves ok = leaves_one (truncate_call n ok) calls P before (cut_short ok)
 
-      cut_synced : (ok : Bool) → CrashLeaves calls (synced ok ∷ shortened n true ∷ calls) P
+      cut_synced : (ok : Bool) → CrashLeaves calls (sync_call ok ∷ truncate_call n true ∷ calls) P
       cut_synced ok =
-          let old = shortened n true ∷ calls in
-          moments.joins length LeftSince calls old (synced ok ∷ old) P (cut_leaves true)
-          (leaves_one (synced ok) old P (cut_short true) (λ c left. cut_short true c (sync_keeps old (synced ok ∷ old) (cut_within n true fits) ok usable_on refl c left)))
+          let old = truncate_call n true ∷ calls in
+          moments.joins length LeftSince calls old (sync_call ok ∷ old) P (cut_leaves true)
+          (leaves_one (sync_call ok) old P (cut_short true) (λ c left. cut_short true c (sync_keeps old (sync_call ok ∷ old) (cut_within n true fits) ok usable_on refl c left)))
 
     module _ (at : ℕ) (bytes : List ℕ) (fits : at ≤ length file) (spoiled : (c : List ℕ) → Torn at (length bytes) file c → P c) where
-      torn : (ok : Bool) (c : List ℕ) → MayLeave (written at bytes ok ∷ calls) c → P c
+      torn : (ok : Bool) (c : List ℕ) → MayLeave (write_call at bytes ok ∷ calls) c → P c
       torn ok c left =
-          let from = write_follows calls (written at bytes ok ∷ calls) at bytes ok refl c left in
+          let from = write_follows calls (write_call at bytes ok ∷ calls) at bytes ok refl c left in
           spoiled c (subst (λ d. Torn at (length bytes) d c) (has.only from.0 from.1) from.2)
 
-      write_leaves : (ok : Bool) → CrashLeaves calls (written at bytes ok ∷ calls) P
-      write_leaves ok = leaves_one (written at bytes ok) calls P before (torn ok)
+      write_leaves : (ok : Bool) → CrashLeaves calls (write_call at bytes ok ∷ calls) P
+      write_leaves ok = leaves_one (write_call at bytes ok) calls P before (torn ok)
 
-      write_synced : (ok : Bool) → CrashLeaves calls (synced ok ∷ written at bytes true ∷ calls) P
+      write_synced : (ok : Bool) → CrashLeaves calls (sync_call ok ∷ write_call at bytes true ∷ calls) P
       write_synced ok =
-          let old = written at bytes true ∷ calls in
-          moments.joins length LeftSince calls old (synced ok ∷ old) P (write_leaves true)
-          (leaves_one (synced ok) old P (torn true) (λ c left. torn true c (sync_keeps old (synced ok ∷ old) (write_within at bytes true fits) ok usable_on refl c left)))
+          let old = write_call at bytes true ∷ calls in
+          moments.joins length LeftSince calls old (sync_call ok ∷ old) P (write_leaves true)
+          (leaves_one (sync_call ok) old P (torn true) (λ c left. torn true c (sync_keeps old (sync_call ok ∷ old) (write_within at bytes true fits) ok usable_on refl c left)))
 
     pub work_leaves : (work : Work) → Fits work file → ((c : List ℕ) → Spoiled work file c → P c) → CrashLeaves calls (after_work work calls) P
     work_leaves (cut_to n) fits spoiled = cut_synced n fits spoiled true

@@ -1,3 +1,4 @@
+pub use Rattle.cedar_disk.specs.Calls
 pub mod Plans
 pub mod Safety
 pub mod Words

@@ -3,11 +3,13 @@ use Rattle.std.specs.Prelude.{◌≡◌, ◌⊎◌, ℕ, ◌+◌, ◌<◌, true,
 use Rattle.cedar_journal.specs.declared.format.Format.{Format}
 use Rattle.cedar_journal.specs.declared.records.Extent.{Extent}
 use Rattle.cedar_journal.specs.Device.{LeavesOnly}
-use Rattle.cedar_journal.specs.Files.{HasExtent, added, recovered}
+use Rattle.cedar_journal.specs.Files.{HasExtent, with_payload, file_payloads}
 use Rattle.cedar_journal.specs.Formats.{overhead}
 use Rattle.cedar_journal.specs.Journal.{IsBeforeOrAfter, IsSettled}
-use Rattle.cedar_disk.specs.Calls.{Call, LeftSince, MayLeave, all_within, is_usable_after, opened, seen_after, written}
-use Rattle.cedar_plan.specs.Works.{AreCarriedOut, FailsIn, after_work, all_done, append_works, cut_to, end_of, format_in, opening_works}
+use Rattle.cedar_disk.specs.Calls.{Call, LeftSince, MayLeave, all_within, is_usable_after}
+use Rattle.cedar_disk.specs.Calls.{open_call, seen_after, write_call}
+use Rattle.cedar_plan.specs.Works.{AreCarriedOut, FailsIn, after_work, all_done, append_works}
+use Rattle.cedar_plan.specs.Works.{cut_to, end_of, format_in, opening_works}
 
 -- After these calls the file is a header that names this format, whole records, a closed gate at `end` and whatever is behind that, all of
 -- it on the disk; and no call has failed.
@@ -23,9 +25,9 @@ CrashLeaves = LeavesOnly length LeftSince
 -- a record of this payload is appended to a file at rest
 pub record IsAppended (calls : List Call) (format : Format) (end : ℕ) (payload : List ℕ) : Type 0 where
   pub rest : IsAtRest (all_done (append_works format end payload) calls) format (end + overhead format + length payload)
-  pub more : recovered (seen_after (all_done (append_works format end payload) calls)) ≡ added payload (recovered (seen_after calls))
+  pub more : file_payloads (seen_after (all_done (append_works format end payload) calls)) ≡ with_payload payload (file_payloads (seen_after calls))
   pub any_moment : (after : List Call) → AreCarriedOut (append_works format end payload) calls after
-      → CrashLeaves calls after (IsBeforeOrAfter (recovered (seen_after calls)) payload)
+      → CrashLeaves calls after (IsBeforeOrAfter (file_payloads (seen_after calls)) payload)
 
 abbrev pub AppendsAreSafe : Type 0
 AppendsAreSafe = (calls : List Call) (format : Format) (end : ℕ) (payload : List ℕ) → IsAtRest calls format end → length payload < 4294967296
@@ -33,27 +35,27 @@ AppendsAreSafe = (calls : List Call) (format : Format) (end : ℕ) (payload : Li
 
 -- The calls once some bytes were written behind the closed gate at `end`, and were cut off. The disk needn't have had them.
 abbrev pub cut_back : ℕ → List ℕ → List Call → List Call
-cut_back end bytes calls = after_work (cut_to (end + 1)) (written (end + 1) bytes true ∷ calls)
+cut_back end bytes calls = after_work (cut_to (end + 1)) (write_call (end + 1) bytes true ∷ calls)
 
 -- that, or as far as the cut didn't fail
 abbrev pub IsCutBack : ℕ → List ℕ → List Call → List Call → Type 0
-IsCutBack end bytes calls after = (after ≡ cut_back end bytes calls) ⊎ FailsIn (cut_to (end + 1)) (written (end + 1) bytes true ∷ calls) after
+IsCutBack end bytes calls after = (after ≡ cut_back end bytes calls) ⊎ FailsIn (cut_to (end + 1)) (write_call (end + 1) bytes true ∷ calls) after
 
 -- a record for which there was no room is withdrawn from a file at rest: its first bytes were written
 pub record IsWithdrawn (calls : List Call) (format : Format) (end : ℕ) (bytes : List ℕ) : Type 0 where
   pub rest : IsAtRest (cut_back end bytes calls) format end
-  pub same : recovered (seen_after (cut_back end bytes calls)) ≡ recovered (seen_after calls)
-  pub any_moment : (after : List Call) → IsCutBack end bytes calls after → CrashLeaves calls after (λ c. recovered c ≡ recovered (seen_after calls))
+  pub same : file_payloads (seen_after (cut_back end bytes calls)) ≡ file_payloads (seen_after calls)
+  pub any_moment : (after : List Call) → IsCutBack end bytes calls after → CrashLeaves calls after (λ c. file_payloads c ≡ file_payloads (seen_after calls))
 
 abbrev pub WithdrawalsAreSafe : Type 0
 WithdrawalsAreSafe = (calls : List Call) (format : Format) (end : ℕ) (bytes : List ℕ) → IsAtRest calls format end → IsWithdrawn calls format end bytes
 
 -- a file of these bytes, which was synced and then read, is opened
 pub record IsOpened (file : List ℕ) (extent : Extent) : Type 0 where
-  pub rest : IsAtRest (all_done (opening_works file extent) (opened file ∷ [])) (format_in extent) (end_of extent)
-  pub same : recovered (seen_after (all_done (opening_works file extent) (opened file ∷ []))) ≡ recovered file
-  pub any_moment : (after : List Call) → AreCarriedOut (opening_works file extent) (opened file ∷ []) after
-      → CrashLeaves (opened file ∷ []) after (λ c. recovered c ≡ recovered file)
+  pub rest : IsAtRest (all_done (opening_works file extent) (open_call file ∷ [])) (format_in extent) (end_of extent)
+  pub same : file_payloads (seen_after (all_done (opening_works file extent) (open_call file ∷ []))) ≡ file_payloads file
+  pub any_moment : (after : List Call) → AreCarriedOut (opening_works file extent) (open_call file ∷ []) after
+      → CrashLeaves (open_call file ∷ []) after (λ c. file_payloads c ≡ file_payloads file)
 
 abbrev pub OpeningsAreSafe : Type 0
 OpeningsAreSafe = (file : List ℕ) (extent : Extent) → HasExtent file extent → IsOpened file extent

@@ -6,7 +6,7 @@ use Rattle.cedar_journal.specs.declared.format.Format.{Format}
 use Rattle.cedar_journal.specs.declared.format.Format.TheVariants.{Summed}
 use Rattle.cedar_journal.specs.Files.{ends_closed, header_frame}
 use Rattle.cedar_journal.specs.Formats.{frame_of, opening}
-use Rattle.cedar_disk.specs.Calls.{Call, shortened, synced, written}
+use Rattle.cedar_disk.specs.Calls.{Call, sync_call, truncate_call, write_call}
 
 -- the file is cut to this length; or these bytes are written at this offset
 pub data Work : Type 0 where
@@ -15,8 +15,8 @@ pub data Work : Type 0 where
 
 -- the calls on a file, of which the newest comes first, once a work more is done
 abbrev pub after_work : Work → List Call → List Call
-after_work (cut_to n) calls = synced true ∷ shortened n true ∷ calls
-after_work (write_to at bytes) calls = synced true ∷ written at bytes true ∷ calls
+after_work (cut_to n) calls = sync_call true ∷ truncate_call n true ∷ calls
+after_work (write_to at bytes) calls = sync_call true ∷ write_call at bytes true ∷ calls
 
 abbrev pub all_done : List Work → List Call → List Call
 all_done [] calls = calls
@@ -24,8 +24,8 @@ all_done (work ∷ works) calls = all_done works (after_work work calls)
 
 -- the calls once a work has failed
 abbrev pub FailsIn : Work → List Call → List Call → Type 0
-FailsIn (cut_to n) before after = (after ≡ shortened n false ∷ before) ⊎ (after ≡ synced false ∷ shortened n true ∷ before)
-FailsIn (write_to at bytes) before after = (after ≡ written at bytes false ∷ before) ⊎ (after ≡ synced false ∷ written at bytes true ∷ before)
+FailsIn (cut_to n) before after = (after ≡ truncate_call n false ∷ before) ⊎ (after ≡ sync_call false ∷ truncate_call n true ∷ before)
+FailsIn (write_to at bytes) before after = (after ≡ write_call at bytes false ∷ before) ⊎ (after ≡ sync_call false ∷ write_call at bytes true ∷ before)
 
 -- some works were done one after another, as far as none failed
 abbrev pub AreCarriedOut : List Work → List Call → List Call → Type 0
@@ -36,7 +36,7 @@ AreCarriedOut (work ∷ works) before after = FailsIn work before after ⊎ AreC
 abbrev pub append_works : Format → ℕ → List ℕ → List Work
 append_works format end payload = write_to (end + 1) (frame_of format payload) ∷ write_to end (opening format ∷ []) ∷ []
 
--- The file is cut behind its whole records, and a closed gate is written there; nothing is done if only that stands there. Of a new one
+-- The file is cut behind its whole records, and a closed gate is written there; nothing is done if only that is there. Of a new one
 -- nothing is left, and it gets a closed gate, the header behind that, and an open gate in the place of the closed one.
 abbrev pub opening_works : List ℕ → Extent → List Work
 opening_works file New = cut_to 0 ∷ write_to 0 (0 ∷ []) ∷ write_to 1 (header_frame Summed) ∷ write_to 0 (1 ∷ []) ∷ []

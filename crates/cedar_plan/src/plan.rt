@@ -1,7 +1,10 @@
 //! Plans: the steps by which a file is opened, and by which a record is appended; and records as they are written.
 
-ghost use Rattle.std.specs.Prelude.{◌≡◌, ◌+◌, ◌<◌, ◌^◌, ◌++◌, ◌∷◌, ℕ, ◌≤◌, IfOk, IsErrOf, length, List, [], true};
-ghost use Rattle.cedar_plan.specs.Words.{append_works, cut_to, ends_closed, frame_of, header, opening, opening_works, overhead, works_of, Format, HasExtent, is_at_rest, Plain, Summed, write_to};
+ghost use Rattle.std.specs.Prelude.{◌≡◌, ◌+◌, ◌<◌, ◌^◌, ◌++◌, ◌∷◌, ℕ, ◌≤◌, IfOk};
+ghost use Rattle.std.specs.Prelude.{IsErrOf, length, List, [], true};
+ghost use Rattle.cedar_plan.specs.Words.{append_works, cut_to, ends_closed, frame_of, header};
+ghost use Rattle.cedar_plan.specs.Words.{opening, opening_works, overhead, works_of, Format};
+ghost use Rattle.cedar_plan.specs.Words.{HasExtent, is_at_rest, Plain, Summed, write_to};
 
 use cedar_journal::{Extent, Format, FrameError, MAX_PAYLOAD, push_frame};
 use std::alloc::Allocator;
@@ -54,8 +57,8 @@ const NO_STEPS: Plan = Plan {
 };
 
 /// Returns the plan that opens a file of these bytes and this extent. The plan's bytes begin with those of `HEADER`. What a crash has left
-/// after the whole records is cut off, and a closed gate is written there; a new file gets its header. If only a closed gate stands after the
-/// records, the plan has no step.
+/// after the whole records is cut off, and a closed gate is written there; a new file gets its header. If only a closed gate comes after
+/// the records, the plan has no step.
 pub fn plan_opening(extent: Extent, bytes: &[u8]) -> Plan
     requires extent { HasExtent bytes.now extent }
     //= The plan of an opening cuts the file after its whole records and writes a closed gate there; of a new file it leaves only the
@@ -75,7 +78,7 @@ pub fn plan_opening(extent: Extent, bytes: &[u8]) -> Plan
     }
 }
 
-/// Whether one byte is left behind a place, a closed gate.
+/// Whether one byte is left behind a position, a closed gate.
 fn ends_closed(bytes: &[u8], end: usize) -> bool
     requires { end ≤ length bytes.now }
     ensures { result ≡ ends_closed bytes.now end }

@@ -1,11 +1,11 @@
 -- What a life of sessions leaves.
 use Rattle.std.specs.Prelude.{Bool, Option, None, Some}
 use Rattle.std.proofs.Common.{◌≡◌, inl, ⊎_elim, ℕ, suc, true, false, List, [], ◌∷◌, length, refl, sym, ◌∙◌, ap, subst}
-use Rattle.cedar_tree.specs.State.{State}
+use Rattle.cedar_store.specs.State.{State}
 use Rattle.cedar_store.specs.Files.{IsEither, state_of}
-use Rattle.cedar_runs.specs.Lives.{CrashesIn, IsLife, IsSession, Session, after_session, calling, lived, while_opening, with_last}
+use Rattle.cedar_runs.specs.Lives.{CrashesIn, IsLife, IsSession, Session, after_session, calling, after_life, while_opening, with_last}
 use Rattle.cedar_runs.specs.Runs.{IsStoreRun, failed_after_all, sure_after_all}
-use Rattle.cedar_runs.specs.Steps.{IsKnown, Point, called, under_way}
+use Rattle.cedar_runs.specs.Steps.{IsKnown, Point, after_call, under_way}
 use Rattle.cedar_runs.specs.declared.call.StoreCall.{StoreCall}
 use Rattle.cedar_runs.specs.declared.call.Outcome.{Outcome}
 use Rattle.cedar_runs.proofs.RunLemmas.{run_failed, run_held, run_known}
@@ -13,7 +13,7 @@ use Rattle.cedar_runs.proofs.RunLemmas.{run_failed, run_held, run_known}
 one_state : (a b : State) → Some a ≡ Some b → a ≡ b
 one_state a b is = cc
 
--- a file stands for the one end of a session or for the other
+-- a file represents the one end of a session or the other
 abbrev Ends : State → Session → List ℕ → Type 0
 Ends s session file = (has_last : Bool) × (state_of file ≡ Some (after_session s session has_last))
 
@@ -33,7 +33,7 @@ module _ {D : Type 0} (seen : D → List ℕ) (moment : D → ℕ) (left_since :
       let held = run_held moment left_since may_leave first calls outcomes end run in
       let failed : end.failed ≡ failed_after_all false outcomes =
       run_failed moment left_since may_leave first calls outcomes end run ∙ ap (λ b. failed_after_all b outcomes) usable in
-      subst (λ s. IsEither sure s file) (λ i. under_way (failed i) (held i) (called (held i) c)) (left.2.crash sure known file left.3)
+      subst (λ s. IsEither sure s file) (λ i. under_way (failed i) (held i) (after_call (held i) c)) (left.2.crash sure known file left.3)
 
   session_ends : (session : Session) (before after : List ℕ) (s : State) → state_of before ≡ Some s → IsSession seen moment left_since may_leave session before after → Ends s session after
   session_ends while_opening before after s is h = (false, h.3 after h.4 ∙ ap state_of h.2 ∙ is)
@@ -47,7 +47,7 @@ module _ {D : Type 0} (seen : D → List ℕ) (moment : D → ℕ) (left_since :
       subst (λ t. Ends t (calling calls outcomes last) after) same (either_end first.held calls outcomes last after (crashed first end calls outcomes last after begins.usable h.5 later h.6))
 
   pub lives_on : (sessions : List Session) (before after : List ℕ) (s : State) → state_of before ≡ Some s → IsLife seen moment left_since may_leave sessions before after
-      → (ends : List Bool) × (length ends ≡ length sessions) × (state_of after ≡ Some (lived s sessions ends))
+      → (ends : List Bool) × (length ends ≡ length sessions) × (state_of after ≡ Some (after_life s sessions ends))
   lives_on [] before after s is h = ([], refl, ap state_of h ∙ is)
   lives_on (session ∷ sessions) before after s is h =
       let one = session_ends session before h.0 s is h.1 in

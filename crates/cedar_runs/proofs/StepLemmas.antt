@@ -3,7 +3,7 @@ use Rattle.std.specs.Prelude.{Bool, Result, Ok, Err, if◌then◌else◌}
 use Rattle.std.proofs.Common.{◌≡◌, ◌≤◌, inr, ⊎_elim, ℕ, true, false, List, refl, sym, ◌∙◌, ap, subst}
 use Rattle.std.proofs.lemmas.Bool.{false≢true}
 use Rattle.cedar_journal.specs.declared.journal.Journal.{Journal}
-use Rattle.cedar_tree.specs.State.{State}
+use Rattle.cedar_store.specs.State.{State}
 use Rattle.cedar_store.specs.declared.compaction.CompactError.{CompactError}
 use Rattle.cedar_store.specs.declared.compaction.CompactError.TheVariants as compact
 use Rattle.cedar_store.specs.declared.error.DurableError.{DurableError}
@@ -65,7 +65,7 @@ module _ {T A D : Type 0} (seen : D → List ℕ) (moment : D → ℕ) (left_sin
     crash = left;
   }
 
-  -- there was no room, and the file stands for the dictionary as it was
+  -- there was no room, and the file represents the dictionary as it was
   pub withdrawn_step : (after : State) → old.failed ≡ false → new.failed ≡ false → state new.words ≡ state old.words → IsReadyStore seen may_leave state new → IsLeft after
       → IsCallStep moment left_since may_leave (point_of state old) after Nothing (point_of state new)
   withdrawn_step after usable still is ready left = record {

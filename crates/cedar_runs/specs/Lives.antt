@@ -1,17 +1,17 @@
 -- A store that is opened, called and stopped, again and again.
 use Rattle.std.specs.Prelude.{◌≡◌, ℕ, Bool, false, cond, List, [], ◌∷◌, length, Option, Some, None}
-use Rattle.cedar_tree.specs.State.{State}
+use Rattle.cedar_store.specs.State.{State}
 use Rattle.cedar_store.specs.Files.{StandsFor, state_of}
-use Rattle.cedar_runs.specs.Steps.{IsCallStep, Point, called, under_way}
+use Rattle.cedar_runs.specs.Steps.{IsCallStep, Point, after_call, under_way}
 use Rattle.cedar_runs.specs.Runs.{IsStoreRun, failed_after_all, held_after_all, sure_after_all}
 use Rattle.cedar_runs.specs.declared.call.StoreCall.{StoreCall}
 use Rattle.cedar_runs.specs.declared.call.Outcome.{Outcome}
 
--- a crash while a device is opened leaves a file that stands for the same dictionary
+-- a crash while a device is opened leaves a file that represents the same dictionary
 abbrev pub KeepsState : {D : Type 0} → (D → List ℕ) → (D → ℕ) → (D → ℕ → List ℕ → Type 0) → D → D → Type 0
 KeepsState seen moment left_since device end = (file : List ℕ) → left_since end (moment device) file → state_of file ≡ state_of (seen device)
 
--- The store of a device was opened. The file stands for its dictionary, and so does what a crash leaves, then and while it is opened.
+-- The store of a device was opened. The file represents its dictionary, and so does what a crash leaves, then and while it is opened.
 pub record BeginsSession {D : Type 0} (seen : D → List ℕ) (moment : D → ℕ) (left_since : D → ℕ → List ℕ → Type 0) (may_leave : D → List ℕ → Type 0) (device : D) (first : Point D) : Type 0 where
   pub usable : first.failed ≡ false
   pub made : state_of (seen device) ≡ Some first.held
@@ -29,7 +29,7 @@ module _ {D : Type 0} (seen : D → List ℕ) (moment : D → ℕ) (left_since :
   abbrev pub CrashesIn : Point D → Option StoreCall → List ℕ → Type 0
   CrashesIn p None file = may_leave p.device file
   CrashesIn p (Some c) file =
-      (next : Point D) × (outcome : Outcome) × IsCallStep moment left_since may_leave p (called p.held c) outcome next × left_since next.device (moment p.device) file
+      (next : Point D) × (outcome : Outcome) × IsCallStep moment left_since may_leave p (after_call p.held c) outcome next × left_since next.device (moment p.device) file
 
   -- a session that found the one file, and left the other
   abbrev pub IsSession : Session → List ℕ → List ℕ → Type 0
@@ -48,7 +48,7 @@ module _ {D : Type 0} (seen : D → List ℕ) (moment : D → ℕ) (left_since :
 abbrev pub with_last : State → List StoreCall → List Outcome → Option StoreCall → State
 with_last s calls outcomes None = held_after_all s calls outcomes
 with_last s calls outcomes (Some c) =
-    under_way (failed_after_all false outcomes) (held_after_all s calls outcomes) (called (held_after_all s calls outcomes) c)
+    under_way (failed_after_all false outcomes) (held_after_all s calls outcomes) (after_call (held_after_all s calls outcomes) c)
 
 -- what a session makes of a dictionary: with that call or without it
 abbrev pub after_session : State → Session → Bool → State
@@ -56,13 +56,13 @@ after_session s while_opening has_last = s
 after_session s (calling calls outcomes last) has_last = cond has_last (with_last s calls outcomes last) (sure_after_all s s calls outcomes)
 
 -- what a life makes of it
-abbrev pub lived : State → List Session → List Bool → State
-lived s [] ends = s
-lived s (session ∷ sessions) [] = s
-lived s (session ∷ sessions) (has_last ∷ ends) = lived (after_session s session has_last) sessions ends
+abbrev pub after_life : State → List Session → List Bool → State
+after_life s [] ends = s
+after_life s (session ∷ sessions) [] = s
+after_life s (session ∷ sessions) (has_last ∷ ends) = after_life (after_session s session has_last) sessions ends
 
--- The file at the end of a life stands for what the life made of the dictionary that the first file stood for.
+-- The file at the end of a life represents what the life made of the dictionary that the first file represented.
 abbrev pub AcknowledgedCallsStay : {D : Type 0} → (D → List ℕ) → (D → ℕ) → (D → ℕ → List ℕ → Type 0) → (D → List ℕ → Type 0) → Type 0
 AcknowledgedCallsStay seen moment left_since may_leave = (sessions : List Session) (before after : List ℕ) (s : State) → state_of before ≡ Some s
     → IsLife seen moment left_since may_leave sessions before after
-    → (ends : List Bool) × (length ends ≡ length sessions) × (state_of after ≡ Some (lived s sessions ends))
+    → (ends : List Bool) × (length ends ≡ length sessions) × (state_of after ≡ Some (after_life s sessions ends))

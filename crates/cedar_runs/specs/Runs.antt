@@ -1,7 +1,7 @@
 -- Calls of a store one after another.
 use Rattle.std.specs.Prelude.{◌≡◌, ℕ, Bool, List, [], ◌∷◌, ◌++◌}
-use Rattle.cedar_tree.specs.State.{State}
-use Rattle.cedar_runs.specs.Steps.{IsCallStep, Point, called, failed_once, held_once, sure_once}
+use Rattle.cedar_store.specs.State.{State}
+use Rattle.cedar_runs.specs.Steps.{IsCallStep, Point, after_call, failed_once, held_once, sure_once}
 use Rattle.cedar_runs.specs.declared.call.StoreCall.{StoreCall}
 use Rattle.cedar_runs.specs.declared.call.Outcome.{Outcome}
 
@@ -9,7 +9,7 @@ module _ {D : Type 0} (moment : D → ℕ) (left_since : D → ℕ → List ℕ 
   -- one outcome for each call, and each call begins where the one before it ended
   abbrev pub IsStoreRun : Point D → List StoreCall → List Outcome → Point D → Type 0
   IsStoreRun old [] [] new = new ≡ old
-  IsStoreRun old (c ∷ calls) (o ∷ outcomes) new = (between : Point D) × IsCallStep moment left_since may_leave old (called old.held c) o between × IsStoreRun between calls outcomes new
+  IsStoreRun old (c ∷ calls) (o ∷ outcomes) new = (between : Point D) × IsCallStep moment left_since may_leave old (after_call old.held c) o between × IsStoreRun between calls outcomes new
   IsStoreRun old calls outcomes new = ⊥
 
   -- the outcomes of a run have been added to those that were there
@@ -20,12 +20,12 @@ module _ {D : Type 0} (moment : D → ℕ) (left_since : D → ℕ → List ℕ 
 abbrev pub held_after_all : State → List StoreCall → List Outcome → State
 held_after_all held [] outcomes = held
 held_after_all held (c ∷ calls) [] = held
-held_after_all held (c ∷ calls) (o ∷ outcomes) = held_after_all (held_once o held (called held c)) calls outcomes
+held_after_all held (c ∷ calls) (o ∷ outcomes) = held_after_all (held_once o held (after_call held c)) calls outcomes
 
 abbrev pub sure_after_all : State → State → List StoreCall → List Outcome → State
 sure_after_all sure held [] outcomes = sure
 sure_after_all sure held (c ∷ calls) [] = sure
-sure_after_all sure held (c ∷ calls) (o ∷ outcomes) = sure_after_all (sure_once o sure (called held c)) (held_once o held (called held c)) calls outcomes
+sure_after_all sure held (c ∷ calls) (o ∷ outcomes) = sure_after_all (sure_once o sure (after_call held c)) (held_once o held (after_call held c)) calls outcomes
 
 -- whether the store has failed then
 abbrev pub failed_after_all : Bool → List Outcome → Bool

@@ -1,6 +1,6 @@
 -- What a call of a store does to its dictionary, and to what a crash may leave.
 use Rattle.std.specs.Prelude.{◌≡◌, ℕ, Bool, true, false, List}
-use Rattle.cedar_tree.specs.State.{State, erased, stored}
+use Rattle.cedar_store.specs.State.{State, after_erase, after_put}
 use Rattle.cedar_store.specs.Changes.{all_changed}
 use Rattle.cedar_store.specs.Files.{IsEither}
 use Rattle.cedar_store.specs.Told.{changes_told}
@@ -15,12 +15,12 @@ use Rattle.cedar_runs.specs.declared.call.Outcome.{Outcome}
 use Rattle.cedar_runs.specs.declared.call.Outcome.TheVariants.{Made, Nothing, Failed}
 
 -- the state after a call
-abbrev pub called : State → StoreCall → State
-called s (call.Update key v) = stored s key.now v
-called s (call.Erase key) = erased s key.now
-called s (call.Batch changes) = all_changed s (changes_told changes.now)
-called s call.Compact = s
-called s (call.Rule compaction) = s
+abbrev pub after_call : State → StoreCall → State
+after_call s (call.Update key v) = after_put s key.now v
+after_call s (call.Erase key) = after_erase s key.now
+after_call s (call.Batch changes) = all_changed s (changes_told changes.now)
+after_call s call.Compact = s
+after_call s (call.Rule compaction) = s
 
 -- what an error of a change says came of it
 abbrev pub outcome_of : DurableError → Outcome
@@ -68,7 +68,7 @@ abbrev pub under_way : Bool → State → State → State
 under_way true held after = held
 under_way false held after = after
 
--- A crash leaves a file that stands for what counts for sure, or for the dictionary. These are one, unless the store has failed.
+-- A crash leaves a file that represents what counts for sure, or the dictionary. These are one, unless the store has failed.
 pub record IsKnown {D : Type 0} (may_leave : D → List ℕ → Type 0) (sure : State) (p : Point D) : Type 0 where
   pub one : p.failed ≡ false → sure ≡ p.held
   pub left : (file : List ℕ) → may_leave p.device file → IsEither sure p.held file

@@ -1,7 +1,10 @@
 //! Calls of a store, one after another.
 
 ghost use Rattle.std.specs.Prelude.{◌+◌, ◌≡◌, ◌≤◌, IfErr, IfOk, length, vec_capacity, vec_len};
-ghost use Rattle.cedar_runs.specs.Words.{AddsStoreRun, all_changed, BeginsSession, called, changes_told, erased, IsCallStep, IsReadyStore, KeepsState, Only, outcome_of, outcome_of_compaction, outcome_of_erasure, point_of, stored};
+ghost use Rattle.cedar_runs.specs.Words.{AddsStoreRun, after_call, after_erase, after_put};
+ghost use Rattle.cedar_runs.specs.Words.{all_changed, BeginsSession, changes_told, IsCallStep};
+ghost use Rattle.cedar_runs.specs.Words.{IsReadyStore, KeepsState, Only, outcome_of};
+ghost use Rattle.cedar_runs.specs.Words.{outcome_of_compaction, outcome_of_erasure, point_of};
 
 use crate::{Outcome, StoreCall};
 use cedar_journal::{Device, ReplaceDevice};
@@ -18,8 +21,8 @@ pub fn begin_session<T: Made<A>, A: Allocator + Copy, D: Device>(
 ) -> Result<Store<T, A, D>, (DurableError, D)>
     requires limit { T.limit }
     requires restarted { Only (D.seen device) (D.may_leave device) }
-    //= An opening begins a session: the dictionary is the one that the file stands for, and a crash while the file is opened, or once it
-    //  was opened, leaves a file that stands for it. The same holds of a crash if it isn't opened. [with ready, refused]
+    //= An opening begins a session: the dictionary is the one that the file represents, and a crash while the file is opened, or once it
+    //  was opened, leaves a file that represents it. The same holds of a crash if it isn't opened. [with ready, refused]
     ensures begins { IfOk result (λ store. BeginsSession D.seen D.moment D.left_since D.may_leave device (point_of T.state store)) }
     ensures ready { IfOk result (λ store. IsReadyStore D.seen D.may_leave T.state store) }
     ensures refused { IfErr result (λ e. KeepsState D.seen D.moment D.left_since device e.1) }
@@ -35,11 +38,13 @@ pub fn run_store_calls<T: Words, A: Allocator + Copy, D: ReplaceDevice>(
 )
     requires ready { IsReadyStore D.seen D.may_leave T.state store.old }
     requires room { vec_len outcomes.old + length calls.now ≤ vec_capacity outcomes.old }
+
+    //= After calls of a store it is ready for further ones. [also make_store_call]
     ensures ready { IsReadyStore D.seen D.may_leave T.state store.new }
     //= Calls of a store are a run: one outcome for each call comes after those that were there, and each call begins with the dictionary
     //  and the disk that the one before it left. [with count; by AddsStoreRun, IsStoreRun]
-    //= A crash at any moment of a call leaves a file that stands for the dictionary after the calls that were acknowledged before it, or
-    //  for that with the call under way. Once it is acknowledged, only for the dictionary with it. [by IsCallStep, IsKnown]
+    //= A crash at any moment of a call leaves a file that represents the dictionary after the calls that were acknowledged before it, or
+    //  the one with the call under way. Once it is acknowledged, it represents only the dictionary with it. [by IsCallStep, IsKnown]
     //= A call in which nothing was to be done, or that was refused, leaves the dictionary as it was, and what a crash may leave. [by
     //  IsCallStep]
     //= If the device fails in a call, the dictionary has the change, and a crash leaves it with or without it. So it stays until a
@@ -60,7 +65,7 @@ pub fn make_store_call<T: Words, A: Allocator + Copy, D: ReplaceDevice>(
     requires ready { IsReadyStore D.seen D.may_leave T.state store.old }
     ensures ready { IsReadyStore D.seen D.may_leave T.state store.new }
     //= So is a single call a step of a run. [by IsCallStep]
-    ensures step { IsCallStep D.moment D.left_since D.may_leave (point_of T.state store.old) (called (T.state store.old.words) call.now) result (point_of T.state store.new) }
+    ensures step { IsCallStep D.moment D.left_since D.may_leave (point_of T.state store.old) (after_call (T.state store.old.words) call.now) result (point_of T.state store.new) }
 {
     match call {
         StoreCall::Update { key, value } => update(store, key, *value),
@@ -81,7 +86,7 @@ fn update<T: Words, A: Allocator + Copy, D: ReplaceDevice>(
 ) -> Outcome
     requires ready { IsReadyStore D.seen D.may_leave T.state store.old }
     ensures ready { IsReadyStore D.seen D.may_leave T.state store.new }
-    ensures step { IsCallStep D.moment D.left_since D.may_leave (point_of T.state store.old) (stored (T.state store.old.words) key.now value) result (point_of T.state store.new) }
+    ensures step { IsCallStep D.moment D.left_since D.may_leave (point_of T.state store.old) (after_put (T.state store.old.words) key.now value) result (point_of T.state store.new) }
 {
     match store.update_bytes(key, value) {
         Ok(()) => Outcome::Made,
@@ -95,7 +100,7 @@ fn erase<T: Words, A: Allocator + Copy, D: ReplaceDevice>(
 ) -> Outcome
     requires ready { IsReadyStore D.seen D.may_leave T.state store.old }
     ensures ready { IsReadyStore D.seen D.may_leave T.state store.new }
-    ensures step { IsCallStep D.moment D.left_since D.may_leave (point_of T.state store.old) (erased (T.state store.old.words) key.now) result (point_of T.state store.new) }
+    ensures step { IsCallStep D.moment D.left_since D.may_leave (point_of T.state store.old) (after_erase (T.state store.old.words) key.now) result (point_of T.state store.new) }
 {
     match store.erase_bytes(key) {
         Ok(held) => outcome_of_erasure(held),

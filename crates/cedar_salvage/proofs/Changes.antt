@@ -1,10 +1,10 @@
 -- Payloads that are changes, and those that are none.
-use Rattle.std.specs.Prelude.{◌&&◌, IfSome, int_le, nat_eq, ◌==◌, not, is_some, position, option_map, option_and_then, Option, Some, None, pos, ℤ}
+use Rattle.std.specs.Prelude.{IfSome, int_le, nat_eq, ◌==◌, not, is_some, position, option_map, option_and_then, Option, Some, None, pos, ℤ}
 use Rattle.std.proofs.Common.{◌≡◌, ◌≢◌, ℕ, ◌+◌, ◌≤◌, ◌<◌, Bool, true, false, cond, List, [], ◌∷◌, length, get_or, drop, refl, subst, sym, ◌∙◌, ap, arith}
-use Rattle.std.proofs.lemmas.Bool.{le-leb, false≢true}
+use Rattle.std.proofs.lemmas.Bool.{le-leb, false≢true, and_from}
 use Rattle.std.proofs.lemmas.List.{drop-drop}
 use Rattle.cedar_journal.specs.Records.{has_record, payload, behind_record, payloads_in}
-use Rattle.cedar_journal.proofs.Reading.{payloads_first, payloads_none}
+use Rattle.cedar_journal.proofs.Reading.{payloads_first}
 use Rattle.cedarwood.specs.declared.error.CedarError.{CedarError}
 use Rattle.cedarwood.specs.declared.error.CedarError.TheVariants.{InvalidValue, NulByte}
 use Rattle.cedarwood.specs.Fault.{key_fault, value_fault, or_else}
@@ -41,11 +41,8 @@ neither payload some n m = sym (ap is_some (of_other payload some n m))
 
 -- ---- a put
 
-both : (a b : Bool) → a ≡ true → b ≡ true → (a && b) ≡ true
-both a b x y = ap (λ t. t && b) x ∙ y
-
 in_range : (n : ℕ) → n ≤ 2147483645 → value_fault (pos n) ≡ None
-in_range n low = ap (λ b. cond b None (Some (InvalidValue (pos n)))) (both (int_le (pos 0) (pos n)) (int_le (pos n) (pos 2147483645)) (le-leb 0 n (omega arith)) (le-leb n 2147483645 low))
+in_range n low = ap (λ b. cond b None (Some (InvalidValue (pos n)))) (and_from (int_le (pos 0) (pos n)) (int_le (pos n) (pos 2147483645)) (le-leb 0 n (omega arith)) (le-leb n 2147483645 low))
 
 by_key : (k w : Option CedarError) (key : List ℕ) (v : ℤ) → w ≡ None → is_some (put_unless (or_else k w) key v) ≡ not (is_some k)
 by_key None w key v is = ap (λ f. is_some (put_unless f key v)) is
@@ -78,7 +75,7 @@ no_more (Some c) r is = absurd (false≢true (sym is))
 abbrev pub are_changes : List ℕ → Bool
 are_changes bytes = is_some (each_change (payloads_in bytes))
 
--- a record at a place of some bytes, and its payload p
+-- a record at a position of some bytes, and its payload p
 module _ (bytes b p : List ℕ) (at : ℕ) (here : b ≡ drop at bytes) (there : has_record b ≡ true) (is : p ≡ payload b) (next : drop (5 + length p) b ≡ behind_record b) where
   further : drop (at + (5 + length p)) bytes ≡ behind_record b
   further = sym (drop-drop (5 + length p) at bytes) ∙ ap (drop (5 + length p)) (sym here) ∙ next
@@ -108,10 +105,7 @@ pub no_batch : (bytes : List ℕ) → are_changes bytes ≡ false → false ≡ 
 unfolding batch_of
 no_batch bytes none = sym (unless _ (each_change (payloads_in bytes)) none)
 
-pub ended : (bytes b : List ℕ) (at : ℕ) → b ≡ drop at bytes → has_record b ≡ false → payloads_in (drop at bytes) ≡ []
-ended bytes b at here lacks = ap payloads_in (sym here) ∙ payloads_none b lacks
-
--- behind the last record at a place
+-- behind the last record at a position
 pub batch_at : (bytes : List ℕ) (at : ℕ) → payloads_in (drop at bytes) ≡ [] → are_changes (drop at bytes) ≡ are_changes bytes
     → at + records_length (payloads_in (drop at bytes)) ≡ records_length (payloads_in bytes) → nat_eq at (length bytes) ≡ is_some (batch_of bytes)
 unfolding batch_of
@@ -120,7 +114,7 @@ batch_at bytes at none same long =
     let size : at ≡ records_length (payloads_in bytes) = omega (arith, long, ap records_length none) in
     ap (λ n. nat_eq n (length bytes)) size ∙ sym (provided _ (each_change (payloads_in bytes)) all)
 
--- ---- what a caller is told
+-- ---- what a caller gets
 
 pub batch_is : (o : Option Kind) (n : ℕ) → n ≡ 2 → IfSome o (λ kind. kind ≡ Batch) → IfSome o (λ kind. is_kind n kind)
 batch_is None n two is = tt

@@ -1,7 +1,7 @@
 -- Whole records, found one after another.
 use Rattle.std.specs.Prelude.{◌&&◌, not}
-use Rattle.std.proofs.Common.{◌≡◌, ◌≢◌, ℕ, zero, suc, ◌+◌, ◌≤◌, ◌<◌, Bool, true, false, List, [], ◌∷◌, ◌++◌, length, take, drop, get_or, refl, sym, ◌∙◌, ap, arith, length-drop, length-take-le, append_assoc}
-use Rattle.std.proofs.lemmas.Bool.{cond-true, cond-false, eq-eqb, ne_eqb, and_parts, false_from_ne_true, false≢true}
+use Rattle.std.proofs.Common.{◌≡◌, ◌≢◌, ℕ, zero, suc, ◌+◌, ◌≤◌, ◌<◌, true, false, List, [], ◌∷◌, ◌++◌, length, take, drop, get_or, refl, sym, ◌∙◌, ap, arith, length-drop, length-take-le, append_assoc}
+use Rattle.std.proofs.lemmas.Bool.{cond-true, cond-false, eq-eqb, ne_eqb, and_parts, false_from_ne_true, false≢true, and_from}
 use Rattle.std.proofs.lemmas.List.{drop_more, drop_all, drop-drop, append-nil}
 use Rattle.crc32c.specs.Sums.{crc32c}
 use Rattle.cedar_journal.specs.Formats.{four_at, is_summed}
@@ -38,9 +38,6 @@ unlike bytes n m is same differs =
 
 -- ---- what is
 
-both : (a b : Bool) → a ≡ true → b ≡ true → (a && b) ≡ true
-both a b x y = ap (λ t. t && b) x ∙ y
-
 pub whole : (bytes : List ℕ) (n m k : ℕ) → get_or bytes 0 0 ≢ 0 → n ≡ four_at bytes 5 → 9 + n ≤ length bytes → m ≡ 4 + n → crc32c (take m (drop 5 bytes)) ≡ four_at bytes 1
     → k ≡ n → is_change (take k (drop 9 bytes)) ≡ true → is_whole bytes ≡ true
 unfolding is_whole
@@ -48,9 +45,9 @@ whole bytes n m k ajar is fits same sum size change =
     let told : 9 + four_at bytes 5 ≤ length bytes = omega (arith, fits, is) in
     let text : crc32c (take (4 + four_at bytes 5) (drop 5 bytes)) ≡ four_at bytes 1 = ap (λ j. crc32c (take j (drop 5 bytes))) (sym (same ∙ ap (λ j. 4 + j) is)) ∙ sum in
     let is_one : is_change (payload_there bytes) ≡ true = ap (λ j. is_change (take j (drop 9 bytes))) (sym (size ∙ is)) ∙ change in
-    both _ _ (ap not (ne_eqb (get_or bytes 0 0) 0 ajar)) (both _ _ (readings.summed bytes told text) is_one)
+    and_from _ _ (ap not (ne_eqb (get_or bytes 0 0) 0 ajar)) (and_from _ _ (readings.summed bytes told text) is_one)
 
--- ---- one place after another
+-- ---- one position after another
 
 skips : (n : ℕ) (bytes : List ℕ) → found_behind n bytes ≡ found_behind zero (drop n bytes)
 unfolding found_behind
@@ -88,7 +85,7 @@ pub none_behind : (bytes : List ℕ) (at : ℕ) → length bytes ≤ at → foun
 unfolding found_behind
 none_behind bytes at far = ap found_in (drop_all at bytes far)
 
--- a record that was taken at a place, and the rest behind it
+-- a record that was taken at a position, and the rest behind it
 pub found_next : (bytes b p : List ℕ) (at : ℕ) → b ≡ drop at bytes → found_in b ≡ p ∷ found_in (drop (9 + length p) b)
     → found_in (drop at bytes) ≡ p ∷ found_in (drop (at + 9 + length p) bytes)
 found_next bytes b p at here read =

@@ -22,7 +22,7 @@ next_written old header bytes new was is =
     ∙ ap (λ l. header ++ bytes ++ l) (drop_all (length header + length bytes) header (omega arith))
     ∙ append-nil (header ++ bytes)
 
--- ---- some bytes, and what stands behind the header in them
+-- ---- some bytes, and what follows the header in them
 
 module _ (held header bytes rest : List ℕ) where
   pub are_both : pointwise nat_eq (take (length header) held) header ≡ true → rest ≡ drop (length header) held → pointwise nat_eq rest bytes ≡ true → held ≡ header ++ bytes

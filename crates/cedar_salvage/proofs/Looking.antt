@@ -6,7 +6,7 @@ use Rattle.std.proofs.lemmas.List.{drop_more}
 use Rattle.cedar_journal.specs.Formats.{four_at}
 use Rattle.cedar_salvage.specs.Whole.{look_at, looks}
 
--- ---- at one place
+-- ---- at one position
 
 pub few_look : (bytes : List ℕ) → length bytes < 10 → 0 ≡ look_at bytes
 unfolding look_at
@@ -41,7 +41,7 @@ module _ (bytes : List ℕ) (long : 10 ≤ length bytes) where
       ∙ cond-false _ _ _ (lt-leb 3 (get_or bytes 9 0) (omega (arith, low)))
       ∙ cond-true _ _ _ (le-leb (9 + four_at bytes 5) (length bytes) (omega (arith, fits, is))))
 
--- ---- one place after another
+-- ---- one position after another
 
 pub looks_on : (bytes b : List ℕ) (at : ℕ) → b ≡ drop at bytes → at < length bytes → looks (drop at bytes) ≡ look_at b + looks (drop (at + 1) bytes)
 unfolding looks

@@ -1,10 +1,12 @@
 -- What is whole in a file that somebody else has changed.
-use Rattle.std.specs.Prelude.{◌≡◌, ◌⊎◌, ◌<◌, ℕ, zero, suc, ◌+◌, ◌*◌, ◌&&◌, ◌==◌, nat_le, Bool, true, false, not, cond, List, [], ◌∷◌, ◌++◌, length, take, drop, get_or, Option, Some, None, is_some}
+use Rattle.std.specs.Prelude.{◌≡◌, ◌⊎◌, ◌<◌, ℕ, zero, suc, ◌+◌, ◌*◌, ◌&&◌, ◌==◌, nat_le, Bool}
+use Rattle.std.specs.Prelude.{true, false, not, cond, List, [], ◌∷◌, ◌++◌, length, take, drop}
+use Rattle.std.specs.Prelude.{get_or, Option, Some, None, is_some}
 use Rattle.cedar_journal.specs.declared.format.Format.{Format}
 use Rattle.cedar_journal.specs.declared.format.Format.TheVariants.{Plain, Summed}
 use Rattle.cedar_journal.specs.declared.records.Extent.{Extent}
 use Rattle.cedar_journal.specs.declared.records.Extent.TheVariants.{New, Until}
-use Rattle.cedar_journal.specs.Files.{HasExtent, format_of, recovered}
+use Rattle.cedar_journal.specs.Files.{HasExtent, format_of, file_payloads}
 use Rattle.cedar_journal.specs.Formats.{four_at, is_summed}
 use Rattle.cedar_journal.specs.Records.{behind_record, has_record, payloads_in}
 use Rattle.cedar_store.specs.Changes.{changes_of}
@@ -25,12 +27,12 @@ is_kind operation Batch = operation ≡ 2
 abbrev pub payload_there : List ℕ → List ℕ
 payload_there bytes = take (four_at bytes 5) (drop 9 bytes)
 
--- A whole record of version 2 stands at the start: its gate is open, all of it is there and has its sum, and its payload is a change.
+-- A whole record of version 2 is at the start: its gate is open, all of it is there and has its sum, and its payload is a change.
 unfoldable pub is_whole : List ℕ → Bool
 is_whole bytes = not (get_or bytes 0 0 == 0) && (is_summed bytes && is_change (payload_there bytes))
 
--- The payloads of the whole records among some bytes, behind the first n of them. Each place is tried, and behind a whole record the next
--- place is the one behind it.
+-- The payloads of the whole records among some bytes, behind the first n of them. Each position is tried, and behind a whole record the
+-- next position is the one behind it.
 unfoldable pub found_behind : ℕ → List ℕ → List (List ℕ)
 found_behind n [] = []
 found_behind zero (byte ∷ rest) =
@@ -55,9 +57,9 @@ salvaged_by (Some format) file = found_of format (drop 13 file)
 salvaged_by None file = found_in file
 
 -- What is saved of a file. Version 2: each whole record behind the header. Version 1, which has no sums: the records up to one that is no
--- change. No header: each whole record of version 2 that stands anywhere.
-abbrev pub salvaged : List ℕ → List (List ℕ)
-salvaged file = salvaged_by (format_of file) file
+-- change. No header: each whole record of version 2 that is anywhere.
+abbrev pub salvage_of : List ℕ → List (List ℕ)
+salvage_of file = salvaged_by (format_of file) file
 
 -- there is one
 abbrev pub has_some : List (List ℕ) → Bool
@@ -79,12 +81,12 @@ look_at bytes =
     (cond (get_or bytes 0 0 == 0) 0 (cond (nat_le 3 (get_or bytes 9 0)) 0 (cond (nat_le (9 + four_at bytes 5) (length bytes)) (9 + four_at bytes 5) 0)))
     0
 
--- and at each place
+-- and at each position
 unfoldable pub looks : List ℕ → ℕ
 looks [] = 0
 looks (byte ∷ rest) = look_at (byte ∷ rest) + looks rest
 
--- To look at each place behind the end takes more than 16 times the bytes there.
+-- To look at each position behind the end takes more than 16 times the bytes there.
 abbrev pub TakesLong : List ℕ → Extent → Type 0
 TakesLong file New = ⊥
 TakesLong file (Until Summed end) = 16 * length (drop end file) < looks (drop end file)
@@ -99,6 +101,6 @@ cut_of file (Until format end) = take 13 file ++ drop end file
 abbrev pub IsCutOf : List ℕ → List ℕ → Type 0
 IsCutOf file kept = (extent : Extent) × HasExtent file extent × ((cuts_records file extent ≡ true) ⊎ TakesLong file extent) × (kept ≡ cut_of file extent)
 
--- The file stands for no records, and an opening refuses it; or it would cut off no whole record.
+-- The file represents no records, and an opening refuses it; or it would cut off no whole record.
 abbrev pub CutsNone : List ℕ → Type 0
-CutsNone file = (recovered file ≡ None) ⊎ ((extent : Extent) × HasExtent file extent × (cuts_records file extent ≡ false))
+CutsNone file = (file_payloads file ≡ None) ⊎ ((extent : Extent) × HasExtent file extent × (cuts_records file extent ≡ false))

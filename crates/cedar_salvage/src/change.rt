@@ -1,7 +1,9 @@
 //! Payloads, and whether they are changes of a dictionary.
 
-ghost use Rattle.std.specs.Prelude.{◌*◌, ◌+◌, ◌<◌, ◌==◌, ◌≡◌, get_or, IfSome, is_some, length, not, position};
-ghost use Rattle.cedar_salvage.specs.Words.{batch_of, change_of, is_change, is_kind, key_fault, put_of};
+ghost use Rattle.std.specs.Prelude.{◌*◌, ◌+◌, ◌<◌, ◌==◌, ◌≡◌, get_or, IfSome, is_some};
+ghost use Rattle.std.specs.Prelude.{length, not, position};
+ghost use Rattle.cedar_salvage.specs.Words.{batch_of, change_of, is_change, is_kind};
+ghost use Rattle.cedar_salvage.specs.Words.{key_fault, put_of};
 
 use cedar_journal::first_payload;
 use cedar_store::BATCH;
@@ -26,7 +28,7 @@ pub enum Kind {
 
 /// Returns what change a payload is, or None if it is none.
 pub fn kind_of(payload: &[u8]) -> Option<Kind>
-    //= A payload is told to be a change exactly if it is one, and of which kind. [with kind]
+    //= A payload is found to be a change exactly if it is one, and of which kind. [with kind]
     ensures change { is_some result ≡ is_change payload.now }
     ensures kind { IfSome result (λ kind. is_kind (get_or payload.now 0 0) kind) }
 {

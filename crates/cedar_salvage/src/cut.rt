@@ -1,7 +1,8 @@
 //! What an opening would cut off a file.
 
 ghost use Rattle.std.specs.Prelude.{◌*◌, ◌<◌, ◌≡◌, ◌⊎◌, [], false, length, true};
-ghost use Rattle.cedar_salvage.specs.Words.{behind_record, cuts_records, found_in, has_record, has_some, HasExtent, look_at, looks, TakesLong};
+ghost use Rattle.cedar_salvage.specs.Words.{behind_record, cuts_records, found_in, has_record};
+ghost use Rattle.cedar_salvage.specs.Words.{has_some, HasExtent, look_at, looks, TakesLong};
 
 use crate::change::number;
 use crate::record::whole_payload;
@@ -15,7 +16,7 @@ const LOOKS: u128 = 16;
 /// behind the end, or of version 1 a record that counts right behind the one that is closed. By what is supposed of a disk a crash may
 /// leave such bytes too, but no test has found one that did. So keep them, and open the file.
 ///
-/// It takes a time of at most so many bytes as stand behind the end, times 16. If that isn't enough to say of each place that no whole
+/// It takes a time of at most so many bytes as are behind the end, times 16. If that isn't enough to say of each position that no whole
 /// record begins there, it returns true.
 pub fn may_cut_records(bytes: &[u8], extent: Extent) -> bool
     requires extent { HasExtent bytes.now extent }
@@ -32,7 +33,7 @@ pub fn may_cut_records(bytes: &[u8], extent: Extent) -> bool
     }
 }
 
-/// Whether a whole record of version 2 stands anywhere among some bytes, or it would take long to say that none does.
+/// Whether a whole record of version 2 is anywhere among some bytes, or it would take long to say that none does.
 fn may_have_whole(bytes: &[u8]) -> bool
     ensures none { result ≡ false → has_some (found_in bytes.now) ≡ false }
     ensures some { result ≡ true → (has_some (found_in bytes.now) ≡ true) ⊎ (16 * length bytes.now < looks bytes.now) }
@@ -74,7 +75,7 @@ fn look_at(bytes: &[u8]) -> usize
     9 + len
 }
 
-/// Whether a record of version 1 that counts stands behind the one at the start, whatever that one's gate is.
+/// Whether a record of version 1 that counts is behind the one at the start, whatever that one's gate is.
 fn has_record_behind(bytes: &[u8]) -> bool
     ensures { result ≡ has_record (behind_record bytes.now) }
 {

@@ -1,7 +1,9 @@
 //! What an opening would cut off a store's file, kept beside it.
 
-ghost use Rattle.std.specs.Prelude.{◌+◌, ◌++◌, ◌≡◌, ◌≤◌, [], drop, IfNone, IfOk, IfSome, length, List, OnOk, take};
-ghost use Rattle.cedar_salvage.specs.Words.{CutsNone, Elapses, IsCutOf, MayLeave, Memory, Only, seen_after};
+ghost use Rattle.std.specs.Prelude.{◌+◌, ◌++◌, ◌≡◌, ◌≤◌, [], drop, IfNone, IfOk, IfSome};
+ghost use Rattle.std.specs.Prelude.{length, List, OnOk, take};
+ghost use Rattle.cedar_salvage.specs.Words.{CutsNone, Elapses, IsCutOf, MayLeave, Memory};
+ghost use Rattle.cedar_salvage.specs.Words.{Only, seen_after};
 ghost use Rattle.cedar_disk.specs.FileDevices.{device_calls};
 
 use crate::cut::may_cut_records;
@@ -71,7 +73,7 @@ where
     //  and on the disk. [with durable]
     ensures kept { IfOk result (λ kept. IfSome kept (λ k. IsCutOf (D.seen device.old) (seen_after (device_calls k.device)))) }
     ensures durable { IfOk result (λ kept. IfSome kept (λ k. Only (seen_after (device_calls k.device)) (MayLeave (device_calls k.device)))) }
-    //= Nothing is kept only if the opening would cut off no whole record, or if the file stands for no records.
+    //= Nothing is kept only if the opening would cut off no whole record, or if the file represents no records.
     ensures none { IfOk result (λ kept. IfNone kept (CutsNone (D.seen device.old))) }
     //= The store's file stays as it was. [with restarted, time]
     ensures seen { D.seen device.new ≡ D.seen device.old }
@@ -203,7 +205,7 @@ where
     Err(KeepError::Unmade(ErrorKind::AlreadyExists.into()))
 }
 
-/// The name of the file that is tried at this place in turn.
+/// The name of the file that is tried in this turn.
 pub(crate) fn name_beside<A: Allocator>(
     alloc: A,
     path: &str,

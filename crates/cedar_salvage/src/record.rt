@@ -1,7 +1,9 @@
 //! Records, and whether they are whole.
 
-ghost use Rattle.std.specs.Prelude.{◌+◌, ◌<◌, ◌∷◌, ◌≡◌, ◌≤◌, [], drop, false, IfNone, IfSome, length};
-ghost use Rattle.cedar_salvage.specs.Words.{first_changes, format_of, found_in, is_whole, payloads_in};
+ghost use Rattle.std.specs.Prelude.{◌+◌, ◌<◌, ◌∷◌, ◌≡◌, ◌≤◌, [], drop, false};
+ghost use Rattle.std.specs.Prelude.{IfNone, IfSome, length};
+ghost use Rattle.cedar_salvage.specs.Words.{first_changes, format_of, found_in};
+ghost use Rattle.cedar_salvage.specs.Words.{is_whole, payloads_in};
 
 use crate::change::{is_change, number};
 use cedar_journal::{Format, PLAIN_HEADER, SUMMED_HEADER, first_payload};
@@ -9,7 +11,7 @@ use crc32c::crc32c;
 
 /// Returns the format that the header of a file names, or None if it has no whole header.
 pub fn format_of(bytes: &[u8]) -> Option<Format>
-    //= The version of a file is told as its header names it.
+    //= The version of a file is the one that its header names.
     ensures { result ≡ format_of bytes.now }
 {
     if bytes.starts_with(&SUMMED_HEADER) {
@@ -48,7 +50,7 @@ pub(crate) fn whole_payload(bytes: &[u8]) -> Option<&[u8]>
     Some(payload)
 }
 
-/// Returns the payload of the first whole record of version 2 among some bytes, and what stands behind that record.
+/// Returns the payload of the first whole record of version 2 among some bytes, and what follows that record.
 pub(crate) fn next_whole(bytes: &[u8]) -> Option<(&[u8], &[u8])>
     ensures less { IfSome result (λ found. length found.1.now < length bytes.now) }
     ensures some { IfSome result (λ found. found_in bytes.now ≡ found.0.now ∷ found_in found.1.now) }

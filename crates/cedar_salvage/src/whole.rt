@@ -1,7 +1,9 @@
 //! The whole records of a file, as a new file.
 
 ghost use Rattle.std.specs.Prelude.{◌++◌, ◌∷◌, ◌≡◌, [], drop, IfOk, OnOk, Some};
-ghost use Rattle.cedar_salvage.specs.Words.{first_changes, found_in, found_of, HasExtent, IsSettled, Only, payloads_in, payloads_of, recovered, salvaged};
+ghost use Rattle.cedar_salvage.specs.Words.{file_payloads, first_changes, found_in, found_of};
+ghost use Rattle.cedar_salvage.specs.Words.{HasExtent, IsSettled, Only, payloads_in};
+ghost use Rattle.cedar_salvage.specs.Words.{payloads_of, salvage_of};
 
 use crate::record::{format_of, next_whole, plain_change};
 use cedar_journal::{
@@ -13,16 +15,16 @@ use std::alloc::Allocator;
 
 /// Returns a store's file with what is whole in the file of a store that somebody else has damaged.
 ///
-/// Of a file of version 2 these are all records that are whole: each place behind the header is tried, and behind a record that is whole
-/// the next place is the one behind it. Of a file without a whole header each place is tried. Records of version 1 have no sums, so of such
-/// a file these are the records in front of the first one that is no change.
+/// Of a file of version 2 these are all records that are whole: each position behind the header is tried, and behind a record that is whole
+/// the next position is the one behind it. Of a file without a whole header each position is tried. Records of version 1 have no sums, so
+/// of such a file these are the records in front of the first one that is no change.
 ///
 /// # Errors
 /// `Memory` if an allocation failed.
 pub fn salvage<A: Allocator + Copy>(alloc: A, bytes: &[u8]) -> Result<Image<A>, FrameError>
     //= What is saved of a damaged file is each whole record of version 2 that is a change, in their order, whatever lies between them; of
     //  version 1 the records before the first one that is no change.
-    ensures { IfOk result (λ image. payloads_of image ≡ salvaged bytes.now) }
+    ensures { IfOk result (λ image. payloads_of image ≡ salvage_of bytes.now) }
 {
     let mut image = Image::new(alloc)?;
     push_records(alloc, &mut image, bytes)?;
@@ -40,7 +42,7 @@ pub fn store_with<D: ReplaceDevice + Drop, A: Allocator + Copy>(
 ) -> Result<Journal<D>, (DurableError, D)>
     requires restarted { Only (D.seen device) (D.may_leave device) }
     //= A store that is made of what was saved has exactly those records, and is on the disk. [with settled]
-    ensures records { IfOk result (λ journal. recovered (D.seen journal.device) ≡ Some (payloads_of image.now)) }
+    ensures records { IfOk result (λ journal. file_payloads (D.seen journal.device) ≡ Some (payloads_of image.now)) }
     ensures settled { IfOk result (λ journal. IsSettled D.seen D.may_leave journal.device journal.format journal.end) }
 {
     let mut device = device;
@@ -79,7 +81,7 @@ fn push_records<A: Allocator + Copy>(
     image: &mut Image<A>,
     bytes: &[u8],
 ) -> Result<(), FrameError>
-    ensures { OnOk result (payloads_of image.new ≡ payloads_of image.old ++ salvaged bytes.now) }
+    ensures { OnOk result (payloads_of image.new ≡ payloads_of image.old ++ salvage_of bytes.now) }
 {
     match format_of(bytes) {
         Some(format) => push_of(alloc, image, format, behind_header(bytes)),
@@ -102,7 +104,7 @@ fn push_of<A: Allocator + Copy>(
     }
 }
 
-/// What stands behind the header of a file.
+/// What follows the header of a file.
 fn behind_header(bytes: &[u8]) -> &[u8]
     ensures { result.now ≡ drop 13 bytes.now }
 {

@@ -2,3 +2,4 @@
 pub mod FirstBlock
 pub mod Growth
 pub mod PlaceSearch
+pub mod Tried

@@ -1,5 +1,6 @@
 -- The three lists of blocks.
-use Rattle.std.specs.Prelude.{◌^◌, ◌≡◌, ℕ, ◌+◌, ◌*◌, ◌<◌, ◌≤◌, ◌||◌, cond, length, List, ◌∷◌, slice_index_or, slice_set, ℤ, pos}
+use Rattle.std.specs.Prelude.{◌^◌, ◌≡◌, ℕ, ◌+◌, ◌*◌, ◌<◌, ◌≤◌, ◌||◌, cond, length, List, ◌∷◌}
+use Rattle.std.specs.Prelude.{slice_index_or, slice_set, ℤ, pos}
 use Rattle.std.specs.Ordering.{int_eq}
 use Rattle.cedar_slots.specs.declared.records.BlockRecord.{BlockRecord}
 use Rattle.cedar_slots.specs.declared.blocks.Counts.{Counts}
@@ -29,7 +30,7 @@ next_at blocks b = (block_at blocks b).next
 abbrev pub prev_at : List BlockRecord → ℕ → ℤ
 prev_at blocks b = (block_at blocks b).prev
 
--- the block b stands after the block a
+-- the block b comes after the block a
 abbrev pub BlockLink : List BlockRecord → ℕ → ℕ → Type 0
 BlockLink blocks a b = (next_at blocks a ≡ pos b) × (prev_at blocks b ≡ pos a)
 
@@ -39,7 +40,7 @@ set_next blocks b z = slice_set blocks b (record (block_at blocks b) { next = z 
 abbrev pub set_prev : List BlockRecord → ℕ → ℤ → List BlockRecord
 set_prev blocks b z = slice_set blocks b (record (block_at blocks b) { prev = z })
 
--- the blocks once b stands after a
+-- the blocks once b comes after a
 unfoldable pub linked_blocks : List BlockRecord → ℕ → ℕ → List BlockRecord
 linked_blocks blocks a b = set_prev (set_next blocks a (pos b)) b (pos a)
 
@@ -81,7 +82,7 @@ lists_with lists Full xs Open = lists Open
 lists_with lists Full xs Closed = lists Closed
 lists_with lists Full xs Full = xs
 
--- how often a block stands in the three rings
+-- how often a block occurs in the three rings
 abbrev pub total : (BlockType → List ℕ) → ℕ → ℕ
 total lists b = occurs b (ring_of Full (lists Full)) + occurs b (lists Closed) + occurs b (lists Open)
 

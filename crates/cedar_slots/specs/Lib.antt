@@ -1,7 +1,9 @@
 pub mod Blocks
+pub mod Counting
 pub mod Padded
 pub mod Places
 pub mod Ring
 pub mod Slots
+pub mod Tried
 pub mod Views
 pub mod Words

@@ -1,12 +1,12 @@
 -- Lists of which only a front was written yet.
 use Rattle.std.specs.Prelude.{ℕ, List, ◌++◌, ◌-◌, length, replicate}
 
--- all items, how many of them stand in memory, and for how many there is room
+-- all items, how many of them are in memory, and for how many there is room
 pub record Items (T : Type 0) : Type 0 where
   pub items : List T
   pub used : ℕ
   pub room : ℕ
 
 -- the items, and behind them blanks up to a length
-abbrev pub padded : {T : Type 0} → T → ℕ → List T → List T
-padded blank len items = items ++ replicate (len - length items) blank
+abbrev pub with_blanks : {T : Type 0} → T → ℕ → List T → List T
+with_blanks blank len items = items ++ replicate (len - length items) blank

@@ -1,6 +1,8 @@
 -- What holds of a table between any two of its operations.
-use Rattle.std.specs.Prelude.{bit_xor, ◌≡◌, ℕ, ◌+◌, ◌*◌, ◌/◌, ◌^◌, ◌<◌, ◌≤◌, ◌≤ℤ◌, ℤ, true, false, cond, ◌==◌, List, [], ◌∷◌, length, pos, replicate, slice_index_or}
-use Rattle.cedar_slots.specs.Blocks.{blank_block, block_at, BlockFields, counts_at, HasLists, head_of, kind_of, Sized}
+use Rattle.std.specs.Prelude.{bit_xor, ◌≡◌, ℕ, ◌+◌, ◌*◌, ◌/◌, ◌^◌, ◌<◌, ◌≤◌, ◌≤ℤ◌, ℤ, true, false}
+use Rattle.std.specs.Prelude.{cond, ◌==◌, List, [], ◌∷◌, length, pos, replicate, slice_index_or}
+use Rattle.cedar_slots.specs.Blocks.{blank_block, block_at, BlockFields, counts_at}
+use Rattle.cedar_slots.specs.Blocks.{HasLists, head_of, kind_of, Sized}
 use Rattle.cedar_slots.specs.declared.blocks.BlockType.{BlockType}
 use Rattle.cedar_slots.specs.declared.blocks.BlockType.TheVariants.{Open}
 use Rattle.cedar_slots.specs.declared.shortage.Shortage.{Shortage}
@@ -8,10 +10,11 @@ use Rattle.cedar_slots.specs.declared.shortage.Shortage.TheVariants.{Memory, Slo
 use Rattle.cedar_slots.specs.declared.blocks.Counts.{Counts}
 use Rattle.cedar_slots.specs.declared.records.BlockRecord.{BlockRecord}
 use Rattle.cedar_slots.specs.declared.records.NodeRecord.{NodeRecord}
-use Rattle.cedar_slots.specs.Slots.{AllFree, blank_info, blank_node, FreeRing, info_at, is_free, node_record_at, SlotFields, SlotLink}
+use Rattle.cedar_slots.specs.Slots.{AllFree, blank_info, blank_node, FreeRing, info_at, is_free}
+use Rattle.cedar_slots.specs.Slots.{node_record_at, SlotFields, SlotLink}
 use Rattle.cedar_slots.specs.Ring.{first_of}
 
--- the slots, the blocks in which they stand, and the reject values, as a file has them too
+-- the slots, the blocks that they are in, and the reject values, as a file has them too
 pub record PlaceFields : Type 0 where
   pub slots : SlotFields
   pub blocks : BlockFields
@@ -70,7 +73,7 @@ pub record Shaped (table : PlaceFields) : Type 0 where
 abbrev pub IsPowerOfTwo : ℕ → Type 0
 IsPowerOfTwo n = (k : ℕ) × (n ≡ 2 ^ k)
 
--- the free slots stand in rings, the blocks in lists, a search stays in range, and the rest is blank
+-- the free slots are in rings, the blocks in lists, a search stays in range, and the rest is blank
 pub record Sound (table : PlaceFields) : Type 0 where
   pub shaped : Shaped table
   pub doubled : IsPowerOfTwo (length table.blocks.records)
@@ -80,7 +83,7 @@ pub record Sound (table : PlaceFields) : Type 0 where
   pub rejects : Rejects table.reject
   pub inactive : Inactive table
 
--- the slot e, which was free, holds the node given, and no other slot that was in use has changed
+-- the slot e, which was free, is held and has the node given, and no other held slot has changed
 pub record TakesSlot (before after : SlotFields) (e : ℕ) (node : NodeRecord) : Type 0 where
   pub holds : node_record_at after.nodes e ≡ node
   pub used : is_free after.nodes e ≡ false
@@ -88,7 +91,7 @@ pub record TakesSlot (before after : SlotFields) (e : ℕ) (node : NodeRecord) :
   pub kept : (s : ℕ) → (s ≡ e → ⊥) → is_free before.nodes s ≡ false → node_record_at after.nodes s ≡ node_record_at before.nodes s
   pub infos : after.infos ≡ before.infos
 
--- the slot e, which was in use, is free, and no other slot that is in use has changed
+-- the slot e, which was held, is free, and no other held slot has changed
 pub record FreesSlot (before after : SlotFields) (e : ℕ) : Type 0 where
   pub now_free : is_free after.nodes e ≡ true
   pub free : (s : ℕ) → (s ≡ e → ⊥) → is_free after.nodes s ≡ is_free before.nodes s
@@ -146,7 +149,7 @@ pub record IsFreePlace (table : PlaceFields) (slot : ℕ) : Type 0 where
 abbrev pub NoneFree : PlaceFields → Type 0
 NoneFree table = (slot : ℕ) → 0 < slot / 256 → slot / 256 < table.blocks.active → is_free table.slots.nodes slot ≡ false
 
--- the block b stands in the open list
+-- the block b is in the open list
 pub record IsOpenBlock (blocks : BlockFields) (b : ℕ) : Type 0 where
   pub not_root : 0 < b
   pub is_active : b < blocks.active
@@ -158,7 +161,7 @@ pub record IsBase (table : PlaceFields) (base : ℕ) (labels : List ℕ) : Type 
   pub is_active : base / 256 < table.blocks.active
   pub free : AllFree table.slots.nodes base labels
 
--- a free slot of the block b from which each label's slot is free, if the first label stands on it
+-- a free slot of the block b from which each label's slot is free, if the first label is on it
 pub record IsStart (table : PlaceFields) (b slot : ℕ) (labels : List ℕ) : Type 0 where
   pub free : is_free table.slots.nodes slot ≡ true
   pub here : slot / 256 ≡ b
@@ -171,7 +174,7 @@ pub record SameSlots (before after : PlaceFields) : Type 0 where
   pub len : length after.blocks.records ≡ length before.blocks.records
   pub max_trial : after.blocks.max_trial ≡ before.blocks.max_trial
 
--- the first block with the root alone in use
+-- the first block, in which the root alone is held
 abbrev pub root_block : BlockRecord
 root_block = record { prev = pos 0; next = pos 0; num = pos 256; reject = pos 257; trial = pos 0; e_head = pos 1 }
 

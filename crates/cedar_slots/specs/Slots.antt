@@ -1,5 +1,6 @@
--- The free slots of a block, and the ring in which they stand.
-use Rattle.std.specs.Prelude.{All, bit_xor, true, ◌≡◌, ℕ, ◌/◌, ◌<◌, Bool, not, ◌&&◌, cond, ◌==◌, List, slice_index_or, slice_set, ℤ, pos, neg_ℤ, int_lt, unsigned_abs}
+-- The free slots of a block, and the ring that they are in.
+use Rattle.std.specs.Prelude.{All, bit_xor, true, ◌≡◌, ℕ, ◌/◌, ◌<◌, Bool, not, ◌&&◌, cond, ◌==◌}
+use Rattle.std.specs.Prelude.{List, slice_index_or, slice_set, ℤ, pos, neg_ℤ, int_lt, unsigned_abs}
 use Rattle.cedar_slots.specs.declared.records.NodeRecord.{NodeRecord}
 use Rattle.cedar_slots.specs.declared.records.NInfoRecord.{NInfoRecord}
 use Rattle.cedar_slots.specs.Ring.{occurs, Ring}
@@ -34,15 +35,15 @@ set_check nodes s z = slice_set nodes s (record { base = base_at nodes s; check 
 abbrev pub set_base : List NodeRecord → ℕ → ℤ → List NodeRecord
 set_base nodes s z = slice_set nodes s (record { base = z; check = check_at nodes s })
 
--- the free slot b stands after the free slot a
+-- the free slot b comes after the free slot a
 abbrev pub SlotLink : List NodeRecord → ℕ → ℕ → Type 0
 SlotLink nodes a b = (check_at nodes a ≡ neg_ℤ (pos b)) × (base_at nodes b ≡ neg_ℤ (pos a))
 
--- the nodes once b stands after a
+-- the nodes once b comes after a
 unfoldable pub nodes_after_link : List NodeRecord → ℕ → ℕ → List NodeRecord
 nodes_after_link nodes a b = set_base (set_check nodes a (neg_ℤ (pos b))) b (neg_ℤ (pos a))
 
--- the nodes once s has left its ring, where it stood between a and b, and holds the node given
+-- the nodes once s has left its ring, where it was between a and b, and holds the node given
 abbrev pub taken_between : List NodeRecord → ℕ → ℕ → ℕ → NodeRecord → List NodeRecord
 taken_between nodes a b s node = slice_set (nodes_after_link nodes a b) s node
 
@@ -67,14 +68,14 @@ pub record FreeRing (nodes : List NodeRecord) (infos : List NInfoRecord) (b : �
 abbrev pub SameOutside : ℕ → List NodeRecord → List NodeRecord → Type 0
 SameOutside b before after = (s : ℕ) → (s / 256 ≡ b → ⊥) → node_record_at after s ≡ node_record_at before s
 
--- the nodes once the slot s stands in a ring of its own
+-- the nodes once the slot s is in a ring of its own
 unfoldable pub given_alone : List NodeRecord → ℕ → List NodeRecord
 given_alone nodes s = nodes_after_link nodes s s
 
--- the nodes once s stands between a and b
+-- the nodes once s is between a and b
 abbrev pub given_between : List NodeRecord → ℕ → ℕ → ℕ → List NodeRecord
 given_between nodes a b s = nodes_after_link (nodes_after_link nodes a s) s b
 
--- the nodes once s stands after the free slot h
+-- the nodes once s comes after the free slot h
 unfoldable pub given_after : List NodeRecord → ℕ → ℕ → List NodeRecord
 given_after nodes h s = given_between nodes h (unsigned_abs (check_at nodes h)) s

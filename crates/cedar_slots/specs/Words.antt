@@ -1,12 +1,19 @@
 -- The words of clauses, from one place.
-pub use Rattle.cedar_slots.specs.Blocks.{block_at, counts_at, fresh_counts, HasLists, head_of, KeepsCounts, KeepsLinks, kind_of}
-pub use Rattle.cedar_slots.specs.Blocks.{linked_blocks, ListRings, lists_with, next_at, Popped, prev_at, SameFrom, Sized, total}
-pub use Rattle.cedar_slots.specs.Places.{AddsBlock, FreesSlot, Grown, IsBase, IsFreePlace, IsNewPlaces, IsOpenBlock, IsPowerOfTwo}
-pub use Rattle.cedar_slots.specs.Places.{IsSlotLimit, IsStart, MayRefuse, NoneFree, reject_at, Rejects, room_for_one, SameSlots, Shaped}
+pub use Rattle.cedar_slots.specs.Blocks.{block_at, counts_at, fresh_counts, HasLists, head_of}
+pub use Rattle.cedar_slots.specs.Blocks.{KeepsCounts, KeepsLinks, kind_of}
+pub use Rattle.cedar_slots.specs.Blocks.{linked_blocks, ListRings, lists_with, next_at, Popped}
+pub use Rattle.cedar_slots.specs.Blocks.{prev_at, SameFrom, Sized, total}
+pub use Rattle.cedar_slots.specs.Counting.{SetsCounts}
+pub use Rattle.cedar_slots.specs.Places.{AddsBlock, FreesSlot, Grown, IsBase, IsFreePlace}
+pub use Rattle.cedar_slots.specs.Places.{IsNewPlaces, IsOpenBlock, IsPowerOfTwo}
+pub use Rattle.cedar_slots.specs.Places.{IsSlotLimit, IsStart, MayRefuse, NoneFree, reject_at}
+pub use Rattle.cedar_slots.specs.Places.{Rejects, room_for_one, SameSlots, Shaped}
 pub use Rattle.cedar_slots.specs.Places.{Sound, TakesSlot, Within}
 pub use Rattle.cedar_slots.specs.Ring.{occurs}
-pub use Rattle.cedar_slots.specs.Slots.{AllFree, base_at, blank_info, check_at, given_after, given_alone, is_free, node_record_at}
+pub use Rattle.cedar_slots.specs.Slots.{AllFree, base_at, blank_info, check_at, given_after}
+pub use Rattle.cedar_slots.specs.Slots.{given_alone, is_free, node_record_at}
 pub use Rattle.cedar_slots.specs.Slots.{nodes_after_link, nodes_after_take, SlotLink}
+pub use Rattle.cedar_slots.specs.Tried.{TriesAtMost}
 pub use Rattle.cedar_slots.specs.Views.{blocks_of, places_of, slots_of}
 pub use Rattle.cedar_slots.specs.declared.blocks.BlockType.{BlockType}
 pub use Rattle.std.specs.Int.{int_max}

@@ -1,6 +1,7 @@
 //! The blocks, and the lists that they are in.
 
-ghost use Rattle.std.specs.Prelude.{◌+ℤ◌, ◌+◌, ◌<ℤ◌, ◌<◌, ◌^◌, ◌∷◌, ◌≡◌, ◌≤ℤ◌, ◌≤◌, IsTrue, length, List, pos, unsigned_abs, ℕ, ℤ};
+ghost use Rattle.std.specs.Prelude.{◌+ℤ◌, ◌+◌, ◌<ℤ◌, ◌<◌, ◌^◌, ◌∷◌, ◌≡◌, ◌≤ℤ◌, ◌≤◌, IsTrue};
+ghost use Rattle.std.specs.Prelude.{length, List, pos, unsigned_abs, ℕ, ℤ};
 
 use crate::padded::Padded;
 use crate::records::BlockRecord;
@@ -73,7 +74,7 @@ impl Counts {
     }
 
     /// Returns the counts after `wanted` labels have found no place in the block.
-    pub(crate) fn failed(self, wanted: i16, max_trial: i32) -> Counts
+    pub(crate) fn after_failure(self, wanted: i16, max_trial: i32) -> Counts
         requires { self.trial <ℤ max_trial }
         ensures num { result.num ≡ self.num }
         ensures reject { result.reject ≡ wanted }
@@ -169,10 +170,15 @@ pub struct Blocks<A: Allocator> {
 }
 
 impl<A: Allocator> Blocks<A> {
-    ghost use Rattle.cedar_slots.specs.Words.{block_at, blocks_of, BlockType, counts_at, fresh_counts, HasLists, head_of, KeepsCounts, KeepsLinks, kind_of, linked_blocks, ListRings, lists_with, next_at, occurs, Popped, prev_at, SameFrom, Sized, total};
+    ghost use Rattle.cedar_slots.specs.Words.{block_at, blocks_of, BlockType, counts_at};
+    ghost use Rattle.cedar_slots.specs.Words.{fresh_counts, HasLists, head_of, KeepsCounts};
+    ghost use Rattle.cedar_slots.specs.Words.{KeepsLinks, kind_of, linked_blocks, ListRings};
+    ghost use Rattle.cedar_slots.specs.Words.{lists_with, next_at, occurs, Popped, prev_at};
+    ghost use Rattle.cedar_slots.specs.Words.{SameFrom, SetsCounts, Sized, total};
 
     /// Returns the first block of a list, or 0.
     pub fn head(&self, list: BlockType) -> i32
+        //= `head` returns the head of a list.
         ensures { result ≡ head_of (blocks_of self.now) list }
     {
         match list {
@@ -230,6 +236,7 @@ impl<A: Allocator> Blocks<A> {
 
     /// Returns the list that a block's counts name.
     pub fn list_of(&self, counts: Counts) -> BlockType
+        //= `list_of` returns the list that these counts name.
         ensures { result ≡ kind_of self.now.max_trial counts }
     {
         let max_trial = self.max_trial;
@@ -336,6 +343,8 @@ impl<A: Allocator> Blocks<A> {
     /// Returns the counts of `block`.
     pub fn counts(&self, block: usize) -> Counts
         requires { block < self.now.records.used }
+
+        //= `counts` returns what a block's record counts.
         ensures { result ≡ counts_at self.now.records.items block }
     {
         let record = self.records.at(block);
@@ -352,14 +361,7 @@ impl<A: Allocator> Blocks<A> {
         requires lists { HasLists (blocks_of self.old) }
         requires sized { Sized (blocks_of self.old) }
         requires block_in { block < self.old.active }
-        ensures lists { HasLists (blocks_of self.new) }
-        ensures made { counts_at self.new.records.items block ≡ counts }
-        ensures others { (b : ℕ) → (b ≡ block → ⊥) → counts_at self.new.records.items b ≡ counts_at self.old.records.items b }
-        ensures idle { SameFrom self.old.active self.old.records.items self.new.records.items }
-        ensures len { length self.new.records.items ≡ length self.old.records.items }
-        ensures used { self.new.records.used ≡ self.old.records.used }
-        ensures active { self.new.active ≡ self.old.active }
-        ensures max_trial { self.new.max_trial ≡ self.old.max_trial }
+        ensures { SetsCounts self.old self.new block counts }
     {
         let from = self.list_of(self.counts(block));
         let to = self.list_of(counts);
@@ -370,20 +372,13 @@ impl<A: Allocator> Blocks<A> {
         }
     }
 
-    /// Sets the counts of `block`, and moves it to the list that they now name. They are passed one by one: otherwise each caller
-    /// stores them in memory, though it mostly needs no list.
+    /// `set_counts_and_list` with counts that are passed one by one: otherwise each caller stores them in memory, though it mostly
+    /// needs no list.
     fn set_each_count(&mut self, block: usize, num: i16, reject: i16, trial: i32, e_head: i32)
         requires lists { HasLists (blocks_of self.old) }
         requires sized { Sized (blocks_of self.old) }
         requires block_in { block < self.old.active }
-        ensures lists { HasLists (blocks_of self.new) }
-        ensures made { counts_at self.new.records.items block ≡ record { num = num; reject = reject; trial = trial; e_head = e_head } }
-        ensures others { (b : ℕ) → (b ≡ block → ⊥) → counts_at self.new.records.items b ≡ counts_at self.old.records.items b }
-        ensures idle { SameFrom self.old.active self.old.records.items self.new.records.items }
-        ensures len { length self.new.records.items ≡ length self.old.records.items }
-        ensures used { self.new.records.used ≡ self.old.records.used }
-        ensures active { self.new.active ≡ self.old.active }
-        ensures max_trial { self.new.max_trial ≡ self.old.max_trial }
+        ensures { SetsCounts self.old self.new block (record { num = num; reject = reject; trial = trial; e_head = e_head }) }
     {
         let counts = Counts {
             num,
@@ -394,30 +389,22 @@ impl<A: Allocator> Blocks<A> {
         self.set_counts_and_list(block, counts);
     }
 
-    /// Sets the counts of `block`, and moves it to the list that they now name.
+    /// Sets the counts of `block`, whatever they were.
     #[inline(always)]
     pub(crate) fn set_counts(&mut self, block: usize, counts: Counts)
         requires lists { HasLists (blocks_of self.old) }
         requires sized { Sized (blocks_of self.old) }
         requires block_in { block < self.old.active }
 
-        //= `set_counts` sets the counts of a block, and the lists are then right for it; no other block's counts change. [with made,
-        //  others]
-        ensures lists { HasLists (blocks_of self.new) }
-        ensures made { counts_at self.new.records.items block ≡ counts }
-        ensures others { (b : ℕ) → (b ≡ block → ⊥) → counts_at self.new.records.items b ≡ counts_at self.old.records.items b }
-        ensures idle { SameFrom self.old.active self.old.records.items self.new.records.items }
-        ensures len { length self.new.records.items ≡ length self.old.records.items }
-        ensures used { self.new.records.used ≡ self.old.records.used }
-        ensures active { self.new.active ≡ self.old.active }
-        ensures max_trial { self.new.max_trial ≡ self.old.max_trial }
+        //= `set_counts` sets the counts of a block, and the lists are then right for it; no other block's counts change.
+        //  [by lists, made, others]
+        ensures { SetsCounts self.old self.new block counts }
     {
         let old = self.counts(block);
         self.change_counts(block, old, counts);
     }
 
-    /// Sets the counts of `block`, which were `old`, and moves it to the list that they now name. Mostly that is the list
-    /// that it is in, which shows without a list.
+    /// `set_counts` where the counts were `old`. Mostly the block stays in the list that it is in, which shows without a list.
     // Otherwise the counts go through memory in two widths, and each call waits for them.
     #[inline(always)]
     pub(crate) fn change_counts(&mut self, block: usize, old: Counts, counts: Counts)
@@ -425,14 +412,7 @@ impl<A: Allocator> Blocks<A> {
         requires lists { HasLists (blocks_of self.old) }
         requires sized { Sized (blocks_of self.old) }
         requires block_in { block < self.old.active }
-        ensures lists { HasLists (blocks_of self.new) }
-        ensures made { counts_at self.new.records.items block ≡ counts }
-        ensures others { (b : ℕ) → (b ≡ block → ⊥) → counts_at self.new.records.items b ≡ counts_at self.old.records.items b }
-        ensures idle { SameFrom self.old.active self.old.records.items self.new.records.items }
-        ensures len { length self.new.records.items ≡ length self.old.records.items }
-        ensures used { self.new.records.used ≡ self.old.records.used }
-        ensures active { self.new.active ≡ self.old.active }
-        ensures max_trial { self.new.max_trial ≡ self.old.max_trial }
+        ensures { SetsCounts self.old self.new block counts }
     {
         if counts.keeps_list(old, self.max_trial) {
             self.write_counts(block, counts);
@@ -447,8 +427,8 @@ impl<A: Allocator> Blocks<A> {
         }
     }
 
-    /// Sets the counts of `block`, which were `old`, once it has one more free slot and its trials begin anew, and moves it to the list
-    /// that they now name. An open block stays open, which shows without a list.
+    /// `change_counts` once the block has one more free slot and its trials begin anew. An open block stays open, which shows without a
+    /// list.
     #[inline(always)]
     pub(crate) fn add_counts(&mut self, block: usize, old: Counts, counts: Counts)
         requires was { old ≡ counts_at self.old.records.items block }
@@ -458,14 +438,7 @@ impl<A: Allocator> Blocks<A> {
         requires tried { pos 1 ≤ℤ self.old.max_trial }
         requires more { counts.num ≡ old.num +ℤ pos 1 }
         requires anew { counts.trial ≡ pos 0 }
-        ensures lists { HasLists (blocks_of self.new) }
-        ensures made { counts_at self.new.records.items block ≡ counts }
-        ensures others { (b : ℕ) → (b ≡ block → ⊥) → counts_at self.new.records.items b ≡ counts_at self.old.records.items b }
-        ensures idle { SameFrom self.old.active self.old.records.items self.new.records.items }
-        ensures len { length self.new.records.items ≡ length self.old.records.items }
-        ensures used { self.new.records.used ≡ self.old.records.used }
-        ensures active { self.new.active ≡ self.old.active }
-        ensures max_trial { self.new.max_trial ≡ self.old.max_trial }
+        ensures { SetsCounts self.old self.new block counts }
     {
         let limit = self.max_trial;
         if counts.num < 3 || old.trial == limit {

@@ -82,7 +82,7 @@ impl Corrupt {
     }
 
     /// Returns the fault of a chain that names a slot of another node, or of none.
-    pub fn unowned(slot: usize) -> Corrupt {
+    pub fn child_owner(slot: usize) -> Corrupt {
         Corrupt::siblings(slot, "child ownership link is invalid")
     }
 }

@@ -1,7 +1,8 @@
 //! A list of which only a prefix has been written yet.
 
-ghost use Rattle.std.specs.Prelude.{◌+◌, ◌++◌, ◌<◌, ◌≡◌, ◌≤◌, IfOk, length, OnErr, OnOk, replicate, slice_index_or, slice_set, take, vec_capacity, vec_len};
-ghost use Rattle.cedar_slots.specs.Padded.{Items, padded};
+ghost use Rattle.std.specs.Prelude.{◌+◌, ◌++◌, ◌<◌, ◌≡◌, ◌≤◌, IfOk, length, OnErr, OnOk, replicate};
+ghost use Rattle.std.specs.Prelude.{slice_index_or, slice_set, take, vec_capacity, vec_len};
+ghost use Rattle.cedar_slots.specs.Padded.{Items, with_blanks};
 
 use std::alloc::{AllocError, Allocator};
 use std::marker::Model;
@@ -25,7 +26,7 @@ pub struct Padded<T: Blank, A: Allocator> {
 impl<T: Blank, A: Allocator> Model for Padded<T, A> {
     ghost Value = { Items T };
 
-    ghost view = { λ p. record { items = padded T.BLANK p.len p.front.items; used = vec_len p.front; room = vec_capacity p.front } };
+    ghost view = { λ p. record { items = with_blanks T.BLANK p.len p.front.items; used = vec_len p.front; room = vec_capacity p.front } };
 
     ghost invariant = { λ p. (vec_len p.front ≤ p.len) × (p.len ≤ vec_capacity p.front) };
 }
@@ -49,6 +50,7 @@ impl<T: Blank, A: Allocator> Padded<T, A> {
 
     /// Returns how many items there are.
     pub fn len(&self) -> usize
+        //= `len` returns how many items there are.
         ensures { result ≡ length self.now.items }
     {
         self.len
@@ -56,6 +58,7 @@ impl<T: Blank, A: Allocator> Padded<T, A> {
 
     /// Returns how many items are written to memory.
     pub fn used(&self) -> usize
+        //= `used` returns how many items are written to memory: no more than there are. [with within]
         ensures used { result ≡ self.now.used }
         ensures within { self.now.used ≤ length self.now.items }
     {
@@ -139,18 +142,18 @@ impl<T: Blank, A: Allocator> Padded<T, A> {
     pub fn front(&self) -> &[T]
         //= `front` returns the items that are written to memory, and all others are blank. [with rest, used]
         ensures front { result.now ≡ take self.now.used self.now.items }
-        ensures rest { self.now.items ≡ padded T.BLANK (length self.now.items) result.now }
+        ensures rest { self.now.items ≡ with_blanks T.BLANK (length self.now.items) result.now }
         ensures used { self.now.used ≡ length result.now }
     {
         self.front.as_slice()
     }
 
     /// Returns a list with the same items, of which equally many are written to memory.
-    pub fn copied(&self) -> Result<Padded<T, A>, AllocError>
+    pub fn try_copy(&self) -> Result<Padded<T, A>, AllocError>
     where
         A: Copy,
 
-        //= `copied` returns a list with the same items, of which equally many are written to memory, or fails for lack of memory. [with
+        //= `try_copy` returns a list with the same items, of which equally many are written to memory, or fails for lack of memory. [with
         //  used, within]
         ensures items { IfOk result (λ copy. copy.items ≡ self.now.items) }
         ensures used { IfOk result (λ copy. copy.used ≡ self.now.used) }

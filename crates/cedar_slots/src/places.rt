@@ -1,6 +1,8 @@
 //! The slots and their blocks together: which slots are free, and where free ones are found.
 
-ghost use Rattle.std.specs.Prelude.{if◌then◌else◌, ◌*◌, ◌+◌, ◌/◌, ◌<◌, ◌==◌, ◌^◌, ◌≡◌, ◌≤ℤ◌, ◌≤◌, ◌⊎◌, count_by, false, IfErr, IfNone, IfOk, IfSome, int_lt, length, not, OnErr, OnOk, pos, slice_set, true, ℕ};
+ghost use Rattle.std.specs.Prelude.{if◌then◌else◌, ◌*◌, ◌+◌, ◌/◌, ◌<◌, ◌==◌, ◌^◌, ◌≡◌, ◌≤ℤ◌, ◌≤◌};
+ghost use Rattle.std.specs.Prelude.{◌⊎◌, count_by, false, IfErr, IfNone, IfOk, IfSome, int_lt};
+ghost use Rattle.std.specs.Prelude.{length, not, OnErr, OnOk, pos, slice_set, true, ℕ};
 ghost use Rattle.cedar_slots.specs.Places.{reject_at};
 
 use crate::blocks::{BlockType, Blocks};
@@ -21,7 +23,8 @@ pub struct Places<A: Allocator> {
 }
 
 /// Returns how many slots of `block` are counted as free and are in no ring: the root alone.
-pub fn reserved(block: usize) -> i16
+pub fn root_count(block: usize) -> i16
+    //= `root_count` is 1 of block 0, and 0 of any other block.
     ensures { result ≡ pos (if block == 0 then 1 else 0) }
 {
     if block == 0 { 1 } else { 0 }
@@ -40,9 +43,15 @@ fn first_rejects<A: Allocator>(alloc: A) -> Result<Vec<i16, A>, AllocError>
 }
 
 impl<A: Allocator> Places<A> {
-    ghost use Rattle.cedar_slots.specs.Words.{AddsBlock, blocks_of, counts_at, FreesSlot, Grown, is_free, IsBase, IsFreePlace, IsNewPlaces, IsOpenBlock, IsPowerOfTwo, IsSlotLimit, IsStart, MayRefuse, node_record_at, NoneFree, places_of, range_with_len, reject_at, Rejects, room_for_one, SameSlots, Shaped, slots_of, Sound, TakesSlot, Within};
+    ghost use Rattle.cedar_slots.specs.Words.{AddsBlock, blocks_of, counts_at, FreesSlot, Grown};
+    ghost use Rattle.cedar_slots.specs.Words.{is_free, IsBase, IsFreePlace, IsNewPlaces};
+    ghost use Rattle.cedar_slots.specs.Words.{IsOpenBlock, IsPowerOfTwo, IsSlotLimit, IsStart};
+    ghost use Rattle.cedar_slots.specs.Words.{MayRefuse, node_record_at, NoneFree, places_of};
+    ghost use Rattle.cedar_slots.specs.Words.{range_with_len, reject_at, Rejects, room_for_one};
+    ghost use Rattle.cedar_slots.specs.Words.{SameSlots, Shaped, slots_of, Sound, TakesSlot};
+    ghost use Rattle.cedar_slots.specs.Words.{TriesAtMost, Within};
 
-    /// One block, in which the root alone is in use.
+    /// One block, in which the root alone is held.
     pub fn new(alloc: A, root: NodeRecord, max_trial: i32) -> Result<Places<A>, AllocError>
     where
         A: Copy,
@@ -51,7 +60,7 @@ impl<A: Allocator> Places<A> {
         //= A new table is `Sound`.
         ensures sound { IfOk result (λ places. Sound (places_of places)) }
 
-        //= It has one block, in which only the root is in use, with the node that is given. [with root]
+        //= It has one block, in which only the root is held, with the node that is given. [with root]
         ensures made { IfOk result (λ places. IsNewPlaces (places_of places) max_trial) }
         ensures root { IfOk result (λ places. node_record_at places.slots.nodes.items 0 ≡ root) }
     {
@@ -78,11 +87,11 @@ impl<A: Allocator> Places<A> {
         })
     }
 
-    /// Returns how many slots in use aren't free.
-    pub fn used_slots(&self) -> usize
+    /// Returns how many slots are held.
+    pub fn held_slots(&self) -> usize
         requires { Sound (places_of self.now) }
 
-        //= `used_slots` is the number of slots in use that aren't free.
+        //= `held_slots` returns the number of held slots: those in use that aren't free.
         ensures { result ≡ count_by (λ s. not (is_free self.now.slots.nodes.items s)) (range_with_len 0 (256 * self.now.blocks.active)) }
     {
         let mut free: usize = 0;
@@ -111,10 +120,10 @@ impl<A: Allocator> Places<A> {
         requires node_used { int_lt node.check (pos 0) ≡ false }
 
         //= Calls that change a table keep `Sound`, whatever the order of rings and lists. [also push_e_node, write_node, write_info,
-        //  add_block, find_place, find_places]
+        //  add_block, find_place, find_places, grow]
         ensures sound { Sound (places_of self.new) }
 
-        //= `pop_e_node` takes the named free slot and stores the node there; no other slot becomes free or used, and neither another used
+        //= `pop_e_node` takes the named free slot and stores the node there; no other slot becomes free or held, and neither another held
         //  slot's node nor any slot's labels change.
         ensures takes_slot { TakesSlot (slots_of self.old.slots) (slots_of self.new.slots) slot node }
 
@@ -141,7 +150,7 @@ impl<A: Allocator> Places<A> {
         requires not_root { 0 < slot }
         ensures sound { Sound (places_of self.new) }
 
-        //= `push_e_node` frees the named slot and clears its labels; no other slot becomes free or used, and neither another used slot's
+        //= `push_e_node` frees the named slot and clears its labels; no other slot becomes free or held, and neither another held slot's
         //  node nor another slot's labels change.
         ensures frees_slot { FreesSlot (slots_of self.old.slots) (slots_of self.new.slots) slot }
         ensures active { self.new.blocks.active ≡ self.old.blocks.active }
@@ -150,7 +159,7 @@ impl<A: Allocator> Places<A> {
     {
         let block = slot / BLOCK_SIZE;
         let counts = self.blocks.counts(block);
-        if counts.num == reserved(block) {
+        if counts.num == root_count(block) {
             let floor = self.reject_for(counts.num + 1);
             self.slots.give_alone(slot);
             self.blocks
@@ -222,8 +231,13 @@ impl<A: Allocator> Places<A> {
         requires more { length self.old.blocks.records.items ≤ room }
         requires most { room ≤ 2 ^ 22 }
         ensures sound { Sound (places_of self.new) }
+
+        //= `grow` changes nothing but that blank slots and blocks come to the ends: if it succeeds, there are as many blocks as it was
+        //  asked for. [with len]
         ensures grown { Grown (places_of self.old) (places_of self.new) }
         ensures len { OnOk result (length self.new.blocks.records.items ≡ room) }
+
+        //= If it fails, the table is as it was, field by field.
         ensures err { OnErr result (places_of self.new ≡ places_of self.old) }
     {
         let more = room - self.blocks.records.len();
@@ -284,11 +298,16 @@ impl<A: Allocator> Places<A> {
 
         //= There are never more slots than the limit. [also find_place, find_places]
         ensures within { 256 * length self.new.blocks.records.items ≤ slots }
+
+        //= `add_block`, `find_place` and `find_places` don't change `max_trial`. [also find_place, find_places]
         ensures max_trial { self.new.blocks.max_trial ≡ self.old.blocks.max_trial }
 
         //= `add_block` puts the next block into use with all of its slots free, and changes no other slot.
         //= The number of blocks then doubles exactly if all were in use. [by capacity]
         ensures added { IfOk result (λ block. AddsBlock (places_of self.old) (places_of self.new) block) }
+
+        //= It changes what is counted of no other block.
+        ensures others { IfOk result (λ block. (b : ℕ) → (b ≡ block → ⊥) → counts_at self.new.blocks.records.items b ≡ counts_at self.old.blocks.records.items b) }
 
         //= It fails for lack of memory only if all blocks are in use and the limit isn't reached, for lack of slots only if as many as the
         //  limit allows are in use: so not for lack of memory while blocks are spare.
@@ -340,6 +359,7 @@ impl<A: Allocator> Places<A> {
         requires place { IsFreePlace (places_of self.old) slot }
         ensures sound { Sound (places_of self.new) }
         ensures same { SameSlots (places_of self.old) (places_of self.new) }
+        ensures others { (b : ℕ) → (b ≡ slot / 256 → ⊥) → counts_at self.new.blocks.records.items b ≡ counts_at self.old.blocks.records.items b }
     {
         let block = slot / BLOCK_SIZE;
         let counts = self.blocks.counts(block);
@@ -376,7 +396,7 @@ impl<A: Allocator> Places<A> {
         self.lower_reject(counts.num, wanted);
         let max_trial = self.blocks.max_trial;
         self.blocks
-            .set_counts(block, counts.failed(wanted, max_trial));
+            .set_counts(block, counts.after_failure(wanted, max_trial));
     }
 
     /// Returns the first free slot of `block` that the first label can take with room for all others,
@@ -412,14 +432,15 @@ impl<A: Allocator> Places<A> {
     }
 
     /// A base from which all labels have free slots, in an open block, as far as `reject` and
-    /// `max_trial` allow a search.
-    fn search(&mut self, labels: &[u8]) -> Option<usize>
+    /// `max_trial` allow a search. It tries `search_limit` blocks at most.
+    fn search(&mut self, labels: &[u8], search_limit: usize) -> Option<usize>
         requires sound { Sound (places_of self.old) }
         requires some { 0 < length labels.now }
         requires few { length labels.now ≤ 256 }
         ensures sound { Sound (places_of self.new) }
         ensures same { SameSlots (places_of self.old) (places_of self.new) }
         ensures found { IfSome result (λ base. IsBase (places_of self.new) base labels.now) }
+        ensures tried { TriesAtMost search_limit (blocks_of self.old.blocks) (blocks_of self.new.blocks) }
     {
         let head = self.blocks.first(BlockType::Open);
         if head == 0 {
@@ -427,7 +448,7 @@ impl<A: Allocator> Places<A> {
         }
         let last = self.blocks.previous(head);
         let mut block = head;
-        for _ in 0..self.blocks.active {
+        for turn in 0..self.blocks.active.min(search_limit) {
             if let Some(slot) = self.start_in(block, labels) {
                 self.begin_at(slot);
                 return Some(slot ^ usize::from(labels[0]));
@@ -443,8 +464,14 @@ impl<A: Allocator> Places<A> {
     }
 
     /// A base from which all labels have free slots, outside block 0: in an open block that fits
-    /// them all, as far as rejections and trials allow a search, else in a new one. No clause says which.
-    pub fn find_places(&mut self, labels: &[u8], slots: usize) -> Result<usize, Shortage>
+    /// them all, as far as rejections and trials allow a search, else in a new one. A search tries `search_limit`
+    /// open blocks at most. No clause says which base it is.
+    pub fn find_places(
+        &mut self,
+        labels: &[u8],
+        slots: usize,
+        search_limit: usize,
+    ) -> Result<usize, Shortage>
         requires sound { Sound (places_of self.old) }
         requires some { 0 < length labels.now }
         requires few { length labels.now ≤ 256 }
@@ -463,8 +490,11 @@ impl<A: Allocator> Places<A> {
         //= It fails as `add_block` does.
         ensures refused { IfErr result (λ error. MayRefuse (places_of self.old) slots error) }
         ensures err { OnErr result (SameSlots (places_of self.old) (places_of self.new)) }
+
+        //= It changes what is counted of `search_limit` open blocks at most, beside the block that it makes.
+        ensures tried { TriesAtMost (search_limit + 1) (blocks_of self.old.blocks) (blocks_of self.new.blocks) }
     {
-        if let Some(base) = self.search(labels) {
+        if let Some(base) = self.search(labels, search_limit) {
             return Ok(base);
         }
         let block = self.add_block(slots)?;

@@ -44,7 +44,7 @@ pub struct BlockRecord {
 }
 
 impl BlockRecord {
-    /// Block 0 with only the root in use: it is in no list but the ring of the full one.
+    /// Block 0 with only the root held: it is in no list but the ring of the full one.
     pub const ROOT: BlockRecord = BlockRecord {
         prev: 0,
         next: 0,

@@ -15,6 +15,7 @@ pub enum Shortage {
 }
 
 impl From<AllocError> for Shortage {
+    //= A failed allocation becomes `Memory`.
     ghost from_gives = { λ _ error. error ≡ Memory };
 
     fn from(_: AllocError) -> Shortage {

@@ -1,6 +1,8 @@
 //! The slots, and the rings of the free ones.
 
-ghost use Rattle.std.specs.Prelude.{◌*◌, ◌+◌, ◌-◌, ◌/◌, ◌<◌, ◌^◌, ◌≡◌, ◌≤ℤ◌, ◌≤◌, ◌⊎◌, bit_xor, IsTrue, length, pos, slice_index_or, slice_set, true, unsigned_abs, ℕ};
+ghost use Rattle.std.specs.Prelude.{◌*◌, ◌+◌, ◌-◌, ◌/◌, ◌<◌, ◌^◌, ◌≡◌, ◌≤ℤ◌, ◌≤◌, ◌⊎◌};
+ghost use Rattle.std.specs.Prelude.{bit_xor, IsTrue, length, pos, slice_index_or, slice_set};
+ghost use Rattle.std.specs.Prelude.{true, unsigned_abs, ℕ};
 
 use crate::padded::Padded;
 use crate::records::{NInfoRecord, NodeRecord};
@@ -19,7 +21,9 @@ pub struct Slots<A: Allocator> {
 }
 
 impl<A: Allocator> Slots<A> {
-    ghost use Rattle.cedar_slots.specs.Words.{AllFree, base_at, blank_info, check_at, given_after, given_alone, is_free, node_record_at, nodes_after_link, nodes_after_take, SlotLink};
+    ghost use Rattle.cedar_slots.specs.Words.{AllFree, base_at, blank_info, check_at, given_after};
+    ghost use Rattle.cedar_slots.specs.Words.{given_alone, is_free, node_record_at};
+    ghost use Rattle.cedar_slots.specs.Words.{nodes_after_link, nodes_after_take, SlotLink};
 
     /// Returns the free slot after `slot` in its ring.
     pub(crate) fn next_free(&self, slot: usize) -> usize

@@ -4,11 +4,11 @@ use Rattle.std.proofs.Common.{◌≡◌, ℕ, Bool, true, false, ℤ, List, [], 
 use Rattle.std.specs.Cmp.Lexicographic.{bytes_decides, pointwise}
 use Rattle.std.specs.List.{AllByRecursion}
 use Rattle.std.proofs.lemmas.Bool.{true≢false}
-use Rattle.cedar_tree.specs.State.{State, stored, erased}
-use Rattle.cedar_tree.specs.Tree.{number_at, put, cut, IsKey, IsSound, IsAscending}
-use Rattle.cedar_tree.proofs.TreeLemmas.{number_at-put_same, number_at-put_other, number_at-cut_same, number_at-cut_other, is_sound-put, is_sound-cut}
-use Rattle.cedar_tree.proofs.OrderLemmas.{ascending-put, ascending-cut, one_tree}
-use Rattle.cedar_store.specs.Changes.{Change, put_at, erase_at, changed, all_changed}
+use Rattle.cedarwood.specs.State.{State, after_put, after_erase}
+use Rattle.cedarwood.specs.Tree.{number_at, put, cut, IsKey, IsSound, IsAscending}
+use Rattle.cedarwood.proofs.TreeLemmas.{number_at-put_same, number_at-put_other, number_at-cut_same, number_at-cut_other, is_sound-put, is_sound-cut}
+use Rattle.cedarwood.proofs.OrderLemmas.{ascending-put, ascending-cut, one_tree}
+use Rattle.cedar_store.specs.Changes.{Change, put_at, erase_at, after_change, all_changed}
 use Rattle.cedar_store.specs.Batches.{only_updated, all_updated, is_put_by, late_erased, all_erased_late, HasKey}
 
 -- ---- what is held at one path
@@ -84,21 +84,21 @@ pub record IsGood (s : State) : Type 0 where
   pub sound : IsSound s.tree
   pub ascending : IsAscending s.tree.children
 
-good_put : (s : State) (key : List ℕ) (v : ℤ) → IsGood s → IsKey key → IsGood (stored s key v)
+good_put : (s : State) (key : List ℕ) (v : ℤ) → IsGood s → IsKey key → IsGood (after_put s key v)
 good_put s key v good is = record {
   ordered = good.ordered;
   sound = is_sound-put s.tree s.ordered key v is good.sound;
   ascending = subst (λ b. IsAscending (put s.tree b key v).children) (sym good.ordered) (ascending-put s.tree key v good.ascending);
 }
 
-good_cut : (s : State) (key : List ℕ) → IsGood s → IsGood (erased s key)
+good_cut : (s : State) (key : List ℕ) → IsGood s → IsGood (after_erase s key)
 good_cut s key good = record {
   ordered = good.ordered;
   sound = is_sound-cut s.tree key good.sound;
   ascending = ascending-cut s.tree key good.ascending;
 }
 
-good_changed : (s : State) (c : Change) → IsGood s → HasKey c → IsGood (changed s c)
+good_changed : (s : State) (c : Change) → IsGood s → HasKey c → IsGood (after_change s c)
 good_changed s (put_at key v) good is = good_put s key v good is
 good_changed s (erase_at key) good is = good_cut s key good
 
@@ -109,25 +109,25 @@ good_updated s (erase_at key) good is = good
 good_late : (s : State) (c : Change) (later : List Change) → IsGood s → IsGood (late_erased s c later)
 good_late s (put_at key v) later good = good
 good_late s (erase_at key) later good =
-    elim (is_put_by key later) as (λ b. IsGood (cond b s (erased s key))) [ true ↦ good | false ↦ good_cut s key good ]
+    elim (is_put_by key later) as (λ b. IsGood (cond b s (after_erase s key))) [ true ↦ good | false ↦ good_cut s key good ]
 
 -- ---- what such a state holds at a path
 
-held_put : (s : State) (key : List ℕ) (v : ℤ) (k : List ℕ) → number_at (stored s key v).tree k ≡ cond (pointwise nat_eq k key) (Some v) (number_at s.tree k)
+held_put : (s : State) (key : List ℕ) (v : ℤ) (k : List ℕ) → number_at (after_put s key v).tree k ≡ cond (pointwise nat_eq k key) (Some v) (number_at s.tree k)
 held_put s key v k =
     (elim (pointwise nat_eq k key) as (λ b. pointwise nat_eq k key ≡ b → number_at (put s.tree s.ordered key v) k ≡ cond b (Some v) (number_at s.tree k)) [
       | true ↦ λ e. ap (λ q. number_at (put s.tree s.ordered key v) q) ((bytes_decides k key).0 e) ∙ number_at-put_same s.tree s.ordered key v
       | false ↦ λ e. number_at-put_other s.tree s.ordered key v k (λ same. absurd (true≢false (sym ((bytes_decides k key).1 same) ∙ e)))
     ]) refl
 
-held_cut : (s : State) (key : List ℕ) (k : List ℕ) → IsGood s → number_at (erased s key).tree k ≡ cond (pointwise nat_eq k key) None (number_at s.tree k)
+held_cut : (s : State) (key : List ℕ) (k : List ℕ) → IsGood s → number_at (after_erase s key).tree k ≡ cond (pointwise nat_eq k key) None (number_at s.tree k)
 held_cut s key k good =
     (elim (pointwise nat_eq k key) as (λ b. pointwise nat_eq k key ≡ b → number_at (cut s.tree key) k ≡ cond b None (number_at s.tree k)) [
       | true ↦ λ e. ap (λ q. number_at (cut s.tree key) q) ((bytes_decides k key).0 e) ∙ number_at-cut_same s.tree key good.sound.1
       | false ↦ λ e. number_at-cut_other s.tree key k good.sound.1 (λ same. absurd (true≢false (sym ((bytes_decides k key).1 same) ∙ e)))
     ]) refl
 
-held_changed : (s : State) (c : Change) (k : List ℕ) → IsGood s → number_at (changed s c).tree k ≡ by_change k (number_at s.tree k) c
+held_changed : (s : State) (c : Change) (k : List ℕ) → IsGood s → number_at (after_change s c).tree k ≡ by_change k (number_at s.tree k) c
 held_changed s (put_at key v) k good = held_put s key v k
 held_changed s (erase_at key) k good = held_cut s key k good
 
@@ -138,7 +138,7 @@ held_updated s (erase_at key) k = refl
 held_late : (s : State) (c : Change) (later : List Change) (k : List ℕ) → IsGood s → number_at (late_erased s c later).tree k ≡ by_late k (number_at s.tree k) c later
 held_late s (put_at key v) later k good = refl
 held_late s (erase_at key) later k good =
-    elim (is_put_by key later) as (λ b. number_at (cond b s (erased s key)).tree k ≡ cond b (number_at s.tree k) (cond (pointwise nat_eq k key) None (number_at s.tree k))) [
+    elim (is_put_by key later) as (λ b. number_at (cond b s (after_erase s key)).tree k ≡ cond b (number_at s.tree k) (cond (pointwise nat_eq k key) None (number_at s.tree k))) [
       | true ↦ refl
       | false ↦ held_cut s key k good
     ]
@@ -147,7 +147,7 @@ held_late s (erase_at key) later k good =
 
 good_all_changed : (changes : List Change) (s : State) → IsGood s → AllByRecursion HasKey changes → IsGood (all_changed s changes)
 good_all_changed [] s good keys = good
-good_all_changed (c ∷ changes) s good keys = good_all_changed changes (changed s c) (good_changed s c good keys.0) keys.1
+good_all_changed (c ∷ changes) s good keys = good_all_changed changes (after_change s c) (good_changed s c good keys.0) keys.1
 
 pub good_all_updated : (changes : List Change) (s : State) → IsGood s → AllByRecursion HasKey changes → IsGood (all_updated s changes)
 good_all_updated [] s good keys = good
@@ -160,7 +160,7 @@ good_all_late (c ∷ changes) s good = good_all_late changes (late_erased s c ch
 held_all_changed : (k : List ℕ) (changes : List Change) (s : State) → IsGood s → AllByRecursion HasKey changes → number_at (all_changed s changes).tree k ≡ fold (by_change k) (number_at s.tree k) changes
 held_all_changed k [] s good keys = refl
 held_all_changed k (c ∷ changes) s good keys =
-    held_all_changed k changes (changed s c) (good_changed s c good keys.0) keys.1 ∙ ap (λ o. fold (by_change k) o changes) (held_changed s c k good)
+    held_all_changed k changes (after_change s c) (good_changed s c good keys.0) keys.1 ∙ ap (λ o. fold (by_change k) o changes) (held_changed s c k good)
 
 held_all_updated : (k : List ℕ) (changes : List Change) (s : State) → number_at (all_updated s changes).tree k ≡ fold (by_update k) (number_at s.tree k) changes
 held_all_updated k [] s = refl

@@ -1,33 +1,32 @@
 -- A file that has one record for each entry of a dictionary.
-use Rattle.std.specs.Prelude.{◌&&◌, ◌-◌, ◌*◌, fold, int_le, max, nat_lt, pos, Bool, false, IfErr, IsErrAnd, IsErrOf, OnErr, OnOk, Result, Ok, Err, option_and_then, option_map, Option, Some, None, IfSome}
-use Rattle.std.proofs.Common.{◌≡◌, ◌⊎◌, inl, inr, ⊎_elim, ◌<◌, ℕ, zero, suc, ◌+◌, ℤ, true, List, [], ◌∷◌, ◌++◌, drop, take, refl, sym, ◌∙◌, ap, subst, arith}
+use Rattle.std.specs.Prelude.{◌&&◌, ◌-◌, ◌*◌, fold, int_le, max, nat_lt, pos, Bool, false, IfErr, IsErrAnd, IsErrOf, OnOk, Result, Ok, Err, option_and_then, option_map, Option, Some, None, IfSome}
+use Rattle.std.proofs.Common.{◌≡◌, ◌⊎◌, inl, inr, ⊎_elim, ◌<◌, ℕ, ◌+◌, ℤ, true, List, [], ◌∷◌, ◌++◌, drop, take, refl, sym, ◌∙◌, ap, subst, arith}
 use Rattle.std.proofs.lemmas.Bool.{false≢true}
 use Rattle.std.proofs.lemmas.Bool.Decides.{nat_tests}
-use Rattle.std.specs.List.{AllByRecursion, Contains}
+use Rattle.std.specs.List.{AllByRecursion}
 use Rattle.cedar_journal.specs.declared.device.DeviceError.{DeviceError}
 use Rattle.cedar_journal.specs.declared.device.DeviceError.TheVariants as device
 use Rattle.cedar_journal.specs.declared.replace.ReplaceError.{ReplaceError}
 use Rattle.cedar_journal.specs.declared.replace.ReplaceError.TheVariants as replace
 use Rattle.cedar_journal.specs.declared.format.Format.{Format}
 use Rattle.cedar_journal.specs.declared.format.Format.TheVariants.{Summed}
-use Rattle.cedar_journal.specs.Files.{IsWholeFront, recovered, added}
+use Rattle.cedar_journal.specs.Files.{file_payloads, IsWholeFront, with_payload}
 use Rattle.cedar_journal.specs.Formats.{AreWhole, payloads_read, records_read}
 use Rattle.cedar_journal.specs.Images.{image_of, records_of}
 use Rattle.cedar_journal.specs.Journal.{IsSettled}
 use Rattle.cedar_journal.specs.Replacing.{IfKept}
 use Rattle.cedar_journal.proofs.Images.{image_stands}
-use Rattle.cedar_tree.specs.Queries.{Entry, walk}
-use Rattle.cedar_tree.specs.State.{State, new_state}
-use Rattle.cedar_tree.specs.Tree.{AllNumbers, IsAscending, IsKey, IsPath, IsSound, Tree, number_at, put}
-use Rattle.cedar_tree.proofs.EntryLemmas.Keys.{asc-walk, held_key}
-use Rattle.cedar_tree.proofs.MemberLemmas.{contains_here, contains_later, held_from_walk}
-use Rattle.cedar_tree.proofs.TreeLemmas.{all-number_at}
+use Rattle.cedarwood.specs.Queries.{Entry, walk}
+use Rattle.cedarwood.specs.State.{State, new_state}
+use Rattle.cedarwood.specs.Tree.{AllNumbers, IsAscending, IsKey, IsSound, Tree, number_at, put}
+use Rattle.cedarwood.proofs.EntryLemmas.Keys.{asc-walk, held_key, all_contained}
+use Rattle.cedarwood.proofs.MemberLemmas.{held_from_walk}
+use Rattle.cedarwood.proofs.TreeLemmas.{all-number_at}
 use Rattle.cedarwood.specs.Builds.{all_stored}
 use Rattle.cedarwood.specs.Fault.{fault, key_fault, or_else, value_fault}
-use Rattle.cedarwood.specs.SortedInput.{HasNoNul}
 use Rattle.cedarwood.proofs.DictionaryLemmas.{no_value_fault}
-use Rattle.cedarwood.proofs.SortedInputLemmas.{clean_key}
-use Rattle.cedar_store.specs.Changes.{Change, after, all_changed, changes_of, put_at, replayed}
+use Rattle.cedarwood.proofs.SortedInputLemmas.{clean_key, path_clean}
+use Rattle.cedar_store.specs.Changes.{Change, after, all_changed, changes_of, put_at, after_payloads}
 use Rattle.cedar_store.specs.declared.compaction.Compaction.{Compaction}
 use Rattle.cedar_store.specs.declared.compaction.Compaction.TheVariants.{Never, Beyond}
 use Rattle.cedar_store.specs.declared.compaction.CompactError.{CompactError}
@@ -43,18 +42,9 @@ use Rattle.cedar_store.proofs.States.{replayed_more}
 abbrev is_value : ℤ → Bool
 is_value v = int_le (pos 0) v && int_le v (pos 2147483645)
 
-path_has_no_nul : (key : List ℕ) → IsPath key → HasNoNul key
-path_has_no_nul [] path i low = absurd (omega (arith, low))
-path_has_no_nul (b ∷ key) path zero low = λ nul. let some = path.0 in absurd (omega (arith, some, nul))
-path_has_no_nul (b ∷ key) path (suc i) low = path_has_no_nul key path.2 i (omega (arith, low))
-
 key_is_clean : (key : List ℕ) → IsKey key → key_fault key ≡ None
 key_is_clean [] none = absurd none
-key_is_clean (b ∷ key) path = clean_key (b ∷ key) (path_has_no_nul (b ∷ key) path) (omega arith)
-
-all_contained : {X : Type 0} (P : X → Type 0) (xs : List X) → ((x : X) → Contains xs x → P x) → AllByRecursion P xs
-all_contained P [] each = tt
-all_contained P (x ∷ xs) each = (each x (contains_here x xs), all_contained P xs (λ y there. each y (contains_later x xs y there)))
+key_is_clean (b ∷ key) path = clean_key (b ∷ key) (path_clean (b ∷ key) path) (omega arith)
 
 entry_is_sound : (t : Tree) → IsSound t → AllNumbers (λ v. is_value v ≡ true) t.children → (e : Entry) → number_at t e.0 ≡ Some e.1 → fault e.0 e.1 ≡ None
 entry_is_sound t sound values e held =
@@ -83,23 +73,23 @@ stepped later p key v is None = refl
 stepped later p key v is (Some s) = ap (λ (c : Option (List Change)). option_map (λ t. all_stored t later) (option_map (all_changed s) c)) is
 
 pub one_put : (ps more : List (List ℕ)) (p key : List ℕ) (v : ℤ) (later : List Entry) → more ≡ ps ++ p ∷ [] → changes_of p ≡ Some (put_at key v ∷ [])
-    → option_map (λ s. all_stored s later) (replayed new_state more) ≡ option_map (λ s. all_stored s ((key, v) ∷ later)) (replayed new_state ps)
+    → option_map (λ s. all_stored s later) (after_payloads new_state more) ≡ option_map (λ s. all_stored s ((key, v) ∷ later)) (after_payloads new_state ps)
 one_put ps more p key v later behind is =
-    ap (λ (l : List (List ℕ)). option_map (λ s. all_stored s later) (replayed new_state l)) behind
+    ap (λ (l : List (List ℕ)). option_map (λ s. all_stored s later) (after_payloads new_state l)) behind
     ∙ ap (option_map (λ s. all_stored s later)) (replayed_more ps p new_state)
-    ∙ stepped later p key v is (replayed new_state ps)
+    ∙ stepped later p key v is (after_payloads new_state ps)
 
 pub none_left : (o : Option State) → option_map (λ s. all_stored s []) o ≡ o
 none_left None = refl
 none_left (Some s) = refl
 
--- ---- what the file stands for
+-- ---- what the file represents
 
--- a record more, of a file that stands for any state or for none
-pub state_more : (file c p : List ℕ) → recovered c ≡ added p (recovered file) → state_of c ≡ option_and_then (λ s. after s p) (state_of file)
-state_more file c p more = ap (option_and_then (replayed new_state)) more ∙ with_one (recovered file)
+-- a record more, of a file that represents any state or none
+pub state_more : (file c p : List ℕ) → file_payloads c ≡ with_payload p (file_payloads file) → state_of c ≡ option_and_then (λ s. after s p) (state_of file)
+state_more file c p more = ap (option_and_then (after_payloads new_state)) more ∙ with_one (file_payloads file)
   where
-    with_one : (r : Option (List (List ℕ))) → option_and_then (replayed new_state) (added p r) ≡ option_and_then (λ s. after s p) (option_and_then (replayed new_state) r)
+    with_one : (r : Option (List (List ℕ))) → option_and_then (after_payloads new_state) (with_payload p r) ≡ option_and_then (λ s. after s p) (option_and_then (after_payloads new_state) r)
     with_one None = refl
     with_one (Some ps) = replayed_more ps p new_state
 
@@ -122,7 +112,7 @@ pub still_usable : {X E : Type 0} (r : Result X E) (failed : Bool) (base end : �
 still_usable (Ok x) failed base end done = done.0
 still_usable (Err e) failed base end done = tt
 
--- the change of a record that was told of any state
+-- the change of a record that was given for any state
 pub change_of_one : (o : Option State) (s t : State) (p : List ℕ) → option_and_then (λ u. after u p) o ≡ Some t → o ≡ Some s → after s p ≡ Some t
 change_of_one o s t p stands is = sym (ap (option_and_then (λ u. after u p)) is) ∙ stands
 
@@ -160,12 +150,12 @@ at_kept P e d is holds = subst (λ x. IfKept {T = Unit {0}} (Err x) P) is holds
 -- ---- the file that is there
 
 pub stands_of_image : (bytes f : List ℕ) (s : State) → bytes ≡ image_of (records_of bytes) → AreWhole Summed (records_of bytes)
-    → replayed new_state (payloads_read (records_read Summed (records_of bytes))) ≡ Some s → f ≡ bytes → state_of f ≡ Some s
-stands_of_image bytes f s shape whole made is = ap (option_and_then (replayed new_state)) (ap recovered (is ∙ shape) ∙ image_stands (records_of bytes) whole) ∙ made
+    → after_payloads new_state (payloads_read (records_read Summed (records_of bytes))) ≡ Some s → f ≡ bytes → state_of f ≡ Some s
+stands_of_image bytes f s shape whole made is = ap (option_and_then (after_payloads new_state)) (ap file_payloads (is ∙ shape) ∙ image_stands (records_of bytes) whole) ∙ made
 
 -- what is left of a file that was to be replaced by these bytes, as they are shown
 pub image_or_before : (before : List ℕ → Type 0) (bytes shown : List ℕ) (s : State) → bytes ≡ image_of (records_of bytes) → AreWhole Summed (records_of bytes)
-    → replayed new_state (payloads_read (records_read Summed (records_of bytes))) ≡ Some s → shown ≡ bytes → (f : List ℕ) → before f ⊎ (f ≡ shown) → before f ⊎ StandsFor s f
+    → after_payloads new_state (payloads_read (records_read Summed (records_of bytes))) ≡ Some s → shown ≡ bytes → (f : List ℕ) → before f ⊎ (f ≡ shown) → before f ⊎ StandsFor s f
 image_or_before before bytes shown s shape whole made same f = ⊎_elim (λ was. inl was) (λ is. inr (stands_of_image bytes f s shape whole made (is ∙ same)))
 
 module _ {D : Type 0} (seen : D → List ℕ) (may_leave : D → List ℕ → Type 0) where
@@ -198,24 +188,16 @@ module _ {D : Type 0} (seen : D → List ℕ) (may_leave : D → List ℕ → Ty
 
 -- ---- what an acknowledged change has done to the file
 
-pub on_ok : {X E P Q : Type 0} (r : Result X E) → (P → Q) → OnOk r P → OnOk r Q
-on_ok (Ok x) so holds = so holds
-on_ok (Err e) so holds = tt
-
 pub on_err : {X E : Type 0} {P Q : E → Type 0} (r : Result X E) → ((e : E) → P e → Q e) → IfErr r P → IfErr r Q
 on_err (Ok x) so holds = tt
 on_err (Err e) so holds = so e holds
 
-pub on_err_told : {X E P Q : Type 0} (r : Result X E) → (P → Q) → OnErr r P → OnErr r Q
-on_err_told (Ok x) so holds = tt
-on_err_told (Err e) so holds = so holds
-
 -- a file that has one record more, and was looked at
-pub still_more : {S : Type 0} (before between after payload : List ℕ) → recovered between ≡ added payload (recovered before) → (after ≡ between) ⊎ S
-    → (recovered after ≡ added payload (recovered before)) ⊎ S
-still_more before between after payload more = ⊎_elim (λ same. inl (ap recovered same ∙ more)) (λ short. inr short)
+pub still_more : {S : Type 0} (before between after payload : List ℕ) → file_payloads between ≡ with_payload payload (file_payloads before) → (after ≡ between) ⊎ S
+    → (file_payloads after ≡ with_payload payload (file_payloads before)) ⊎ S
+still_more before between after payload more = ⊎_elim (λ same. inl (ap file_payloads same ∙ more)) (λ short. inr short)
 
 -- that record has these changes
 pub recorded_in : {S : Type 0} (before after payload : List ℕ) (changes : List Change) → changes_of payload ≡ Some changes
-    → (recovered after ≡ added payload (recovered before)) ⊎ S → AddsRecord changes before after ⊎ S
+    → (file_payloads after ≡ with_payload payload (file_payloads before)) ⊎ S → AddsRecord changes before after ⊎ S
 recorded_in before after payload changes told = ⊎_elim (λ more. inl (record { payload = payload; behind = more; change = told })) (λ short. inr short)

@@ -3,11 +3,12 @@ use Rattle.std.specs.Prelude.{option_map, Option, Some, None}
 use Rattle.std.proofs.Common.{◌≡◌, ◌≤◌, ◌∙◌, ℕ, zero, suc, ◌+◌, Bool, true, false, cond, List, [], ◌∷◌, ◌++◌, length, take, drop, sym, ap, arith, length-append, length-drop}
 use Rattle.cedar_journal.specs.declared.format.Format.{Format}
 use Rattle.cedar_journal.specs.declared.format.Format.TheVariants.{Plain, Summed}
-use Rattle.cedar_journal.specs.Files.{HasRecords, IsNewFile, IsWholeFront, added, file_reading, format_of, is_begun, read_by, recovered, recovered_by}
+use Rattle.cedar_journal.specs.Files.{HasRecords, IsNewFile, IsWholeFront, with_payload, file_reading, format_of, is_begun, read_by, file_payloads, recovered_by}
 use Rattle.cedar_journal.specs.Formats.{Reading, damaged, four_at, is_ended, is_summed, payloads_read, read_behind, read_first, records_read, stands}
 use Rattle.cedar_journal.specs.Records.{behind_record, first_payloads, has_record, payload, payloads_in}
 use Rattle.cedar_journal.proofs.Crash as crash
-use Rattle.cedar_journal.proofs.Headers.{front_alone, front_ends, none_is}
+use Rattle.cedar_journal.proofs.Headers.{front_alone, front_ends}
+use Rattle.std.proofs.lemmas.Option.{none-some}
 use Rattle.cedar_journal.proofs.Readings.{shut}
 use Rattle.cedar_store.specs.Files.{record_count}
 
@@ -48,11 +49,11 @@ few_read Summed bytes = few_first (length bytes) bytes
 
 few_stands : (k : ℕ) (r : Reading) (ps : List (List ℕ)) (n : ℕ) → length (payloads_read r) ≤ n → recovered_by (Some (read_behind k [] r)) ≡ Some ps → length ps ≤ n
 few_stands k (stands qs) ps n few is = let same : qs ≡ ps = cc in omega (arith, few, ap length same)
-few_stands k (damaged place) ps n few is = absurd (none_is ps is)
+few_stands k (damaged place) ps n few is = absurd (none-some ps is)
 
 few_new : (b : Bool) (ps : List (List ℕ)) (n : ℕ) → recovered_by (cond b (Some (stands [])) None) ≡ Some ps → length ps ≤ n
 few_new true ps n is = let same : ◌≡◌ {A = List (List ℕ)} [] ps = cc in omega (arith, ap length same)
-few_new false ps n is = absurd (none_is ps is)
+few_new false ps n is = absurd (none-some ps is)
 
 few_by : (o : Option Format) (bytes : List ℕ) (ps : List (List ℕ)) → recovered_by (read_by o bytes) ≡ Some ps → length ps ≤ length bytes
 few_by None bytes ps is = few_new (is_begun bytes) ps (length bytes) is
@@ -60,14 +61,14 @@ few_by (Some f) bytes ps is =
     let few = few_read f (drop 13 bytes) in
     few_stands 13 (records_read f (drop 13 bytes)) ps (length bytes) (omega (arith, few, length-drop 13 bytes)) is
 
-few_recovered : (bytes : List ℕ) (ps : List (List ℕ)) → recovered bytes ≡ Some ps → length ps ≤ length bytes
-unfolding recovered file_reading
+few_recovered : (bytes : List ℕ) (ps : List (List ℕ)) → file_payloads bytes ≡ Some ps → length ps ≤ length bytes
+unfolding file_payloads file_reading
 few_recovered bytes ps is = few_by (format_of bytes) bytes ps is
 
 -- a file at rest has no more records than bytes up to where they end
 pub few_settled : (file : List ℕ) (f : Format) (end records : ℕ) → file ≡ take end file ++ 0 ∷ drop (end + 1) file → IsWholeFront f (take end file) → record_count file ≡ Some records → records ≤ end
 few_settled file f end records split front counted =
-    let whole = ap recovered split ∙ front_ends f (take end file) front.0 front.1 (0 ∷ drop (end + 1) file) (shut f (drop (end + 1) file)) in
+    let whole = ap file_payloads split ∙ front_ends f (take end file) front.0 front.1 (0 ∷ drop (end + 1) file) (shut f (drop (end + 1) file)) in
     let both : Some (length front.0) ≡ Some records = sym (ap (option_map length) whole) ∙ counted in
     let is : length front.0 ≡ records = cc in
     omega (arith, is, few_recovered (take end file) front.0 (front_alone f (take end file) front.0 front.1), crash.front_ends file end split)
@@ -82,11 +83,11 @@ records_counted file f end records = ap (option_map length) records.stands
 
 -- ---- one more
 
-counted_one : (r : Option (List (List ℕ))) (p : List ℕ) (n m : ℕ) → option_map length r ≡ Some n → m ≡ n + 1 → option_map length (added p r) ≡ Some m
-counted_one None p n m is more = absurd (none_is n is)
+counted_one : (r : Option (List (List ℕ))) (p : List ℕ) (n m : ℕ) → option_map length r ≡ Some n → m ≡ n + 1 → option_map length (with_payload p r) ≡ Some m
+counted_one None p n m is more = absurd (none-some n is)
 counted_one (Some ps) p n m is more =
     let same : length ps ≡ n = cc in
     ap (λ k. Some k) (length-append ps (p ∷ []) ∙ ap (λ k. k + 1) same ∙ sym more)
 
-pub counted_more : (before after p : List ℕ) (n m : ℕ) → record_count before ≡ Some n → recovered after ≡ added p (recovered before) → m ≡ n + 1 → record_count after ≡ Some m
-counted_more before after p n m is more next = ap (option_map length) more ∙ counted_one (recovered before) p n m is next
+pub counted_more : (before after p : List ℕ) (n m : ℕ) → record_count before ≡ Some n → file_payloads after ≡ with_payload p (file_payloads before) → m ≡ n + 1 → record_count after ≡ Some m
+counted_more before after p n m is more next = ap (option_map length) more ∙ counted_one (file_payloads before) p n m is next

@@ -12,6 +12,7 @@ use Rattle.cedar_store.specs.Causes.{IsRefusedAt, PrepareCause}
 use Rattle.cedar_store.specs.Changes.{Change, erase_at}
 use Rattle.cedar_store.proofs.Refused.{refused_cause}
 use Rattle.cedar_store.proofs.States.{none_is}
+use Rattle.std.proofs.lemmas.Option.{same_Some}
 
 -- ---- looked for one change after another
 
@@ -32,7 +33,7 @@ pub none_refused : (changes : List Change) (n : ℕ) → AllByRecursion IsFaultl
 none_refused [] n all = refl
 none_refused (c ∷ changes) n all = ap (λ o. fault_at n o (first_refused (n + 1) changes)) all.0 ∙ none_refused changes (n + 1) all.1
 
--- ---- what is told is so
+-- ---- what is reported is so
 
 record IsFirst (n : ℕ) (changes : List Change) (e : DurableError) : Type 0 where
   place : ℕ
@@ -41,15 +42,12 @@ record IsFirst (n : ℕ) (changes : List Change) (e : DurableError) : Type 0 whe
   low : place < length changes
   has : change_fault (change_at changes place) ≡ Some fault
 
-one_error : {X : Type 0} (a b : X) → Some a ≡ Some b → a ≡ b
-one_error a b e = cc
-
 at_or_behind : (c : Change) (changes : List Change) (n : ℕ) (e : DurableError) (o : Option CedarError) → change_fault c ≡ o
     → (first_refused (n + 1) changes ≡ Some e → IsFirst (n + 1) changes e) → fault_at n o (first_refused (n + 1) changes) ≡ Some e → IsFirst n (c ∷ changes) e
 at_or_behind c changes n e (Some f) is later told = record {
   place = 0;
   fault = f;
-  told = sym (one_error (RefusedAt n f) e told) ∙ ap (λ k. RefusedAt k f) (omega arith);
+  told = sym (same_Some (RefusedAt n f) e told) ∙ ap (λ k. RefusedAt k f) (omega arith);
   low = omega arith;
   has = is;
 }
@@ -76,7 +74,7 @@ first_cause changes end e is =
 
 -- ---- as it is handed on
 
--- a change that was tested has the fault that was told, or none
+-- a change that was tested has the fault that was reported, or none
 pub has_fault : (o : Option CedarError) (r : Result (Unit {0}) CedarError) (f : CedarError) → IfSome o (λ e. r ≡ Err e) → (o ≡ None → IsOk r) → r ≡ Err f → o ≡ Some f
 has_fault None r f faulty sound is = absurd (false≢true (subst IsOk is (sound refl)))
 has_fault (Some e) r f faulty sound is = let same : ◌≡◌ {A = Result (Unit {0}) CedarError} (Err e) (Err f) = sym faulty ∙ is in cc

@@ -1,14 +1,11 @@
 -- The erasures of a batch that waited for its updates.
 use Rattle.std.specs.Prelude.{◌||◌, Bool, true, false}
 use Rattle.std.proofs.Common.{◌≡◌, ℕ, suc, zero, ◌+◌, ◌-◌, ◌≤◌, ◌<◌, List, [], ◌∷◌, length, drop, sym, ◌∙◌, ap, arith}
-use Rattle.std.proofs.lemmas.Bool.{true≢false}
+use Rattle.std.proofs.lemmas.Bool.{true≢false, or_from}
 use Rattle.std.proofs.lemmas.List.{drop-drop, drop_all, drop_more}
-use Rattle.cedar_tree.specs.State.{State}
+use Rattle.cedarwood.specs.State.{State}
 use Rattle.cedar_store.specs.Batches.{all_erased_late, change_at, is_put_by, late_erased, puts}
 use Rattle.cedar_store.specs.Changes.{Change, erase_at}
-
-or_both : (a b : Bool) → a ≡ false → b ≡ false → (a || b) ≡ false
-or_both a b x y = ap (λ t. t || b) x ∙ y
 
 or_later : (a b : Bool) → (a || b) ≡ false → b ≡ false
 or_later true b e = absurd (true≢false e)
@@ -29,7 +26,7 @@ module _ (path : List ℕ) where
   pub one_less : (changes : List Change) (n : ℕ) → n < length changes → puts path (change_at changes n) ≡ false → is_put_by path (drop (n + 1) changes) ≡ false
       → is_put_by path (drop n changes) ≡ false
   one_less changes n low here later =
-      ap (is_put_by path) (drop_more changes n (erase_at []) low) ∙ or_both (puts path (change_at changes n)) (is_put_by path (drop (n + 1) changes)) here later
+      ap (is_put_by path) (drop_more changes n (erase_at []) low) ∙ or_from (puts path (change_at changes n)) (is_put_by path (drop (n + 1) changes)) here later
 
   pub none_behind : (changes : List Change) (n : ℕ) → length changes ≤ n → is_put_by path (drop n changes) ≡ false
   none_behind changes n high = ap (is_put_by path) (drop_all n changes high)
@@ -43,7 +40,7 @@ late_more s changes n low = ap (all_erased_late s) (sym (drop_more changes n (er
 pub late_done : (s : State) (changes : List Change) (n : ℕ) → length changes ≤ n → all_erased_late s (drop n changes) ≡ s
 late_done s changes n high = ap (all_erased_late s) (drop_all n changes high)
 
--- what is put from a place on, looked for one change after another
+-- what is put from a position on, looked for one change after another
 pub put_here : (path : List ℕ) (changes : List Change) (n : ℕ) → n < length changes → puts path (change_at changes n) ≡ true → is_put_by path (drop n changes) ≡ true
 put_here path changes n low here = ap (is_put_by path) (drop_more changes n (erase_at []) low) ∙ ap (λ t. t || is_put_by path (drop (n + 1) changes)) here
 

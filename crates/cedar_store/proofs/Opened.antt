@@ -8,7 +8,7 @@ use Rattle.cedar_store.specs.declared.error.DurableError.TheVariants as error
 use Rattle.cedar_store.specs.Causes.{LoadCause, OpenCause, ReadCause}
 use Rattle.cedar_store.specs.Told.{file_error}
 
--- what is told of a file that is refused
+-- what is reported of a file that is refused
 pub file_cause : (file : List ℕ) (why : FileFault) → IsFault file why → LoadCause file (file_error why)
 file_cause file fault.Foreign is = is
 file_cause file (fault.Damaged at) is = is

@@ -1,11 +1,11 @@
 -- A payload and its change.
 use Rattle.std.specs.Prelude.{◌&&◌, int_le, nat_eq, Bool, true, false, option_map, Option, Some, None, pos, ℤ, negsuc, Result, Ok, Err, IfSome, IfErr, IsErrAnd}
 use Rattle.std.proofs.Common.{◌≡◌, ◌≢◌, ℕ, ◌+◌, ◌*◌, ◌-◌, ◌<◌, ◌≤◌, List, [], ◌∷◌, cond, length, get_or, take, drop, refl, sym, subst, ◌∙◌, ap, arith, length-drop}
-use Rattle.std.proofs.lemmas.Bool.{cond-true, cond-false, eq-eqb, ne_eqb, le-leb, leb-true, lt-leb, false≢true}
+use Rattle.std.proofs.lemmas.Bool.{cond-true, cond-false, eq-eqb, ne_eqb, le-leb, leb-true, lt-leb, false≢true, and_right}
 use Rattle.std.proofs.lemmas.List.{take_all}
 use mir.Val.{of_z}
 use mir.Syntax.{w32}
-use Rattle.cedar_tree.specs.State.{State}
+use Rattle.cedarwood.specs.State.{State}
 use Rattle.cedarwood.specs.declared.error.CedarError.{CedarError}
 use Rattle.cedarwood.specs.declared.error.CedarError.TheVariants.{InvalidValue}
 use Rattle.cedarwood.specs.Fault.{fault, key_fault, value_fault, or_else, IsShortage}
@@ -13,7 +13,8 @@ use Rattle.cedarwood.proofs.UpdateLemmas.{fault_no_shortage}
 use Rattle.cedar_store.specs.declared.error.DurableError.{DurableError}
 use Rattle.cedar_store.specs.declared.error.DurableError.TheVariants as error
 use Rattle.cedar_store.specs.Causes.{ReplayCause}
-use Rattle.cedar_store.specs.Changes.{Change, change_of, changed, all_changed, batch_of, changes_of, after, put_of, put_unless, number_of_bytes, put_at, erase_at}
+use Rattle.cedar_store.specs.Changes.{Change, change_of, after_change, all_changed, batch_of, changes_of, after, put_of, put_unless, number_of_bytes, put_at, erase_at}
+use Rattle.std.proofs.lemmas.Option.{none-some}
 
 -- all behind some first bytes
 pub rest_is : (n : ℕ) (bytes : List ℕ) → take (length bytes - n) (drop n bytes) ≡ drop n bytes
@@ -47,9 +48,6 @@ of_other (x ∷ rest) some n m = cond-false _ _ _ (ne_eqb x 0 n) ∙ cond-false 
 
 -- ---- one change or a batch
 
-some_is_none : {A : Type 0} (a : A) → Some a ≡ None → ⊥
-some_is_none {A = A} a e = let apart : ◌≡◌ {A = Option A} (Some a) None = e in cc
-
 of_two : (payload : List ℕ) → get_or payload 0 0 ≡ 2 → change_of payload ≡ None
 of_two [] two = of_nothing [] refl
 of_two (x ∷ rest) two = of_other (x ∷ rest) (omega arith) (λ z. absurd (omega (arith, two, z))) (λ z. absurd (omega (arith, two, z)))
@@ -70,13 +68,13 @@ of_single payload other = cond-false _ _ _ (ne_eqb (get_or payload 0 0) 2 other)
 -- what has one change has no other
 pub one_change : (payload : List ℕ) (c : Change) → change_of payload ≡ Some c → changes_of payload ≡ Some (c ∷ [])
 one_change payload c is =
-    of_single payload (λ two. some_is_none c (sym is ∙ of_two payload two)) ∙ ap (option_map (λ (d : Change). d ∷ [])) is
+    of_single payload (λ two. none-some c (sym (of_two payload two) ∙ is)) ∙ ap (option_map (λ (d : Change). d ∷ [])) is
 
-single_maps : (s : State) (o : Option Change) → option_map (changed s) o ≡ option_map (all_changed s) (option_map (λ c. c ∷ []) o)
+single_maps : (s : State) (o : Option Change) → option_map (after_change s) o ≡ option_map (all_changed s) (option_map (λ c. c ∷ []) o)
 single_maps s None = refl
 single_maps s (Some c) = refl
 
-pub single_after : (s : State) (payload : List ℕ) → get_or payload 0 0 ≢ 2 → option_map (changed s) (change_of payload) ≡ after s payload
+pub single_after : (s : State) (payload : List ℕ) → get_or payload 0 0 ≢ 2 → option_map (after_change s) (change_of payload) ≡ after s payload
 single_after s payload other = single_maps s (change_of payload) ∙ ap (option_map (all_changed s)) (sym (of_single payload other))
 
 -- ---- a put
@@ -89,12 +87,8 @@ pub put_is : (bytes key : List ℕ) (v : ℤ) → 4 ≤ length bytes → key ≡
 unfolding put_of
 put_is bytes key v long same value = cond-true _ _ _ (le-leb 4 (length bytes) long) ∙ (λ i. put_unless (fault (sym same i) (sym value i)) (sym same i) (sym value i))
 
-neither : (a b : Bool) → b ≡ false → (a && b) ≡ false
-neither true b is = is
-neither false b is = refl
-
 value_too_high : (n : ℕ) → 2147483645 < n → value_fault (pos n) ≡ Some (InvalidValue (pos n))
-value_too_high n high = ap (λ b. cond b None (Some (InvalidValue (pos n)))) (neither (int_le (pos 0) (pos n)) (int_le (pos n) (pos 2147483645)) (lt-leb n 2147483645 high))
+value_too_high n high = ap (λ b. cond b None (Some (InvalidValue (pos n)))) (and_right (int_le (pos 0) (pos n)) (int_le (pos n) (pos 2147483645)) (lt-leb n 2147483645 high))
 
 refused_by_value : (k w : Option CedarError) (e : CedarError) (key : List ℕ) (v : ℤ) → w ≡ Some e → put_unless (or_else k w) key v ≡ None
 refused_by_value None w e key v is = ap (λ f. put_unless f key v) is
@@ -108,11 +102,11 @@ high_put bytes long high =
 -- a number that can be stored is one of 32 bits without a sign
 pub stored_is : (v : ℤ) → value_fault v ≡ None → v ≡ pos (of_z w32 v)
 stored_is (pos n) e = refl
-stored_is (negsuc n) e = absurd (some_is_none (InvalidValue (negsuc n)) e)
+stored_is (negsuc n) e = absurd (none-some (InvalidValue (negsuc n)) (sym e))
 
 chosen : (b : Bool) (x : CedarError) → cond b None (Some x) ≡ None → b ≡ true
 chosen true x e = refl
-chosen false x e = absurd (some_is_none x e)
+chosen false x e = absurd (none-some x (sym e))
 
 second : (a b : Bool) → (a && b) ≡ true → b ≡ true
 second true b e = e
@@ -120,15 +114,15 @@ second false b e = absurd (false≢true e)
 
 pub fits : (v : ℤ) → value_fault v ≡ None → of_z w32 v < 4294967296
 fits (pos n) e = let low = leb-true n 2147483645 (second (int_le (pos 0) (pos n)) (int_le (pos n) (pos 2147483645)) (chosen _ (InvalidValue (pos n)) e)) in omega (arith, low)
-fits (negsuc n) e = absurd (some_is_none (InvalidValue (negsuc n)) e)
+fits (negsuc n) e = absurd (none-some (InvalidValue (negsuc n)) (sym e))
 
 value_of_pair : (k w : Option CedarError) → or_else k w ≡ None → w ≡ None
 value_of_pair None w e = e
-value_of_pair (Some x) w e = absurd (some_is_none x e)
+value_of_pair (Some x) w e = absurd (none-some x (sym e))
 
 key_of_pair : (k w : Option CedarError) → or_else k w ≡ None → k ≡ None
 key_of_pair None w e = refl
-key_of_pair (Some x) w e = absurd (some_is_none x e)
+key_of_pair (Some x) w e = absurd (none-some x (sym e))
 
 pub value_is_sound : (key : List ℕ) (v : ℤ) → fault key v ≡ None → value_fault v ≡ None
 value_is_sound key v e = value_of_pair (key_fault key) (value_fault v) e
@@ -154,14 +148,14 @@ err_is r a b p q = cc
 pub refused_pair : (s : State) (key : List ℕ) (v : ℤ) (e : CedarError) (told : DurableError) (r : Result (Unit {0}) CedarError) (f : Option CedarError) → fault key v ≡ f
     → IfSome f (λ x. r ≡ Err x) → (f ≡ None → IfErr r (λ x. IsShortage x)) → r ≡ Err e
     → (IsShortage e → told ≡ error.Refused e) → ((IsShortage e → ⊥) → told ≡ error.Corrupt)
-    → ReplayCause (option_map (changed s) (put_unless f key v)) told
+    → ReplayCause (option_map (after_change s) (put_unless f key v)) told
 refused_pair s key v e told r None is faulty refused was shortage other =
     let wants : IsShortage e = subst (λ x. IfErr x IsShortage) was (refused refl) in
-    subst (λ t. ReplayCause (option_map (changed s) (put_unless None key v)) t) (sym (shortage wants)) wants
+    subst (λ t. ReplayCause (option_map (after_change s) (put_unless None key v)) t) (sym (shortage wants)) wants
 refused_pair s key v e told r (Some x) is faulty refused was shortage other =
     let same : x ≡ e = err_is r x e faulty was in
     let not : IsShortage e → ⊥ = fault_no_shortage key v e (is ∙ ap Some same) in
-    subst (λ t. ReplayCause (option_map (changed s) (put_unless (Some x) key v)) t) (sym (other not)) refl
+    subst (λ t. ReplayCause (option_map (after_change s) (put_unless (Some x) key v)) t) (sym (other not)) refl
 
 pub shortages : (P : Type 0) (r : Result (Unit {0}) CedarError) → IfErr r (λ x. IsShortage x × P) → IfErr r (λ x. IsShortage x)
 shortages P (Ok x) refused = tt

@@ -2,7 +2,6 @@
 use Rattle.std.specs.Prelude.{option_map, option_and_then, Option, Some, None}
 use Rattle.std.proofs.Common.{◌≡◌, ℕ, zero, suc, ◌+◌, ◌≤◌, ◌<◌, true, List, [], ◌∷◌, ◌++◌, length, get_or, refl, ◌∙◌, ap, arith, length-append}
 use Rattle.std.proofs.lemmas.List.{drop_all, take_all}
-use Rattle.std.specs.List.{AllByRecursion}
 use Rattle.cedar_journal.specs.Records.{payload_length, payload, behind_record, has_record, payloads_in, AreWholeRecords}
 use Rattle.cedar_journal.proofs.Fronts.{front_and, front_of_none, one_record, record_is_front}
 use Rattle.cedar_journal.proofs.Numbers.{told_length}
@@ -117,9 +116,3 @@ frame_cause end n error.Full cause = absurd cause
 frame_cause end n error.NoRoom cause = cause
 frame_cause end n (error.Device e) cause = cause
 frame_cause end n error.Failed cause = cause
-
--- what each of some changes has, one of them has
-pub one_of : {X : Type 0} (P : X → Type 0) (xs : List X) (i : ℕ) (d : X) → i < length xs → AllByRecursion P xs → P (get_or xs i d)
-one_of P [] i d low all = absurd (omega (arith, low))
-one_of P (x ∷ xs) zero d low all = all.0
-one_of P (x ∷ xs) (suc i) d low all = one_of P xs i d (omega (arith, low)) all.1

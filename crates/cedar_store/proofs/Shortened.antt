@@ -1,7 +1,7 @@
 -- What a change has done about the length of its file.
 use Rattle.std.proofs.Common.{◌≡◌, ◌≤◌, ◌∙◌, inl, inr, ⊎_elim, ℕ, List, ap, sym, arith}
-use Rattle.cedar_tree.specs.Queries.{walk}
-use Rattle.cedar_tree.specs.State.{State}
+use Rattle.cedarwood.specs.Queries.{walk}
+use Rattle.cedarwood.specs.State.{State}
 use Rattle.cedar_store.specs.declared.compaction.CompactError.{CompactError}
 use Rattle.cedar_store.specs.declared.compaction.CompactError.TheVariants as error
 use Rattle.cedar_store.specs.declared.store.Store.{Store}

@@ -1,22 +1,23 @@
 -- The updates of a batch, made one after another and taken back.
 use Rattle.std.specs.Prelude.{Option, None, nat_eq}
 use Rattle.std.specs.List.{AllByRecursion}
-use Rattle.std.proofs.Common.{◌≡◌, inl, inr, true, ℕ, ◌+◌, ◌≤◌, ◌<◌, ℤ, List, [], ◌∷◌, ◌++◌, length, pos, take, get_or, set, refl, sym, ◌∙◌, ap, subst, arith}
+use Rattle.std.proofs.Common.{◌≡◌, inl, inr, true, ℕ, ◌+◌, ◌≤◌, ◌<◌, ℤ, List, [], ◌∷◌, length, pos, take, get_or, set, refl, sym, ◌∙◌, ap, subst, arith}
 use Rattle.std.proofs.lemmas.Bool.{cases_eq, eqb-true}
 use Rattle.std.proofs.lemmas.List.{get_or-map, get_or-take, length-map, get_or-set_other, get_or-set_same, length-take-le, take-take, take_all, take_more}
 use Rattle.std.proofs.lemmas.List.Sums.{fold-append}
-use Rattle.cedar_tree.specs.State.{State}
+use Rattle.cedarwood.specs.State.{State}
 use Rattle.cedar_store.specs.Batches.{AreHeld, IsHeld, change_at, only_updated, all_updated}
 use Rattle.cedar_store.specs.Changes.{Change, erase_at}
 use Rattle.cedar_store.specs.Told.{change_told, changes_told}
 use Rattle.cedar_store.specs.declared.change.Change.{Change as ToldChange}
 use Rattle.cedar_store.specs.declared.change.Change.TheVariants as told
+use Rattle.cedarwood.proofs.GeneralLemmas.{all_and_one}
 
--- what stands behind the changes that are told
+-- what follows the changes that are given
 abbrev pub blank : ToldChange
 blank = told.Update (record { ref_ptr = (0, 0); now = [] }) (pos 0)
 
--- a change that is told stands at its place
+-- a change that is given is at its position
 pub told_at : (changes : List ToldChange) (i : ℕ) → i < length changes → change_at (changes_told changes) i ≡ change_told (get_or changes i blank)
 told_at changes i low = get_or-map change_told changes i blank (erase_at []) low
 
@@ -36,13 +37,9 @@ pub updated_more : (s : State) (changes : List Change) (n : ℕ) → n < length 
     → all_updated s (take (n + 1) changes) ≡ only_updated (all_updated s (take n changes)) (change_at changes n)
 updated_more s changes n low = ap (all_updated s) (take_more changes n (erase_at []) low) ∙ fold-append only_updated s (take n changes) (change_at changes n ∷ [])
 
-all-append : {X : Type 0} (P : X → Type 0) (xs : List X) (x : X) → AllByRecursion P xs → P x → AllByRecursion P (xs ++ x ∷ [])
-all-append P [] y all p = (p, tt)
-all-append P (x ∷ xs) y all p = (all.0, all-append P xs y all.1 p)
-
 pub all_more : (P : Change → Type 0) (changes : List Change) (n : ℕ) → n < length changes → AllByRecursion P (take n changes) → P (change_at changes n)
     → AllByRecursion P (take (n + 1) changes)
-all_more P changes n low all p = subst (AllByRecursion P) (sym (take_more changes n (erase_at []) low)) (all-append P (take n changes) (change_at changes n) all p)
+all_more P changes n low all p = subst (AllByRecursion P) (sym (take_more changes n (erase_at []) low)) (all_and_one P (take n changes) (change_at changes n) all p)
 
 pub all_done : (P : Change → Type 0) (changes : List Change) (n : ℕ) → length changes ≤ n → AllByRecursion P (take n changes) → AllByRecursion P changes
 all_done P changes n high all = subst (AllByRecursion P) (take_all n changes high) all

@@ -1,9 +1,10 @@
 -- How the changes of a batch are made: all updates first, then the erasures of keys that no later change puts. And how they are recorded.
-use Rattle.std.specs.Prelude.{◌≡◌, ℕ, ◌+◌, ◌<◌, ℤ, Bool, false, ◌||◌, cond, List, [], ◌∷◌, ◌++◌, fold, get_or, length, take, Option, None, Some, nat_eq}
+use Rattle.std.specs.Prelude.{◌≡◌, ℕ, ◌+◌, ◌<◌, ℤ, Bool, false, ◌||◌, cond, List, [], ◌∷◌, ◌++◌}
+use Rattle.std.specs.Prelude.{fold, get_or, length, take, Option, None, Some, nat_eq}
 use Rattle.std.specs.Cmp.Lexicographic.{pointwise}
 use Rattle.cedar_journal.specs.Records.{length_bytes}
-use Rattle.cedar_tree.specs.State.{State, stored, erased}
-use Rattle.cedar_tree.specs.Tree.{IsKey}
+use Rattle.cedarwood.specs.State.{State, after_put, after_erase}
+use Rattle.cedarwood.specs.Tree.{IsKey}
 use Rattle.cedarwood.specs.declared.error.CedarError.{CedarError}
 use Rattle.cedarwood.specs.Fault.{fault}
 use Rattle.cedar_store.specs.Changes.{Change, put_at, erase_at, change_of}
@@ -17,7 +18,7 @@ change_at changes i = get_or changes i (erase_at [])
 
 -- the state after a change if it is an update: an erasure waits
 abbrev pub only_updated : State → Change → State
-only_updated s (put_at key v) = stored s key v
+only_updated s (put_at key v) = after_put s key v
 only_updated s (erase_at key) = s
 
 -- the state after the updates among some changes
@@ -37,7 +38,7 @@ is_put_by path (c ∷ changes) = puts path c || is_put_by path changes
 -- the state after an erasure that waited: it is made unless a later change puts its key
 abbrev pub late_erased : State → Change → List Change → State
 late_erased s (put_at key v) later = s
-late_erased s (erase_at key) later = cond (is_put_by key later) s (erased s key)
+late_erased s (erase_at key) later = cond (is_put_by key later) s (after_erase s key)
 
 -- the state after the erasures among some changes
 abbrev pub all_erased_late : State → List Change → State
@@ -52,12 +53,12 @@ change_fault (erase_at key) = None
 abbrev pub IsFaultless : Change → Type 0
 IsFaultless c = change_fault c ≡ None
 
--- that it has this fault is told with its index; if it has none, what is told of those behind it
+-- that it has this fault is reported with its index; if it has none, what is reported of those behind it
 abbrev pub fault_at : ℕ → Option CedarError → Option DurableError → Option DurableError
 fault_at n (Some e) later = Some (RefusedAt n e)
 fault_at n None later = later
 
--- the first of some changes that has a fault, as it is told; the first of them has this index
+-- the first of some changes that has a fault, as it is reported; the first of them has this index
 abbrev pub first_refused : ℕ → List Change → Option DurableError
 first_refused n [] = None
 first_refused n (c ∷ changes) = fault_at n (change_fault c) (first_refused (n + 1) changes)
@@ -69,7 +70,7 @@ HasKey (erase_at key) = Unit {0}
 
 -- before a change was made, if it is an update, its key held this
 abbrev pub IsHeld : State → Change → Option ℤ → Type 0
-IsHeld s (put_at key v) held = IsPutOf s key held (stored s key v)
+IsHeld s (put_at key v) held = IsPutOf s key held (after_put s key v)
 IsHeld s (erase_at key) held = Unit {0}
 
 -- so of each of some changes, whose updates are made one after another
@@ -90,7 +91,7 @@ abbrev pub batch_length : List Change → ℕ
 batch_length [] = 1
 batch_length (c ∷ changes) = 5 + change_length c + batch_length changes
 
--- the record of a change stands behind some bytes
+-- the record of a change is behind some bytes
 pub record IsRecorded (c : Change) (before after : List ℕ) : Type 0 where
   pub payload : List ℕ
   pub behind : after ≡ before ++ record_of payload

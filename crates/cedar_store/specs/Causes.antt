@@ -1,9 +1,10 @@
 -- What an error of a store says.
-use Rattle.std.specs.Prelude.{◌≡◌, ◌⊎◌, ℕ, ◌<◌, ◌≤◌, Bool, true, List, length, Option, None, Some, IsSome}
+use Rattle.std.specs.Prelude.{◌≡◌, ◌⊎◌, ℕ, ◌<◌, ◌≤◌, Bool, true, List, length}
+use Rattle.std.specs.Prelude.{Option, None, Some, IsSome}
 use Rattle.cedar_journal.specs.declared.device.DeviceError.TheVariants.{Failed}
-use Rattle.cedar_journal.specs.Files.{file_reading, recovered}
+use Rattle.cedar_journal.specs.Files.{file_payloads, file_reading}
 use Rattle.cedar_journal.specs.Formats.{damaged}
-use Rattle.cedar_tree.specs.State.{State}
+use Rattle.cedarwood.specs.State.{State}
 use Rattle.cedarwood.specs.declared.error.CedarError.{CedarError}
 use Rattle.cedarwood.specs.declared.error.CedarError.TheVariants as cedar
 use Rattle.cedarwood.specs.Fault.{IsShortage}
@@ -19,23 +20,23 @@ ReplayCause outcome error.Corrupt = outcome ≡ None
 ReplayCause outcome (error.Refused e) = IsShortage e
 ReplayCause outcome _ = ⊥
 
--- Why no dictionary was made of a file's bytes: it is of another kind; or the record at this place is damaged; it is a journal's, and one of
--- its records is no change, or memory or slots were wanting.
+-- Why no dictionary was made of a file's bytes: it is of another kind; or the record at this position is damaged; it is a journal's, and
+-- one of its records is no change, or memory or slots were wanting.
 abbrev pub LoadCause : List ℕ → DurableError → Type 0
 LoadCause file error.Foreign = file_reading file ≡ None
 LoadCause file (error.Damaged at) = file_reading file ≡ Some (damaged at)
 LoadCause file error.Corrupt = IsCorrupt file
-LoadCause file (error.Refused e) = IsSome (recovered file) × IsShortage e
+LoadCause file (error.Refused e) = IsSome (file_payloads file) × IsShortage e
 LoadCause file _ = ⊥
 
--- Why a file wasn't opened: as above, or there was no memory for its bytes, or the device failed, which has told so often before and now that
--- it did.
+-- Why a file wasn't opened: as above, or there was no memory for its bytes, or the device failed, which has reported so often before and
+-- now that it did.
 abbrev pub OpenCause : List ℕ → ℕ → ℕ → DurableError → Type 0
 OpenCause file before now (error.Device e) = e ≡ Failed → before < now
-OpenCause file before now (error.Refused e) = (e ≡ cedar.Memory) ⊎ (IsSome (recovered file) × IsShortage e)
+OpenCause file before now (error.Refused e) = (e ≡ cedar.Memory) ⊎ (IsSome (file_payloads file) × IsShortage e)
 OpenCause file before now e = LoadCause file e
 
--- why it wasn't read: there was no memory for its bytes, or the disk failed, which is told as `Failed` whatever the device told
+-- why it wasn't read: there was no memory for its bytes, or the disk failed, which is reported as `Failed` whatever the device returned
 abbrev pub ReadCause : ℕ → ℕ → DurableError → Type 0
 ReadCause before now (error.Device e) = (e ≡ Failed) × (before < now)
 ReadCause before now (error.Refused e) = e ≡ cedar.Memory
@@ -60,7 +61,7 @@ PayloadCause n error.TooLong = 4294967296 ≤ n
 PayloadCause n (error.Refused e) = e ≡ cedar.Memory
 PayloadCause n _ = ⊥
 
--- the device failed, which has told so often before and now that it did
+-- the device failed, which has reported so often before and now that it did
 abbrev pub IsOfDevice : ℕ → ℕ → DurableError → Type 0
 IsOfDevice before now (error.Device e) = e ≡ Failed → before < now
 IsOfDevice before now _ = ⊥

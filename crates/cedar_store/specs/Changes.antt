@@ -1,7 +1,8 @@
 -- Changes of a dictionary as the payload of a record.
-use Rattle.std.specs.Prelude.{ℕ, ◌+◌, ◌*◌, ◌==◌, nat_le, cond, ℤ, pos, List, [], ◌∷◌, length, drop, fold, get_or, Option, Some, None, option_map, option_and_then}
+use Rattle.std.specs.Prelude.{ℕ, ◌+◌, ◌*◌, ◌==◌, nat_le, cond, ℤ, pos, List, [], ◌∷◌, length, drop}
+use Rattle.std.specs.Prelude.{fold, get_or, Option, Some, None, option_map, option_and_then}
 use Rattle.cedar_journal.specs.Records.{payloads_in}
-use Rattle.cedar_tree.specs.State.{State, stored, erased}
+use Rattle.cedarwood.specs.State.{State, after_put, after_erase}
 use Rattle.cedarwood.specs.declared.error.CedarError.{CedarError}
 use Rattle.cedarwood.specs.Fault.{fault}
 
@@ -11,13 +12,13 @@ pub data Change : Type 0 where
   erase_at : List ℕ → Change
 
 -- the state after a change
-abbrev pub changed : State → Change → State
-changed s (put_at key v) = stored s key v
-changed s (erase_at key) = erased s key
+abbrev pub after_change : State → Change → State
+after_change s (put_at key v) = after_put s key v
+after_change s (erase_at key) = after_erase s key
 
 -- the state after some changes, the first of them first
 abbrev pub all_changed : State → List Change → State
-all_changed s changes = fold changed s changes
+all_changed s changes = fold after_change s changes
 
 -- four bytes as a number, the lowest first
 abbrev pub number_of_bytes : List ℕ → ℕ
@@ -47,7 +48,7 @@ abbrev pub records_length : List (List ℕ) → ℕ
 records_length [] = 0
 records_length (payload ∷ payloads) = 5 + length payload + records_length payloads
 
--- the changes of records that stand one behind another, with nothing behind the last of them
+-- the changes of records that are one behind another, with nothing behind the last of them
 unfoldable pub batch_of : List ℕ → Option (List Change)
 batch_of bytes = cond (records_length (payloads_in bytes) == length bytes) (each_change (payloads_in bytes)) None
 
@@ -61,6 +62,6 @@ abbrev pub after : State → List ℕ → Option State
 after s payload = option_map (all_changed s) (changes_of payload)
 
 -- the state after the changes of some payloads, the first of them first; None where one of them has none
-abbrev pub replayed : State → List (List ℕ) → Option State
-replayed s [] = Some s
-replayed s (payload ∷ payloads) = option_and_then (λ t. replayed t payloads) (after s payload)
+abbrev pub after_payloads : State → List (List ℕ) → Option State
+after_payloads s [] = Some s
+after_payloads s (payload ∷ payloads) = option_and_then (λ t. after_payloads t payloads) (after s payload)

@@ -1,16 +1,18 @@
 -- When a file is compacted, what it has then, and why it wasn't.
-use Rattle.std.specs.Prelude.{◌≡◌, ◌<◌, ℕ, ◌+◌, ◌-◌, ◌*◌, max, nat_lt, ℤ, Bool, false, List, [], ◌∷◌, ◌++◌, length, Some}
+use Rattle.std.specs.Prelude.{◌≡◌, ◌<◌, ℕ, ◌+◌, ◌-◌, ◌*◌, max, nat_lt, ℤ, Bool, false}
+use Rattle.std.specs.Prelude.{List, [], ◌∷◌, ◌++◌, length, Some}
 use Rattle.cedar_journal.specs.declared.device.DeviceError.TheVariants as device
 use Rattle.cedar_journal.specs.declared.frame.FrameError.{FrameError}
 use Rattle.cedar_journal.specs.declared.frame.FrameError.TheVariants as frame
 use Rattle.cedar_journal.specs.declared.replace.ReplaceError.{ReplaceError}
 use Rattle.cedar_journal.specs.declared.replace.ReplaceError.TheVariants as replace
-use Rattle.cedar_tree.specs.Queries.{Entry}
+use Rattle.cedarwood.specs.Queries.{Entry}
 use Rattle.cedar_store.specs.Changes.{changes_of, put_at}
 use Rattle.cedar_store.specs.declared.compaction.Compaction.{Compaction}
 use Rattle.cedar_store.specs.declared.compaction.Compaction.TheVariants.{Never, Beyond}
 use Rattle.cedar_store.specs.declared.compaction.CompactError.{CompactError}
-use Rattle.cedar_store.specs.declared.compaction.CompactError.TheVariants.{Memory, TooLong, Kept, Failed}
+use Rattle.cedar_store.specs.declared.compaction.CompactError.TheVariants.{Memory, TooLong, Kept}
+use Rattle.cedar_store.specs.declared.compaction.CompactError.TheVariants.{Failed}
 
 -- the rule of a store that was opened: twice what the entries take, and 64 KiB
 abbrev pub default_rule : Compaction
@@ -26,7 +28,7 @@ abbrev pub compacted_length : List Entry → ℕ
 compacted_length [] = 14
 compacted_length (e ∷ entries) = 14 + length e.0 + compacted_length entries
 
--- behind some payloads stands one more, the put of a value at a key
+-- some payloads are followed by one more, the put of a value at a key
 pub record IsPutBehind (key : List ℕ) (v : ℤ) (before after : List (List ℕ)) : Type 0 where
   pub payload : List ℕ
   pub behind : after ≡ before ++ payload ∷ []
@@ -49,8 +51,8 @@ IsBeforeReplacing Memory = Unit {0}
 IsBeforeReplacing TooLong = Unit {0}
 IsBeforeReplacing _ = ⊥
 
--- Why a file wasn't compacted: no file was made in memory; or the device kept the old one, or failed, which has told so often before and now
--- that it did.
+-- Why a file wasn't compacted: no file was made in memory; or the device kept the old one, or failed, which has reported so often before
+-- and now that it did.
 abbrev pub CompactCause : ℕ → ℕ → CompactError → Type 0
 CompactCause before now (Kept e) = e ≡ device.Failed → before < now
 CompactCause before now Failed = before < now

@@ -1,16 +1,17 @@
--- The dictionary that a file stands for.
-use Rattle.std.specs.Prelude.{◌≡◌, ◌⊎◌, ℕ, Bool, true, false, ◌||◌, not, is_some, List, [], ◌∷◌, length, Option, Some, option_and_then, option_map}
-use Rattle.cedar_journal.specs.Files.{added, recovered}
-use Rattle.cedar_tree.specs.State.{State, new_state}
-use Rattle.cedar_store.specs.Changes.{Change, changes_of, replayed}
+-- The dictionary that a file represents.
+use Rattle.std.specs.Prelude.{◌≡◌, ◌⊎◌, ℕ, Bool, true, false, ◌||◌, not, is_some, List, [], ◌∷◌}
+use Rattle.std.specs.Prelude.{length, Option, Some, option_and_then, option_map}
+use Rattle.cedar_journal.specs.Files.{file_payloads, with_payload}
+use Rattle.cedarwood.specs.State.{State, new_state}
+use Rattle.cedar_store.specs.Changes.{after_payloads, Change, changes_of}
 
 -- The state after the changes of all records that count. None: the file is of another kind, or one of its records is no change.
 abbrev pub state_of : List ℕ → Option State
-state_of file = option_and_then (replayed new_state) (recovered file)
+state_of file = option_and_then (after_payloads new_state) (file_payloads file)
 
 -- how many records a file has that count; None: it is of another kind
 abbrev pub record_count : List ℕ → Option ℕ
-record_count file = option_map length (recovered file)
+record_count file = option_map length (file_payloads file)
 
 -- one of some payloads is no change
 abbrev pub has_no_change : List (List ℕ) → Bool
@@ -19,18 +20,18 @@ has_no_change (payload ∷ payloads) = not (is_some (changes_of payload)) || has
 
 -- the file is a journal's, and one of its records is no change
 abbrev pub IsCorrupt : List ℕ → Type 0
-IsCorrupt file = (payloads : List (List ℕ)) × (recovered file ≡ Some payloads) × (has_no_change payloads ≡ true)
+IsCorrupt file = (payloads : List (List ℕ)) × (file_payloads file ≡ Some payloads) × (has_no_change payloads ≡ true)
 
--- the file stands for one state or for another
+-- the file represents one state or another
 abbrev pub IsEither : State → State → List ℕ → Type 0
 IsEither before after file = (state_of file ≡ Some before) ⊎ (state_of file ≡ Some after)
 
--- the file stands for this state
+-- the file represents this state
 abbrev pub StandsFor : State → List ℕ → Type 0
 StandsFor state file = state_of file ≡ Some state
 
 -- a file has the records of another one, and behind them one more, of these changes
 pub record AddsRecord (changes : List Change) (before after : List ℕ) : Type 0 where
   pub payload : List ℕ
-  pub behind : recovered after ≡ added payload (recovered before)
+  pub behind : file_payloads after ≡ with_payload payload (file_payloads before)
   pub change : changes_of payload ≡ Some changes

@@ -1,3 +1,4 @@
+pub use Rattle.cedarwood.specs.State
 pub mod Batches
 pub mod Causes
 pub mod Changes

@@ -2,9 +2,10 @@
 use Rattle.std.specs.Prelude.{◌≡◌, ◌⊎◌, ℕ, true, false, List, Option, Some}
 use Rattle.cedar_journal.specs.Device.{LeavesOnly}
 use Rattle.cedar_journal.specs.Journal.{IsSettled}
-use Rattle.cedar_tree.specs.State.{State}
+use Rattle.cedarwood.specs.State.{State}
 use Rattle.cedarwood.specs.declared.error.CedarError.{CedarError}
-use Rattle.cedar_store.specs.Causes.{BatchCause, ChangeCause, EraseCause, IsOfDevice, IsUnwritten, Leaves}
+use Rattle.cedar_store.specs.Causes.{BatchCause, ChangeCause, EraseCause, IsOfDevice}
+use Rattle.cedar_store.specs.Causes.{IsUnwritten, Leaves}
 use Rattle.cedar_store.specs.Changes.{Change}
 use Rattle.cedar_store.specs.Files.{AddsRecord, IsEither, StandsFor, record_count, state_of}
 use Rattle.cedar_store.specs.Shortening.{IsShortened}
@@ -12,7 +13,7 @@ use Rattle.cedar_store.specs.Store.{IsReady}
 use Rattle.cedar_store.specs.declared.error.DurableError.{DurableError}
 use Rattle.cedar_store.specs.declared.store.Store.{Store}
 
--- its labels ascend; and unless it has failed, its file stands for its dictionary
+-- its labels ascend; and unless it has failed, its file represents its dictionary
 abbrev pub IsReadyStore : {T A D : Type 0} → (D → List ℕ) → (D → List ℕ → Type 0) → (T → State) → Store T A D → Type 0
 IsReadyStore seen may_leave state store = IsReady seen may_leave store.journal.device store.journal.format store.journal.end (state store.words) store.failed
 
@@ -28,16 +29,16 @@ KeepsCount seen old new = IsCounted seen old → IsCounted seen new
 abbrev pub HasState : {T A D : Type 0} → (T → State) → Store T A D → State → Type 0
 HasState state store after = (store.failed ≡ false) × (state store.words ≡ after)
 
--- a crash at any moment of the change leaves a file that stands for the dictionary from before it, or for this one
+-- a crash at any moment of the change leaves a file that represents the dictionary from before it, or this one
 abbrev pub CrashLeavesEither : {T A D : Type 0} → (D → ℕ) → (D → ℕ → List ℕ → Type 0) → (T → State) → Store T A D → Store T A D → State → Type 0
 CrashLeavesEither moment left_since state old new after =
     old.failed ≡ false → LeavesOnly moment left_since old.journal.device new.journal.device (IsEither (state old.words) after)
 
--- a crash at any moment of the call leaves a file that stands for the dictionary
+-- a crash at any moment of the call leaves a file that represents the dictionary
 abbrev pub CrashLeavesState : {T A D : Type 0} → (D → ℕ) → (D → ℕ → List ℕ → Type 0) → (T → State) → Store T A D → Store T A D → Type 0
 CrashLeavesState moment left_since state old new = LeavesOnly moment left_since old.journal.device new.journal.device (StandsFor (state old.words))
 
--- a crash at any moment of the call leaves a file that stands for the dictionary, or what it might have left before
+-- a crash at any moment of the call leaves a file that represents the dictionary, or what it might have left before
 abbrev pub CrashLeavesStateOrOld : {T A D : Type 0} → (D → ℕ) → (D → ℕ → List ℕ → Type 0) → (D → List ℕ → Type 0) → (T → State) → Store T A D → Store T A D → Type 0
 CrashLeavesStateOrOld moment left_since may_leave state old new =
     LeavesOnly moment left_since old.journal.device new.journal.device (λ c. may_leave old.journal.device c ⊎ StandsFor (state old.words) c)
@@ -75,7 +76,7 @@ IsBatchCause faults old new changes e = BatchCause old.failed changes old.journa
 abbrev pub LeavesUnwritten : {T A D : Type 0} → (D → ℕ) → Store T A D → Store T A D → DurableError → Type 0
 LeavesUnwritten faults old new e = IsUnwritten (faults old.journal.device) (faults new.journal.device) old.failed new.failed e
 
--- There was no room for a record: the dictionary is as it was, and so is what the file stands for, which is at rest and on the disk.
+-- There was no room for a record: the dictionary is as it was, and so is what the file represents, which is at rest and on the disk.
 pub record LostRoom {T A D : Type 0} (seen : D → List ℕ) (may_leave : D → List ℕ → Type 0) (old new : Store T A D) : Type 0 where
   pub words : new.words ≡ old.words
   pub end : new.journal.end ≡ old.journal.end

@@ -1,14 +1,14 @@
 -- What a change does about the length of its file, by the rule of its store.
 use Rattle.std.specs.Prelude.{◌≡◌, ◌⊎◌, ℕ, false, List, length, Ok, Err, Some}
-use Rattle.cedar_tree.specs.Queries.{walk}
-use Rattle.cedar_tree.specs.State.{State}
+use Rattle.cedarwood.specs.Queries.{walk}
+use Rattle.cedarwood.specs.State.{State}
 use Rattle.cedar_store.specs.Compactions.{CompactCause, compacted_length, is_beyond}
 use Rattle.cedar_store.specs.declared.compaction.CompactError.{CompactError}
 use Rattle.cedar_store.specs.declared.compaction.CompactError.TheVariants.{Failed}
 use Rattle.cedar_store.specs.declared.compaction.Compaction.TheVariants.{Never}
 use Rattle.cedar_store.specs.declared.store.Store.{Store}
 
--- the file's length wasn't looked at, and no compaction is told
+-- the file's length wasn't looked at, and no compaction is reported
 abbrev pub IsUnlooked : {T A D : Type 0} → Store T A D → Store T A D → Type 0
 IsUnlooked old new = (new.base ≡ old.base) × (new.last_compaction ≡ old.last_compaction)
 
@@ -21,7 +21,7 @@ abbrev pub IsShortEnough : {T A D : Type 0} → (T → State) → Store T A D �
 IsShortEnough state old new =
     (new.last_compaction ≡ old.last_compaction) × (is_beyond old.compaction (compacted_length (walk (state new.words).tree)) new.journal.end ≡ false)
 
--- the file has a record for each entry and nothing else, which only a rule other than `Never` does, and `last_compaction` tells it
+-- the file has a record for each entry and nothing else, which only a rule other than `Never` does, and `last_compaction` reports it
 abbrev pub IsShortened : {T A D : Type 0} → (D → List ℕ) → (T → State) → Store T A D → Store T A D → Type 0
 IsShortened seen state old new =
     (old.compaction ≡ Never → ⊥) × (new.last_compaction ≡ Some (Ok tt)) × (length (seen new.journal.device) ≡ compacted_length (walk (state new.words).tree))
@@ -31,12 +31,12 @@ abbrev pub KeptCause : ℕ → ℕ → CompactError → Type 0
 KeptCause before now Failed = ⊥
 KeptCause before now e = CompactCause before now e
 
--- the file was kept as it was, and `last_compaction` tells why
+-- the file was kept as it was, and `last_compaction` has the reason
 abbrev pub IsKeptLong : {T A D : Type 0} → (D → ℕ) → Store T A D → Store T A D → Type 0
 IsKeptLong faults old new =
     (e : CompactError) × (new.last_compaction ≡ Some (Err e)) × KeptCause (faults old.journal.device) (faults new.journal.device) e
 
--- The file's length was looked at: it is short enough, or it was made short, or it was kept, which is told.
+-- The file's length was looked at: it is short enough, or it was made short, or it was kept, which is reported.
 abbrev pub IsLookedAt : {T A D : Type 0} → (D → List ℕ) → (D → ℕ) → (T → State) → Store T A D → Store T A D → Type 0
 IsLookedAt seen faults state old new =
     (new.base ≡ new.journal.end) × (IsShortEnough state old new ⊎ IsShortened seen state old new ⊎ IsKeptLong faults old new)
@@ -45,7 +45,7 @@ IsLookedAt seen faults state old new =
 abbrev pub IsLookedAfter : {T A D : Type 0} → (D → List ℕ) → (D → ℕ) → (T → State) → Store T A D → Store T A D → Type 0
 IsLookedAfter seen faults state old new = IsNotDue old new ⊎ IsLookedAt seen faults state old new
 
--- the device failed in a compaction, which is told
+-- the device failed in a compaction, which is reported
 abbrev pub IsFailureTold : {T A D : Type 0} → Store T A D → Type 0
 IsFailureTold new = (new.base ≡ new.journal.end) × (new.last_compaction ≡ Some (Err Failed))
 

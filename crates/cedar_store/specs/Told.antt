@@ -1,4 +1,4 @@
--- The errors of a journal as a store tells them, and the changes that it is told.
+-- The errors of a journal as a store reports them, and the changes that it is given.
 use Rattle.std.specs.Prelude.{List, map}
 use Rattle.cedar_journal.specs.declared.frame.FrameError.{FrameError}
 use Rattle.cedar_journal.specs.declared.frame.FrameError.TheVariants as frame
@@ -11,7 +11,9 @@ use Rattle.cedar_store.specs.Changes.{Change, put_at, erase_at}
 use Rattle.cedar_store.specs.declared.change.Change.{Change as ToldChange}
 use Rattle.cedar_store.specs.declared.change.Change.TheVariants as change
 use Rattle.cedar_store.specs.declared.error.DurableError.{DurableError}
-use Rattle.cedar_store.specs.declared.error.DurableError.TheVariants.{Damaged, Device, Foreign, Full, NoRoom, Refused, TooLong}
+use Rattle.cedar_store.specs.declared.error.DurableError.TheVariants.{Damaged, Device, Foreign}
+use Rattle.cedar_store.specs.declared.error.DurableError.TheVariants.{Full, NoRoom, Refused}
+use Rattle.cedar_store.specs.declared.error.DurableError.TheVariants.{TooLong}
 
 abbrev pub file_error : FileFault → DurableError
 file_error fault.Foreign = Foreign

@@ -1,12 +1,12 @@
 -- A put that can be taken back.
 use Rattle.std.specs.Prelude.{◌≡◌, ℤ, List, ℕ, Option, None, IfSome}
-use Rattle.cedar_tree.specs.State.{State, stored}
-use Rattle.cedar_tree.specs.Tree.{IsSound, number_at}
+use Rattle.cedarwood.specs.State.{after_put, State}
+use Rattle.cedarwood.specs.Tree.{IsSound, number_at}
 use Rattle.cedarwood.specs.Fault.{key_fault, value_fault}
 
 -- the one state is the other after a value was put at a key, which held this before
 pub record IsPutOf (before : State) (key : List ℕ) (held : Option ℤ) (after : State) : Type 0 where
-  pub put : (v : ℤ) × (after ≡ stored before key v)
+  pub put : (v : ℤ) × (after ≡ after_put before key v)
   pub was : held ≡ number_at before.tree key
   pub sound : IsSound before.tree
   pub key_sound : key_fault key ≡ None

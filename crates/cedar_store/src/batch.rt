@@ -4,8 +4,14 @@
 //! erasures once nothing can be refused any more. One whose key a later change puts again isn't made at all. What each key holds in the end
 //! is what its last change sets, so the tree is the one that all changes leave in their order.
 
-ghost use Rattle.std.specs.Prelude.{◌+◌, ◌<◌, ◌^◌, ◌≡◌, ◌≤◌, ◌⊎◌, IfErr, IfOk, IfSome, List, OnErr, OnOk, Some, drop, false, if◌then◌else◌, length, true, ℕ};
-ghost use Rattle.cedar_store.specs.Words.{all_changed, all_erased_late, all_updated, change_at, change_fault, change_told, changes_of, changes_told, erased, first_refused, is_put_by, late_erased, only_updated, payload_of, puts, AllByRecursion, AreHeld, HasKey, IsFaultless, IsHeld, IsRefusedAt, IsShortage, PrepareCause, State};
+ghost use Rattle.std.specs.Prelude.{◌+◌, ◌<◌, ◌^◌, ◌≡◌, ◌≤◌, ◌⊎◌, IfErr, IfOk, IfSome, List, OnErr};
+ghost use Rattle.std.specs.Prelude.{OnOk, Some, drop, false, if◌then◌else◌, length, true, ℕ};
+ghost use Rattle.cedar_store.specs.Words.{all_changed, all_erased_late, all_updated, change_at};
+ghost use Rattle.cedar_store.specs.Words.{change_fault, change_told, changes_of, changes_told};
+ghost use Rattle.cedar_store.specs.Words.{after_erase, first_refused, is_put_by, late_erased};
+ghost use Rattle.cedar_store.specs.Words.{only_updated, payload_of, puts, AllByRecursion, AreHeld};
+ghost use Rattle.cedar_store.specs.Words.{HasKey, IsFaultless, IsHeld, IsRefusedAt, IsShortage};
+ghost use Rattle.cedar_store.specs.Words.{PrepareCause, State};
 
 use crate::faults::first_refused;
 use crate::frames::batch_frame;
@@ -178,7 +184,7 @@ fn erase_late<T: Words>(words: &mut T, changes: &[Change<'_>], index: usize, end
 
 /// Erases a key, unless a later change puts it.
 fn erase_unless<T: Words>(words: &mut T, key: &[u8], put: bool)
-    ensures { (T.state words.new) ≡ (if put then (T.state words.old) else erased (T.state words.old) key.now) }
+    ensures { (T.state words.new) ≡ (if put then (T.state words.old) else after_erase (T.state words.old) key.now) }
 {
     if !put {
         words.remove(key);

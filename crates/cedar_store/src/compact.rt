@@ -1,7 +1,18 @@
 //! A store's file made short: one record for each entry.
 
-ghost use Rattle.std.specs.Prelude.{◌+◌, ◌-◌, ◌<◌, ◌^◌, ◌≡◌, ◌⊎◌, false, IfErr, IfOk, IsErrOf, length, None, OnErr, OnOk, option_and_then, Some, true};
-ghost use Rattle.cedar_store.specs.Words.{added, after, all_erased_late, all_stored, AllByRecursion, changes_told, CompactCause, compacted_length, CrashLeavesState, CrashLeavesStateOrOld, FailsByDevice, fault, IfKept, image_bytes, is_beyond, IsBeforeReplacing, IsConsistent, IsEither, IsFailureTold, IsLookedAfter, IsLookedAfterError, IsLookedAt, IsPutBehind, IsReadyStore, IsSettled, IsShortened, KeepsCount, KeepsFile, LeavesUnwritten, Leaves, LeavesFile, LeavesOnly, LostRoom, new_state, payload_of, payloads_of, recovered, replayed, State, state_of, walk};
+ghost use Rattle.std.specs.Prelude.{◌+◌, ◌-◌, ◌<◌, ◌^◌, ◌≡◌, ◌⊎◌, false, IfErr, IfOk, IsErrOf};
+ghost use Rattle.std.specs.Prelude.{length, None, OnErr, OnOk, option_and_then, Some, true};
+ghost use Rattle.cedar_store.specs.Words.{with_payload, after, all_erased_late, all_stored};
+ghost use Rattle.cedar_store.specs.Words.{AllByRecursion, changes_told, CompactCause};
+ghost use Rattle.cedar_store.specs.Words.{compacted_length, CrashLeavesState};
+ghost use Rattle.cedar_store.specs.Words.{CrashLeavesStateOrOld, FailsByDevice, fault, IfKept};
+ghost use Rattle.cedar_store.specs.Words.{image_bytes, is_beyond, IsBeforeReplacing, IsConsistent};
+ghost use Rattle.cedar_store.specs.Words.{IsEither, IsFailureTold, IsLookedAfter};
+ghost use Rattle.cedar_store.specs.Words.{IsLookedAfterError, IsLookedAt, IsPutBehind};
+ghost use Rattle.cedar_store.specs.Words.{IsReadyStore, IsSettled, IsShortened, KeepsCount};
+ghost use Rattle.cedar_store.specs.Words.{KeepsFile, LeavesUnwritten, Leaves, LeavesFile};
+ghost use Rattle.cedar_store.specs.Words.{LeavesOnly, LostRoom, new_state, payload_of, payloads_of};
+ghost use Rattle.cedar_store.specs.Words.{file_payloads, after_payloads, State, state_of, walk};
 
 use crate::batch::erase_rest;
 use crate::frames::put_payload;
@@ -24,7 +35,7 @@ impl<T: Words, A: Allocator + Copy, D: ReplaceDevice> Store<T, A, D> {
     pub fn compact(&mut self) -> Result<(), CompactError>
         requires ready { IsReadyStore D.seen D.may_leave T.state self.old }
 
-        //= A file that was compacted has one record for each entry and nothing else. It stands for the dictionary, on the disk, and the
+        //= A file that was compacted has one record for each entry and nothing else. It represents the dictionary, on the disk, and the
         //  dictionary is as it was. So a store that had failed goes on. [with ready, words]
         ensures compacted { OnOk result ((self.new.failed ≡ false)
             × (length (D.seen self.new.journal.device) ≡ compacted_length (walk (T.state self.old.words).tree))) }
@@ -32,7 +43,7 @@ impl<T: Words, A: Allocator + Copy, D: ReplaceDevice> Store<T, A, D> {
         ensures words { self.new.words ≡ self.old.words }
         ensures counted { KeepsCount D.seen self.old self.new }
 
-        //= A compaction leaves the rule as it was, and what came of it is told from then on. [with told]
+        //= A compaction leaves the rule as it was, and what came of it is reported from then on. [with told]
         ensures rule { self.new.compaction ≡ self.old.compaction }
         ensures told { self.new.last_compaction ≡ Some result }
 
@@ -40,7 +51,7 @@ impl<T: Words, A: Allocator + Copy, D: ReplaceDevice> Store<T, A, D> {
         ensures looked { OnOk result (self.new.base ≡ self.new.journal.end) }
         ensures unlooked { OnErr result (self.new.base ≡ self.old.base) }
 
-        //= A crash at any moment of a compaction leaves a file that stands for the dictionary. If the store had failed before, it leaves
+        //= A crash at any moment of a compaction leaves a file that represents the dictionary. If the store had failed before, it leaves
         //  such a file or what it might have left before. [with any_moment_failed]
         ensures any_moment { self.old.failed ≡ false → CrashLeavesState D.moment D.left_since T.state self.old self.new }
         ensures any_moment_failed { CrashLeavesStateOrOld D.moment D.left_since D.may_leave T.state self.old self.new }
@@ -119,7 +130,7 @@ impl<T: Words, A: Allocator + Copy, D: ReplaceDevice> Store<T, A, D> {
         ensures done { OnOk result (self.new.failed ≡ false) }
         ensures made { OnOk result (T.state self.new.words ≡ all_erased_late (T.state self.old.words) (changes_told changes.now)) }
         ensures due { OnOk result (is_beyond self.new.compaction self.new.base self.new.journal.end ≡ false) }
-        ensures recorded { OnOk result ((recovered (D.seen self.new.journal.device) ≡ added (payload_of frame.now) (recovered (D.seen self.old.journal.device)))
+        ensures recorded { OnOk result ((file_payloads (D.seen self.new.journal.device) ≡ with_payload (payload_of frame.now) (file_payloads (D.seen self.old.journal.device)))
             ⊎ IsShortened D.seen T.state self.old self.new) }
         ensures looked_after { OnOk result (IsLookedAfter D.seen D.faults T.state self.old self.new) }
         ensures told { OnErr result (IsLookedAfterError self.old self.new) }
@@ -185,7 +196,7 @@ impl<T: Words, A: Allocator + Copy, D: ReplaceDevice> Store<T, A, D> {
         requires consistent { IsConsistent D.seen D.may_leave self.old.journal.device self.old.journal.format self.old.journal.end (T.state self.old.words) }
         requires usable { self.old.failed ≡ false }
         requires ordered { (T.state self.old.words).ordered ≡ true }
-        requires made { replayed new_state (payloads_of image.now) ≡ Some (T.state self.old.words) }
+        requires made { after_payloads new_state (payloads_of image.now) ≡ Some (T.state self.old.words) }
         requires count { length (payloads_of image.now) ≡ length (walk (T.state self.old.words).tree) }
         requires length { length (image_bytes image.now) ≡ compacted_length (walk (T.state self.old.words).tree) }
         requires looked_at { self.old.base ≡ self.old.journal.end }
@@ -222,9 +233,9 @@ impl<T: Words, A: Allocator + Copy, D: ReplaceDevice> Store<T, A, D> {
         }
     }
 
-    /// Replaces the file by one that stands for the dictionary, whatever the file has that is there.
+    /// Replaces the file by one that represents the dictionary, whatever the file has that is there.
     fn put_in_place(&mut self, image: &Image<A>) -> Result<(), ReplaceError>
-        requires made { replayed new_state (payloads_of image.now) ≡ Some (T.state self.old.words) }
+        requires made { after_payloads new_state (payloads_of image.now) ≡ Some (T.state self.old.words) }
         requires count { length (payloads_of image.now) ≡ length (walk (T.state self.old.words).tree) }
         ensures ready { IsReadyStore D.seen D.may_leave T.state self.old → IsReadyStore D.seen D.may_leave T.state self.new }
         ensures done { OnOk result ((self.new.failed ≡ false) × (self.new.base ≡ self.new.journal.end)) }
@@ -265,7 +276,7 @@ pub(crate) fn image_of<T: Walked, A: Allocator + Copy, B: Allocator + Copy>(
     alloc: B,
 ) -> Result<Image<B>, CompactError>
     requires { AllByRecursion (λ e. fault e.0 e.1 ≡ None) entries }
-    ensures made { IfOk result (λ image. replayed new_state (payloads_of image) ≡ Some (all_stored new_state entries.entry)) }
+    ensures made { IfOk result (λ image. after_payloads new_state (payloads_of image) ≡ Some (all_stored new_state entries.entry)) }
     ensures length { IfOk result (λ image. length (image_bytes image) ≡ compacted_length entries.entry) }
     ensures count { IfOk result (λ image. length (payloads_of image) ≡ length entries.entry) }
     ensures cause { IfErr result (λ error. IsBeforeReplacing error) }

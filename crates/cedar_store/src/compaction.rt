@@ -1,7 +1,8 @@
 //! When a file is compacted, and why it wasn't.
 
 ghost use Rattle.std.specs.Prelude.{◌≡◌};
-ghost use Rattle.cedar_store.specs.Words.{compact_error, compact_error_text, CompactMemory, default_rule, is_beyond, replace_error, Some};
+ghost use Rattle.cedar_store.specs.Words.{compact_error, compact_error_text, CompactMemory};
+ghost use Rattle.cedar_store.specs.Words.{default_rule, is_beyond, replace_error, Some};
 
 use cedar_journal::{DeviceError, FrameError, ReplaceError};
 use std::alloc::AllocError;

@@ -1,7 +1,8 @@
 //! How many records a file has.
 
 ghost use Rattle.std.specs.Prelude.{◌≡◌, length, Some};
-ghost use Rattle.cedar_store.specs.Words.{payloads_read, record_count, records_read, AreUndamaged, HasExtent};
+ghost use Rattle.cedar_store.specs.Words.{payloads_read, record_count, records_read};
+ghost use Rattle.cedar_store.specs.Words.{AreUndamaged, HasExtent};
 
 use cedar_journal::{Extent, Format, HEADER_LEN, next_payload};
 

@@ -1,7 +1,9 @@
 //! Why a call of a store is refused, and the texts of that, each of which a contract knows byte by byte.
 
 ghost use Rattle.std.specs.Prelude.{◌≡◌};
-ghost use Rattle.cedar_store.specs.Words.{durable_error_text, file_error, frame_error, journal_error, Device, Full, Memory, Refused, Some, TooLong};
+ghost use Rattle.cedar_store.specs.Words.{durable_error_text, file_error, frame_error};
+ghost use Rattle.cedar_store.specs.Words.{journal_error, Device, Full, Memory, Refused, Some};
+ghost use Rattle.cedar_store.specs.Words.{TooLong};
 
 use cedar_journal::{DeviceError, FileFault, FrameError, JournalError};
 use cedarwood::CedarError;
@@ -43,7 +45,7 @@ pub enum DurableError {
 }
 
 impl From<FileFault> for DurableError {
-    //= A file of another kind is reported as `Foreign`, and one with a damaged record as `Damaged`, with the record's place.
+    //= A file of another kind is reported as `Foreign`, and one with a damaged record as `Damaged`, with the record's position.
     ghost from_gives = { λ fault error. error ≡ file_error fault };
 
     fn from(fault: FileFault) -> DurableError {

@@ -1,7 +1,8 @@
 //! The faults of a batch's changes, found without memory.
 
 ghost use Rattle.std.specs.Prelude.{◌==◌, ◌≡◌, IfSome, IsOk, None, position};
-ghost use Rattle.cedar_store.specs.Words.{change_fault, change_told, changes_told, fault, first_refused, key_fault, value_fault};
+ghost use Rattle.cedar_store.specs.Words.{change_fault, change_told, changes_told, fault};
+ghost use Rattle.cedar_store.specs.Words.{first_refused, key_fault, value_fault};
 
 use crate::{Change, DurableError};
 use cedarwood::{CedarError, MAX_VALUE, MIN_VALUE};

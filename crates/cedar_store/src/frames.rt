@@ -1,7 +1,12 @@
 //! Changes as records.
 
-ghost use Rattle.std.specs.Prelude.{◌*◌, ◌+◌, ◌++◌, ◌<◌, ◌^◌, ◌≡◌, ◌∷◌, [], IfErr, IfOk, None, OnOk, Some, length, pos};
-ghost use Rattle.cedar_store.specs.Words.{batch_length, change_length, change_of, change_told, changes_of, changes_told, erase_at, fault, number_of_bytes, payload_of, put_at, record_of, value_fault, AllByRecursion, FrameCause, IsFaultless, IsRecorded, PayloadCause};
+ghost use Rattle.std.specs.Prelude.{◌*◌, ◌+◌, ◌++◌, ◌<◌, ◌^◌, ◌≡◌, ◌∷◌, [], IfErr, IfOk};
+ghost use Rattle.std.specs.Prelude.{None, OnOk, Some, length, pos};
+ghost use Rattle.cedar_store.specs.Words.{batch_length, change_length, change_of, change_told};
+ghost use Rattle.cedar_store.specs.Words.{changes_of, changes_told, erase_at, fault};
+ghost use Rattle.cedar_store.specs.Words.{number_of_bytes, payload_of, put_at, record_of};
+ghost use Rattle.cedar_store.specs.Words.{value_fault, AllByRecursion, FrameCause, IsFaultless};
+ghost use Rattle.cedar_store.specs.Words.{IsRecorded, PayloadCause};
 
 use crate::replay::{BATCH, ERASE, PUT};
 use crate::{Change, DurableError};
@@ -81,6 +86,8 @@ pub fn put_payload<A: Allocator + Copy>(
     requires { fault key.now value ≡ None }
     //= The payload of a put has that change, and 5 bytes more than the key. [with length]
     ensures change { IfOk result (λ payload. change_of payload.items ≡ Some (put_at key.now value)) }
+
+    //= Read as a list of changes, each of these payloads has its change alone. [also erase_payload]
     ensures alone { IfOk result (λ payload. changes_of payload.items ≡ Some (put_at key.now value ∷ [])) }
     ensures length { IfOk result (λ payload. length payload.items ≡ length key.now + 5) }
 {

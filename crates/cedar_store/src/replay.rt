@@ -1,7 +1,10 @@
 //! The changes of a file, made again.
 
 ghost use Rattle.std.specs.Prelude.{◌*◌, ◌+◌, ◌≡◌, IfErr, IfOk, OnOk, Some, option_map};
-ghost use Rattle.cedar_store.specs.Words.{after, all_changed, batch_of, change_of, changed, payloads_read, new_state, put_of, records_read, replayed, state_of, HasExtent, IsShortage, AreUndamaged, LoadCause, ReplayCause};
+ghost use Rattle.cedar_store.specs.Words.{after, all_changed, batch_of, change_of, after_change};
+ghost use Rattle.cedar_store.specs.Words.{payloads_read, new_state, put_of, records_read};
+ghost use Rattle.cedar_store.specs.Words.{after_payloads, state_of, HasExtent, IsShortage};
+ghost use Rattle.cedar_store.specs.Words.{AreUndamaged, LoadCause, ReplayCause};
 
 use crate::DurableError;
 use crate::words::{Made, Words};
@@ -18,17 +21,17 @@ pub(crate) const PUT: u8 = 1;
 /// The operation of a payload that makes several changes.
 pub const BATCH: u8 = 2;
 
-/// Returns the dictionary that a file's bytes stand for, and how far the file goes.
+/// Returns the dictionary that a file's bytes represent, and how far the file goes.
 ///
 /// # Errors
-/// `Foreign` if the file is of another kind, `Damaged` if a record is damaged, `Corrupt` if one is not a change, `Refused` if memory or slots
-/// were refused.
+/// `Foreign` if the file is of another kind, `Damaged` if a record is damaged, `Corrupt` if one is not a change, `Refused` if memory or
+/// slots were refused.
 pub fn words_of<T: Made<A>, A: Allocator>(
     alloc: A,
     bytes: &[u8],
 ) -> Result<(T, Extent), DurableError>
     requires limit { T.limit }
-    //= A file's bytes are read as the dictionary that they stand for. They are refused exactly as by an opening.
+    //= A file's bytes are read as the dictionary that they represent. They are refused exactly as by an opening.
     //  [with extent, cause]
     ensures made { IfOk result (λ found. state_of bytes.now ≡ Some (T.state found.0)) }
     ensures extent { IfOk result (λ found. HasExtent bytes.now found.1) }
@@ -40,14 +43,14 @@ pub fn words_of<T: Made<A>, A: Allocator>(
     Ok((words, extent))
 }
 
-/// Returns the dictionary that a store's bytes stand for, for whoever only looks. Nothing is written, so the bytes may be those that
+/// Returns the dictionary that a store's bytes represent, for whoever only looks. Nothing is written, so the bytes may be those that
 /// `read_file` of `cedar_disk` has read while another program changes the store.
 ///
 /// # Errors
 /// As of [`words_of`].
 pub fn read_store<T: Made<A>, A: Allocator>(alloc: A, bytes: &[u8]) -> Result<T, DurableError>
     requires limit { T.limit }
-    //= A store's bytes that are only looked at give the dictionary that they stand for, and are refused as by an opening. [with cause]
+    //= A store's bytes that are only looked at give the dictionary that they represent, and are refused as by an opening. [with cause]
     ensures made { IfOk result (λ words. state_of bytes.now ≡ Some (T.state words)) }
     ensures cause { IfErr result (λ error. LoadCause bytes.now error) }
 {
@@ -71,8 +74,8 @@ fn make_changes<T: Words>(words: &mut T, bytes: &[u8], extent: Extent) -> Result
 /// Makes the changes of some records, one after another.
 fn replay<T: Words>(words: &mut T, format: Format, bytes: &[u8]) -> Result<(), DurableError>
     requires sound { AreUndamaged format bytes.now }
-    ensures state { OnOk result (replayed (T.state words.old) (payloads_read (records_read format bytes.now)) ≡ Some (T.state words.new)) }
-    ensures cause { IfErr result (λ error. ReplayCause (replayed (T.state words.old) (payloads_read (records_read format bytes.now))) error) }
+    ensures state { OnOk result (after_payloads (T.state words.old) (payloads_read (records_read format bytes.now)) ≡ Some (T.state words.new)) }
+    ensures cause { IfErr result (λ error. ReplayCause (after_payloads (T.state words.old) (payloads_read (records_read format bytes.now))) error) }
 {
     let mut at = 0;
     while let Some(payload) = next_payload(format, &bytes[at..]) {
@@ -114,8 +117,8 @@ fn apply_batch<T: Words>(words: &mut T, bytes: &[u8]) -> Result<(), DurableError
 
 /// Makes the change of a payload that has one.
 fn apply_one<T: Words>(words: &mut T, payload: &[u8]) -> Result<(), DurableError>
-    ensures state { OnOk result (option_map (changed (T.state words.old)) (change_of payload.now) ≡ Some (T.state words.new)) }
-    ensures cause { IfErr result (λ error. ReplayCause (option_map (changed (T.state words.old)) (change_of payload.now)) error) }
+    ensures state { OnOk result (option_map (after_change (T.state words.old)) (change_of payload.now) ≡ Some (T.state words.new)) }
+    ensures cause { IfErr result (λ error. ReplayCause (option_map (after_change (T.state words.old)) (change_of payload.now)) error) }
 {
     if payload.is_empty() {
         return Err(DurableError::Corrupt);
@@ -133,8 +136,8 @@ fn apply_one<T: Words>(words: &mut T, payload: &[u8]) -> Result<(), DurableError
 
 /// Puts the value of a payload without its operation.
 fn put_again<T: Words>(words: &mut T, bytes: &[u8]) -> Result<(), DurableError>
-    ensures state { OnOk result (option_map (changed (T.state words.old)) (put_of bytes.now) ≡ Some (T.state words.new)) }
-    ensures cause { IfErr result (λ error. ReplayCause (option_map (changed (T.state words.old)) (put_of bytes.now)) error) }
+    ensures state { OnOk result (option_map (after_change (T.state words.old)) (put_of bytes.now) ≡ Some (T.state words.new)) }
+    ensures cause { IfErr result (λ error. ReplayCause (option_map (after_change (T.state words.old)) (put_of bytes.now)) error) }
 {
     if bytes.len() < 4 {
         return Err(DurableError::Corrupt);

@@ -1,7 +1,18 @@
 //! The store: a dictionary, and the journal of its changes.
 
-ghost use Rattle.std.specs.Prelude.{◌+◌, ◌<◌, ◌^◌, ◌≡◌, ◌≤◌, ◌∷◌, IfErr, IfOk, IfSome, IsErrOf, IsOk, OnErr, OnOk, Some, [], false, if◌then◌else◌, is_some, length, true};
-ghost use Rattle.cedar_store.specs.Words.{added, all_changed, changes_told, erase_at, ends_closed, erased, fault, format_of, first_refused, number_at, payload_of, recovered, state_of, stored, AllByRecursion, HasExtent, IsBeforeOrAfter, IsBeforeWrites, IsCorrupt, IsFaultless, IsRecordedIn, IsSettled, LeavesOnly, Only, OpenCause, put_at, ReadCause, CrashLeavesEither, HasState, IsBatchCause, IsChangeCause, IsCounted, IsEraseCause, IsLookedAfter, IsLookedAfterError, IsReadyStore, IsUnlooked, KeepsCount, LeavesUnwritten, LeavesStore};
+ghost use Rattle.std.specs.Prelude.{◌+◌, ◌<◌, ◌^◌, ◌≡◌, ◌≤◌, ◌∷◌, IfErr, IfOk, IfSome};
+ghost use Rattle.std.specs.Prelude.{IsErrOf, IsOk, OnErr, OnOk, Some, [], false};
+ghost use Rattle.std.specs.Prelude.{if◌then◌else◌, is_some, length, true};
+ghost use Rattle.cedar_store.specs.Words.{with_payload, all_changed, changes_told, erase_at};
+ghost use Rattle.cedar_store.specs.Words.{ends_closed, after_erase, fault, format_of};
+ghost use Rattle.cedar_store.specs.Words.{first_refused, number_at, payload_of, file_payloads};
+ghost use Rattle.cedar_store.specs.Words.{state_of, after_put, AllByRecursion, HasExtent};
+ghost use Rattle.cedar_store.specs.Words.{IsBeforeOrAfter, IsBeforeWrites, IsCorrupt, IsFaultless};
+ghost use Rattle.cedar_store.specs.Words.{IsRecordedIn, IsSettled, LeavesOnly, Only, OpenCause};
+ghost use Rattle.cedar_store.specs.Words.{put_at, ReadCause, CrashLeavesEither, HasState};
+ghost use Rattle.cedar_store.specs.Words.{IsBatchCause, IsChangeCause, IsCounted, IsEraseCause};
+ghost use Rattle.cedar_store.specs.Words.{IsLookedAfter, IsLookedAfterError, IsReadyStore};
+ghost use Rattle.cedar_store.specs.Words.{IsUnlooked, KeepsCount, LeavesUnwritten, LeavesStore};
 
 use crate::batch::{make, take_all_back};
 use crate::counts::count_records;
@@ -38,7 +49,7 @@ pub type CedarStore<A, D> = Store<Cedar<A>, A, D>;
 /// The store of a dictionary of the reduced layout.
 pub type ReducedStore<A, D> = Store<ReducedCedar<A>, A, D>;
 
-/// Reads a file, and returns the dictionary that it stands for, how far it goes, and its bytes.
+/// Reads a file, and returns the dictionary that it represents, how far it goes, and its bytes.
 fn read_words<T: Made<A>, A: Allocator + Copy, D: Device>(
     alloc: A,
     device: &mut D,
@@ -83,15 +94,15 @@ impl<T: Made<A>, A: Allocator + Copy, D: Device> Store<T, A, D> {
     /// closed gate. A new file gets its header.
     ///
     /// # Errors
-    /// With the device: `Foreign` if the file is of another kind, `Damaged` if a record is damaged, `Corrupt` if one is not a change, `Refused`
-    /// if memory or slots were refused, also the memory for the file's bytes; then nothing has been written. `Device` if the device failed; the
-    /// file stands for the same dictionary.
+    /// With the device: `Foreign` if the file is of another kind, `Damaged` if a record is damaged, `Corrupt` if one is not a change,
+    /// `Refused` if memory or slots were refused, also the memory for the file's bytes; then nothing has been written. `Device` if the
+    /// device failed; the file represents the same dictionary.
     pub fn open(alloc: A, device: D) -> Result<Self, (DurableError, D)>
         requires limit { T.limit }
         // After a restart, what is read is what is on the disk.
         requires restarted { Only (D.seen device) (D.may_leave device) }
 
-        //= An opened store is ready, and its dictionary is the one that the file stood for. So no store is opened of a file of another
+        //= An opened store is ready, and its dictionary is the one that the file represented. So no store is opened of a file of another
         //  kind, or of one with a record that is no change. [with made, sound]
         ensures ready { IfOk result (λ store. (store.failed ≡ false) × IsReadyStore D.seen D.may_leave T.state store) }
         ensures made { IfOk result (λ store. state_of (D.seen device) ≡ Some (T.state store.words)) }
@@ -101,19 +112,19 @@ impl<T: Made<A>, A: Allocator + Copy, D: Device> Store<T, A, D> {
         ensures counted { IfOk result (λ store. IsCounted D.seen store) }
 
         //= The rule of a store that was opened is the default: its file may be twice as long as its entries take, and 64 KiB. Its length
-        //  hasn't been looked at, and no compaction is told. [with unlooked, told]
+        //  hasn't been looked at, and no compaction is reported. [with unlooked, told]
         ensures rule { IfOk result (λ store. store.compaction ≡ Compaction.Beyond 2 65536) }
         ensures unlooked { IfOk result (λ store. store.base ≡ 0) }
         ensures told { IfOk result (λ store. store.last_compaction ≡ None) }
 
-        //= A crash at any moment while it is opened leaves a file that stands for the same dictionary, even if it isn't opened. [with
+        //= A crash at any moment while it is opened leaves a file that represents the same dictionary, even if it isn't opened. [with
         //  any_moment_err]
         ensures any_moment { IfOk result (λ store. LeavesOnly D.moment D.left_since device store.journal.device
             (λ c. state_of c ≡ state_of (D.seen device))) }
         ensures any_moment_err { IfErr result (λ e. LeavesOnly D.moment D.left_since device e.1
             (λ c. state_of c ≡ state_of (D.seen device))) }
 
-        //= A file is refused as foreign only if it is of another kind, as damaged if a record is damaged, at the place of the first such
+        //= A file is refused as foreign only if it is of another kind, as damaged if a record is damaged, at the position of the first such
         //  one, as corrupt if one of its records is no change, and otherwise only for lack of memory or slots, or if the device failed,
         //  which reported `Failed` only if the disk has failed.
         ensures cause { IfErr result (λ e. OpenCause (D.seen device) (D.faults device) (D.faults e.1) e.0) }
@@ -239,17 +250,17 @@ impl<T: Words, A: Allocator + Copy, D: ReplaceDevice> Store<T, A, D> {
     pub fn insert_bytes(&mut self, key: &[u8], value: i32) -> Result<Option<i32>, DurableError>
         requires ready { IsReadyStore D.seen D.may_leave T.state self.old }
 
-        //= An acknowledged insert or update has stored the value in the dictionary, and the file stands for it, on the disk. [with ready;
+        //= An acknowledged insert or update has stored the value in the dictionary, and the file represents it, on the disk. [with ready;
         //  also insert, update_bytes, update]
-        ensures stored { OnOk result (HasState T.state self.new (stored (T.state self.old.words) key.now value)) }
+        ensures stored { OnOk result (HasState T.state self.new (after_put (T.state self.old.words) key.now value)) }
         ensures ready { IsReadyStore D.seen D.may_leave T.state self.new }
 
         //= An insert returns the value that the key held before. [also insert]
         ensures held { IfOk result (λ held. held ≡ number_at (T.state self.old.words).tree key.now) }
 
-        //= A crash at any moment of an insert or update leaves a file that stands for the dictionary from before it, with the change or
+        //= A crash at any moment of an insert or update leaves a file that represents the dictionary from before it, with the change or
         //  without. [also insert, update_bytes, update]
-        ensures any_moment { CrashLeavesEither D.moment D.left_since T.state self.old self.new (stored (T.state self.old.words) key.now value) }
+        ensures any_moment { CrashLeavesEither D.moment D.left_since T.state self.old self.new (after_put (T.state self.old.words) key.now value) }
 
         //= On a store that has failed no change is made: dictionary, file and rule are as they were. [with untouched; also insert,
         //  update_bytes, update]
@@ -257,17 +268,18 @@ impl<T: Words, A: Allocator + Copy, D: ReplaceDevice> Store<T, A, D> {
         ensures untouched { self.old.failed ≡ true → self.new ≡ self.old }
 
         //= A change leaves the rule as it was. It adds one record to those of the file, and leaves them, unless the rule is another one
-        //  than `Never`: then the file may have been made short instead, which is told. [with recorded; also insert, update_bytes, update]
+        //  than `Never`: then the file may have been made short instead, which is reported. [with recorded; also insert, update_bytes,
+        //  update]
         ensures rule { self.new.compaction ≡ self.old.compaction }
         ensures recorded { OnOk result (IsRecordedIn D.seen T.state self.old self.new (put_at key.now value ∷ [])) }
 
         //= An acknowledged change looks after the length of its file, by the rule. If the file isn't too long for what it had at the last
         //  look, nothing is done. Otherwise it is looked at: it isn't too long for its entries, or it was made short, or it was kept as it
-        //  was, for lack of memory, for a record that would be too long, or by the device; then `last_compaction` tells why. [by
+        //  was, for lack of memory, for a record that would be too long, or by the device; then `last_compaction` has the reason. [by
         //  IsLookedAfter; also insert, update_bytes, update, erase_bytes, erase, apply_batch]
         ensures looked_after { OnOk result (IsLookedAfter D.seen D.faults T.state self.old self.new) }
 
-        //= A change that fails has looked at nothing and told of no compaction, unless the device failed in one, which is told. [by
+        //= A change that fails has looked at nothing and reports no compaction, unless the device failed in one: then it reports that. [by
         //  IsLookedAfterError; also insert, update_bytes, update, erase_bytes, erase, apply_batch]
         ensures told { OnErr result (IsLookedAfterError self.old self.new) }
 
@@ -284,9 +296,9 @@ impl<T: Words, A: Allocator + Copy, D: ReplaceDevice> Store<T, A, D> {
         ensures cause { IfErr result (IsChangeCause D.faults self.old self.new (fault key.now value) (length key.now + 5)) }
 
         //= After an error of the device the store has failed. After `NoRoom` it hasn't: the dictionary is as it was, and so is where the
-        //  records end; the file stands for it, on the disk. After any other, the dictionary, the file and the store are as they were. [also
-        //  insert, update_bytes, update]
-        ensures err { IfErr result (LeavesStore T.state self.old self.new (stored (T.state self.old.words) key.now value)) }
+        //  records end; the file represents it, on the disk. After any other, the dictionary, the file and the store are as they were.
+        //  [also insert, update_bytes, update]
+        ensures err { IfErr result (LeavesStore T.state self.old self.new (after_put (T.state self.old.words) key.now value)) }
     {
         if self.failed {
             return Err(DurableError::Failed);
@@ -316,10 +328,10 @@ impl<T: Words, A: Allocator + Copy, D: ReplaceDevice> Store<T, A, D> {
     /// As [`Store::insert_bytes`].
     pub fn insert(&mut self, key: &str, value: i32) -> Result<Option<i32>, DurableError>
         requires ready { IsReadyStore D.seen D.may_leave T.state self.old }
-        ensures stored { OnOk result (HasState T.state self.new (stored (T.state self.old.words) key.now value)) }
+        ensures stored { OnOk result (HasState T.state self.new (after_put (T.state self.old.words) key.now value)) }
         ensures ready { IsReadyStore D.seen D.may_leave T.state self.new }
         ensures held { IfOk result (λ held. held ≡ number_at (T.state self.old.words).tree key.now) }
-        ensures any_moment { CrashLeavesEither D.moment D.left_since T.state self.old self.new (stored (T.state self.old.words) key.now value) }
+        ensures any_moment { CrashLeavesEither D.moment D.left_since T.state self.old self.new (after_put (T.state self.old.words) key.now value) }
         ensures failed { self.old.failed ≡ true → result ≡ Err DurableError.Failed }
         ensures untouched { self.old.failed ≡ true → self.new ≡ self.old }
         ensures rule { self.new.compaction ≡ self.old.compaction }
@@ -329,7 +341,7 @@ impl<T: Words, A: Allocator + Copy, D: ReplaceDevice> Store<T, A, D> {
         ensures told { OnErr result (IsLookedAfterError self.old self.new) }
         ensures faulty { self.old.failed ≡ false → IfSome (fault key.now value) (λ e. result ≡ Err (DurableError.Refused e)) }
         ensures cause { IfErr result (IsChangeCause D.faults self.old self.new (fault key.now value) (length key.now + 5)) }
-        ensures err { IfErr result (LeavesStore T.state self.old self.new (stored (T.state self.old.words) key.now value)) }
+        ensures err { IfErr result (LeavesStore T.state self.old self.new (after_put (T.state self.old.words) key.now value)) }
     {
         self.insert_bytes(key.as_bytes(), value)
     }
@@ -340,9 +352,9 @@ impl<T: Words, A: Allocator + Copy, D: ReplaceDevice> Store<T, A, D> {
     /// As [`Store::insert_bytes`].
     pub fn update_bytes(&mut self, key: &[u8], value: i32) -> Result<(), DurableError>
         requires ready { IsReadyStore D.seen D.may_leave T.state self.old }
-        ensures stored { OnOk result (HasState T.state self.new (stored (T.state self.old.words) key.now value)) }
+        ensures stored { OnOk result (HasState T.state self.new (after_put (T.state self.old.words) key.now value)) }
         ensures ready { IsReadyStore D.seen D.may_leave T.state self.new }
-        ensures any_moment { CrashLeavesEither D.moment D.left_since T.state self.old self.new (stored (T.state self.old.words) key.now value) }
+        ensures any_moment { CrashLeavesEither D.moment D.left_since T.state self.old self.new (after_put (T.state self.old.words) key.now value) }
         ensures failed { self.old.failed ≡ true → result ≡ Err DurableError.Failed }
         ensures untouched { self.old.failed ≡ true → self.new ≡ self.old }
         ensures rule { self.new.compaction ≡ self.old.compaction }
@@ -352,7 +364,7 @@ impl<T: Words, A: Allocator + Copy, D: ReplaceDevice> Store<T, A, D> {
         ensures told { OnErr result (IsLookedAfterError self.old self.new) }
         ensures faulty { self.old.failed ≡ false → IfSome (fault key.now value) (λ e. result ≡ Err (DurableError.Refused e)) }
         ensures cause { IfErr result (IsChangeCause D.faults self.old self.new (fault key.now value) (length key.now + 5)) }
-        ensures err { IfErr result (LeavesStore T.state self.old self.new (stored (T.state self.old.words) key.now value)) }
+        ensures err { IfErr result (LeavesStore T.state self.old self.new (after_put (T.state self.old.words) key.now value)) }
     {
         match self.insert_bytes(key, value) {
             Ok(_) => Ok(()),
@@ -366,9 +378,9 @@ impl<T: Words, A: Allocator + Copy, D: ReplaceDevice> Store<T, A, D> {
     /// As [`Store::insert_bytes`].
     pub fn update(&mut self, key: &str, value: i32) -> Result<(), DurableError>
         requires ready { IsReadyStore D.seen D.may_leave T.state self.old }
-        ensures stored { OnOk result (HasState T.state self.new (stored (T.state self.old.words) key.now value)) }
+        ensures stored { OnOk result (HasState T.state self.new (after_put (T.state self.old.words) key.now value)) }
         ensures ready { IsReadyStore D.seen D.may_leave T.state self.new }
-        ensures any_moment { CrashLeavesEither D.moment D.left_since T.state self.old self.new (stored (T.state self.old.words) key.now value) }
+        ensures any_moment { CrashLeavesEither D.moment D.left_since T.state self.old self.new (after_put (T.state self.old.words) key.now value) }
         ensures failed { self.old.failed ≡ true → result ≡ Err DurableError.Failed }
         ensures untouched { self.old.failed ≡ true → self.new ≡ self.old }
         ensures rule { self.new.compaction ≡ self.old.compaction }
@@ -378,7 +390,7 @@ impl<T: Words, A: Allocator + Copy, D: ReplaceDevice> Store<T, A, D> {
         ensures told { OnErr result (IsLookedAfterError self.old self.new) }
         ensures faulty { self.old.failed ≡ false → IfSome (fault key.now value) (λ e. result ≡ Err (DurableError.Refused e)) }
         ensures cause { IfErr result (IsChangeCause D.faults self.old self.new (fault key.now value) (length key.now + 5)) }
-        ensures err { IfErr result (LeavesStore T.state self.old self.new (stored (T.state self.old.words) key.now value)) }
+        ensures err { IfErr result (LeavesStore T.state self.old self.new (after_put (T.state self.old.words) key.now value)) }
     {
         self.update_bytes(key.as_bytes(), value)
     }
@@ -392,16 +404,16 @@ impl<T: Words, A: Allocator + Copy, D: ReplaceDevice> Store<T, A, D> {
     pub fn erase_bytes(&mut self, key: &[u8]) -> Result<bool, DurableError>
         requires ready { IsReadyStore D.seen D.may_leave T.state self.old }
 
-        //= An acknowledged erasure has removed the key from the dictionary, and the file stands for it, on the disk. It returns whether the
+        //= An acknowledged erasure has removed the key from the dictionary, and the file represents it, on the disk. It returns whether the
         //  key was held. If it wasn't, the file doesn't change. [with ready, answer, missed; also erase]
-        ensures erased { IfOk result (λ held. HasState T.state self.new (if held then erased (T.state self.old.words) key.now else (T.state self.old.words))) }
+        ensures erased { IfOk result (λ held. HasState T.state self.new (if held then after_erase (T.state self.old.words) key.now else (T.state self.old.words))) }
         ensures ready { IsReadyStore D.seen D.may_leave T.state self.new }
         ensures answer { IfOk result (λ held. held ≡ is_some (number_at (T.state self.old.words).tree key.now)) }
         ensures missed { IfOk result (λ held. held ≡ false → self.new.journal ≡ self.old.journal) }
 
-        //= A crash at any moment of an erasure leaves a file that stands for the dictionary from before it, with the change or without.
+        //= A crash at any moment of an erasure leaves a file that represents the dictionary from before it, with the change or without.
         //  [also erase]
-        ensures any_moment { CrashLeavesEither D.moment D.left_since T.state self.old self.new (erased (T.state self.old.words) key.now) }
+        ensures any_moment { CrashLeavesEither D.moment D.left_since T.state self.old self.new (after_erase (T.state self.old.words) key.now) }
 
         //= On a store that has failed no change is made: dictionary, file and rule are as they were. [with untouched; also erase]
         ensures failed { self.old.failed ≡ true → result ≡ Err DurableError.Failed }
@@ -418,9 +430,9 @@ impl<T: Words, A: Allocator + Copy, D: ReplaceDevice> Store<T, A, D> {
         //  back, or if the device failed. [also erase]
         ensures cause { IfErr result (IsEraseCause D.faults self.old self.new (length key.now + 1)) }
 
-        //= After an error of the device the store has failed. After `NoRoom` it hasn't: the dictionary is as it was, and the file stands
-        //  for it. After any other, the dictionary, the file and the store are as they were. [also erase]
-        ensures err { IfErr result (LeavesStore T.state self.old self.new (erased (T.state self.old.words) key.now)) }
+        //= After an error of the device the store has failed. After `NoRoom` it hasn't: the dictionary is as it was, and the file
+        //  represents it. After any other, the dictionary, the file and the store are as they were. [also erase]
+        ensures err { IfErr result (LeavesStore T.state self.old self.new (after_erase (T.state self.old.words) key.now)) }
     {
         if self.failed {
             return Err(DurableError::Failed);
@@ -439,11 +451,11 @@ impl<T: Words, A: Allocator + Copy, D: ReplaceDevice> Store<T, A, D> {
     /// As [`Store::erase_bytes`].
     pub fn erase(&mut self, key: &str) -> Result<bool, DurableError>
         requires ready { IsReadyStore D.seen D.may_leave T.state self.old }
-        ensures erased { IfOk result (λ held. HasState T.state self.new (if held then erased (T.state self.old.words) key.now else (T.state self.old.words))) }
+        ensures erased { IfOk result (λ held. HasState T.state self.new (if held then after_erase (T.state self.old.words) key.now else (T.state self.old.words))) }
         ensures ready { IsReadyStore D.seen D.may_leave T.state self.new }
         ensures answer { IfOk result (λ held. held ≡ is_some (number_at (T.state self.old.words).tree key.now)) }
         ensures missed { IfOk result (λ held. held ≡ false → self.new.journal ≡ self.old.journal) }
-        ensures any_moment { CrashLeavesEither D.moment D.left_since T.state self.old self.new (erased (T.state self.old.words) key.now) }
+        ensures any_moment { CrashLeavesEither D.moment D.left_since T.state self.old self.new (after_erase (T.state self.old.words) key.now) }
         ensures failed { self.old.failed ≡ true → result ≡ Err DurableError.Failed }
         ensures untouched { self.old.failed ≡ true → self.new ≡ self.old }
         ensures rule { self.new.compaction ≡ self.old.compaction }
@@ -452,7 +464,7 @@ impl<T: Words, A: Allocator + Copy, D: ReplaceDevice> Store<T, A, D> {
         ensures looked_after { IfOk result (λ held. held ≡ true → IsLookedAfter D.seen D.faults T.state self.old self.new) }
         ensures told { OnErr result (IsLookedAfterError self.old self.new) }
         ensures cause { IfErr result (IsEraseCause D.faults self.old self.new (length key.now + 1)) }
-        ensures err { IfErr result (LeavesStore T.state self.old self.new (erased (T.state self.old.words) key.now)) }
+        ensures err { IfErr result (LeavesStore T.state self.old self.new (after_erase (T.state self.old.words) key.now)) }
     {
         self.erase_bytes(key.as_bytes())
     }
@@ -470,13 +482,13 @@ impl<T: Words, A: Allocator + Copy, D: ReplaceDevice> Store<T, A, D> {
     pub fn apply_batch(&mut self, changes: &[Change<'_>]) -> Result<(), DurableError>
         requires ready { IsReadyStore D.seen D.may_leave T.state self.old }
 
-        //= Once a batch is acknowledged, the dictionary is as all of its changes leave it, one after another, and the file stands for that,
+        //= Once a batch is acknowledged, the dictionary is as all of its changes leave it, one after another, and the file represents that,
         //  on the disk. A batch of no changes leaves the file as it was. [with ready, nothing]
         ensures made { OnOk result (HasState T.state self.new (all_changed (T.state self.old.words) (changes_told changes.now))) }
         ensures ready { IsReadyStore D.seen D.may_leave T.state self.new }
         ensures nothing { OnOk result (changes.now ≡ [] → self.new.journal ≡ self.old.journal) }
 
-        //= A crash at any moment of a batch leaves a file that stands for the dictionary from before it, or for the one with all of its
+        //= A crash at any moment of a batch leaves a file that represents the dictionary from before it, or the one with all of its
         //  changes.
         ensures any_moment { CrashLeavesEither D.moment D.left_since T.state self.old self.new (all_changed (T.state self.old.words) (changes_told changes.now)) }
 
@@ -501,7 +513,7 @@ impl<T: Words, A: Allocator + Copy, D: ReplaceDevice> Store<T, A, D> {
         ensures cause { IfErr result (IsBatchCause D.faults self.old self.new (changes_told changes.now)) }
 
         //= After an error of the device the store has failed and the dictionary has all of a batch. After `NoRoom` it hasn't: the
-        //  dictionary is as it was, and the file stands for it. After any other, the dictionary, the file and the store are as they were.
+        //  dictionary is as it was, and the file represents it. After any other, the dictionary, the file and the store are as they were.
         ensures err { IfErr result (LeavesStore T.state self.old self.new (all_changed (T.state self.old.words) (changes_told changes.now))) }
     {
         if self.failed {
@@ -528,11 +540,11 @@ impl<T: Words, A: Allocator + Copy, D: ReplaceDevice> Store<T, A, D> {
         requires settled { IsSettled D.seen D.may_leave self.old.journal.device self.old.journal.format self.old.journal.end }
         requires room { self.old.journal.end < 2 ^ 60 }
         ensures settled { OnOk result (IsSettled D.seen D.may_leave self.new.journal.device self.new.journal.format self.new.journal.end) }
-        ensures acknowledged { OnOk result (recovered (D.seen self.new.journal.device) ≡ added (payload_of frame.now) (recovered (D.seen self.old.journal.device))) }
+        ensures acknowledged { OnOk result (file_payloads (D.seen self.new.journal.device) ≡ with_payload (payload_of frame.now) (file_payloads (D.seen self.old.journal.device))) }
         ensures failed { OnOk result (self.new.failed ≡ self.old.failed) }
         ensures faults { D.faults self.old.journal.device ≤ D.faults self.new.journal.device }
         ensures no_room { IsErrOf result DurableError.NoRoom → IsSettled D.seen D.may_leave self.new.journal.device self.new.journal.format self.new.journal.end }
-        ensures same_left { IsErrOf result DurableError.NoRoom → recovered (D.seen self.new.journal.device) ≡ recovered (D.seen self.old.journal.device) }
+        ensures same_left { IsErrOf result DurableError.NoRoom → file_payloads (D.seen self.new.journal.device) ≡ file_payloads (D.seen self.old.journal.device) }
         ensures end { OnErr result (self.new.journal.end ≡ self.old.journal.end) }
         ensures err { IfErr result (LeavesUnwritten D.faults self.old self.new) }
         ensures words { self.new.words ≡ self.old.words }
@@ -540,7 +552,7 @@ impl<T: Words, A: Allocator + Copy, D: ReplaceDevice> Store<T, A, D> {
         ensures rule { self.new.compaction ≡ self.old.compaction }
         ensures counted { KeepsCount D.seen self.old self.new }
         ensures any_moment { LeavesOnly D.moment D.left_since self.old.journal.device self.new.journal.device
-            (IsBeforeOrAfter (recovered (D.seen self.old.journal.device)) (payload_of frame.now)) }
+            (IsBeforeOrAfter (file_payloads (D.seen self.old.journal.device)) (payload_of frame.now)) }
     {
         match self.journal.append(frame) {
             Ok(()) => {

@@ -1,7 +1,12 @@
 //! The dictionary of a store, as the store sees it.
 
-ghost use Rattle.std.specs.Prelude.{◌≡◌, IfErr, IfOk, IfSome, None, OnOk, Some, is_some, length, true};
-ghost use Rattle.cedar_store.specs.Words.{compacted_length, erased, image_bytes, IsAscending, IsBeforeReplacing, IsLimit, IsPut, IsPutOf, IsShortage, IsSound, new_state, number_at, outcome, payloads_of, replayed, State, value_fault, walk};
+ghost use Rattle.std.specs.Prelude.{◌≡◌, IfErr, IfOk, IfSome, None, OnOk, Some};
+ghost use Rattle.std.specs.Prelude.{is_some, length, true};
+ghost use Rattle.cedar_store.specs.Words.{after_erase, after_payloads, compacted_length};
+ghost use Rattle.cedar_store.specs.Words.{image_bytes, IsAscending, IsBeforeReplacing, IsLimit};
+ghost use Rattle.cedar_store.specs.Words.{IsPut, IsPutOf, IsShortage, IsSound, new_state};
+ghost use Rattle.cedar_store.specs.Words.{number_at, outcome, payloads_of, State, value_fault};
+ghost use Rattle.cedar_store.specs.Words.{walk};
 
 use crate::CompactError;
 use crate::compact::image_of;
@@ -20,7 +25,7 @@ pub trait Words: Drop {
     /// The pair's first fault, or `Memory` or `SlotLimit`. Then it is as it was.
     fn put(&mut self, key: &[u8], value: i32) -> Result<Option<i32>, CedarError>
         //= The trait of dictionaries that a store keeps: what its calls do to the state, in the words of a dictionary's own calls. [with
-        //  held, sound, in_range]
+        //  held, sound, in_range; also put_over]
         ensures updated { IsPut (state self.old) (state self.new) key.now value (outcome result) }
         ensures held { IfOk result (λ held. held ≡ number_at (state self.old).tree key.now) }
         ensures sound { OnOk result (IsSound (state self.old).tree) }
@@ -35,10 +40,12 @@ pub trait Words: Drop {
 
     /// Removes a key, if it is held.
     fn remove(&mut self, key: &[u8])
-        ensures { state self.new ≡ erased (state self.old) key.now };
+        //= `remove` erases a key.
+        ensures { state self.new ≡ after_erase (state self.old) key.now };
 
     /// Whether a key is held.
     fn holds(&self, key: &[u8]) -> bool
+        //= `holds` returns whether a key is held.
         ensures { result ≡ is_some (number_at (state self.now).tree key.now) };
 
     /// How many keys are held.
@@ -56,7 +63,7 @@ pub trait Words: Drop {
     fn image<B: Allocator + Copy>(&self, alloc: B) -> Result<Image<B>, CompactError>
         //= Such a dictionary can be written as a journal's file, of one record for each entry. If it is ordered, their changes make it
         //  again. [with length, count, cause]
-        ensures made { (state self.now).ordered ≡ true → IfOk result (λ image. replayed new_state (payloads_of image) ≡ Some (state self.now)) }
+        ensures made { (state self.now).ordered ≡ true → IfOk result (λ image. after_payloads new_state (payloads_of image) ≡ Some (state self.now)) }
         ensures length { IfOk result (λ image. length (image_bytes image) ≡ compacted_length (walk (state self.now).tree)) }
         ensures count { IfOk result (λ image. length (payloads_of image) ≡ length (walk (state self.now).tree)) }
         ensures cause { IfErr result (λ error. IsBeforeReplacing error) };

@@ -1,4 +1,4 @@
--- How many blocks a table has once more are in use, and what a table stands for that has grown.
+-- How many blocks a table has once more are in use, and what a table represents that has grown.
 use Rattle.std.proofs.Common.{◌≡◌, ◌⊎◌, ℕ, zero, suc, ◌+◌, ◌*◌, ◌^◌, ◌==◌, ◌<◌, ◌≤◌, inl, inr, cond, length, negsuc, nat_lt, None, refl, ap, subst, sym, ◌∙◌, arith}
 use Rattle.std.proofs.lemmas.Bool.{cases_eq, cond-false, cond-true, eq-eqb, ne_eqb}
 use Rattle.cedar_slots.specs.Places.{Grown, IsPowerOfTwo, IsTable, PlaceFields}

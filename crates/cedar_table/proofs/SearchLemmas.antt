@@ -1,7 +1,7 @@
 -- Four labels of a key, walked at once.
 use Rattle.std.proofs.Common.{◌≡◌, ℕ, ◌≤◌, ◌-◌, ◌∙◌, List, length, get_or, take, drop, sym, ap, refl, arith, length-drop}
 use Rattle.std.proofs.lemmas.List.{take_all}
-use Rattle.cedar_tree.specs.Tree.{Tree, number_at, subtree}
+use Rattle.cedar_model.specs.Tree.{Tree, number_at, subtree}
 use Rattle.cedar_model.proofs.MeaningLemmas.SearchStep.{step_down}
 
 -- the trees under the first labels of what is left of a key

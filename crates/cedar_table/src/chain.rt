@@ -1,7 +1,8 @@
 //! The chain of a node's labels: what a slot says about the next one, and a slot put into the chain.
 
 ghost use Rattle.std.specs.Prelude.{◌<◌, ◌≢◌, MatchOption};
-ghost use Rattle.cedar_table.specs.Words.{cells, fields, Held, IsTable, LinkedBehind, LinkedChild, SameFrame, SetsChild, SetsSibling, size_of};
+ghost use Rattle.cedar_table.specs.Words.{cells, fields, Held, IsTable, LinkedBehind, LinkedChild};
+ghost use Rattle.cedar_table.specs.Words.{SameFrame, SetsChild, SetsSibling, size_of};
 
 use crate::table::Table;
 use cedar_model::Layout;
@@ -15,6 +16,8 @@ impl<L: Layout, const SLOTS: usize, A: Allocator> Table<L, SLOTS, A> {
         requires slot_in { slot < size_of (fields self.old) }
         requires slot_held { Held (cells self.old) slot }
         ensures sound { IsTable SLOTS (fields self.new).places }
+
+        //= `set_sibling` sets the label after a slot's, and changes nothing else.
         ensures set { SetsSibling (cells self.old) (cells self.new) slot label }
         ensures frame { SameFrame (fields self.old) (fields self.new) }
     {
@@ -31,6 +34,8 @@ impl<L: Layout, const SLOTS: usize, A: Allocator> Table<L, SLOTS, A> {
         requires slot_in { slot < size_of (fields self.old) }
         requires slot_held { Held (cells self.old) slot }
         ensures sound { IsTable SLOTS (fields self.new).places }
+
+        //= `set_child` sets the label that begins a slot's chain, and changes nothing else.
         ensures set { SetsChild (cells self.old) (cells self.new) slot label }
         ensures frame { SameFrame (fields self.old) (fields self.new) }
     {
@@ -51,6 +56,8 @@ impl<L: Layout, const SLOTS: usize, A: Allocator> Table<L, SLOTS, A> {
         requires slot_held { Held (cells self.old) slot }
         requires apart { node ≢ slot }
         ensures sound { IsTable SLOTS (fields self.new).places }
+
+        //= `link` puts a slot into a node's chain, behind another one or first of all, and changes nothing else.
         ensures linked { MatchOption before (LinkedChild (cells self.old) (cells self.new) node slot label) (λ b. LinkedBehind (cells self.old) (cells self.new) b slot label) }
         ensures frame { SameFrame (fields self.old) (fields self.new) }
     {

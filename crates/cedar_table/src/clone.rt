@@ -29,11 +29,11 @@ fn copied_places<A: Allocator + Copy>(places: &Places<A>) -> Result<Places<A>, A
 {
     Ok(Places {
         slots: Slots {
-            nodes: places.slots.nodes.copied()?,
-            infos: places.slots.infos.copied()?,
+            nodes: places.slots.nodes.try_copy()?,
+            infos: places.slots.infos.try_copy()?,
         },
         blocks: Blocks {
-            records: places.blocks.records.copied()?,
+            records: places.blocks.records.try_copy()?,
             full_head: places.blocks.full_head,
             closed_head: places.blocks.closed_head,
             open_head: places.blocks.open_head,

@@ -1,4 +1,4 @@
-//! The table of slots of a double-array trie, whose held slots stand for a labelled tree: its nodes read and written one at
+//! The table of slots of a double-array trie, whose held slots represent a labelled tree: its nodes read and written one at
 //! a time, and look-ups. Updates, erasures and walks are in crates above it.
 #![tactic(auto)]
 

@@ -1,7 +1,13 @@
 //! One node of a table, read and written: its base, its owner, its slots for labels, its labels, and the node of a key.
 
-ghost use Rattle.std.specs.Prelude.{◌<◌, ◌^◌, ◌↔◌, ◌≡◌, ◌≢◌, [], IsTrue, length, List, MatchOption, None, pos, Some, true, ℕ};
-ghost use Rattle.cedar_table.specs.Words.{base_of, below, cells, ChecksAt, edit_at, empty_tree, Family, fields, FieldSet, Forest, HasNode, HasPath, Head, Held, is_value, IsAt, IsNode, IsTable, IsWellFormed, Links, node_at, Nothing, number_at, owned_slots, OwnNumber, OwnsNothing, Rebased, reduced_layout, SameFrame, size_of, TableHolds, tree_of};
+ghost use Rattle.std.specs.Prelude.{◌<◌, ◌^◌, ◌↔◌, ◌≡◌, ◌≢◌, [], IsTrue, length, List};
+ghost use Rattle.std.specs.Prelude.{MatchOption, None, pos, Some, true, ℕ};
+ghost use Rattle.cedar_table.specs.Words.{base_of, below, cells, ChecksAt, edit_at, empty_tree};
+ghost use Rattle.cedar_table.specs.Words.{Family, fields, FieldSet, Forest, HasNode, HasPath, Head};
+ghost use Rattle.cedar_table.specs.Words.{Held, is_value, IsAt, IsNode, IsTable, IsWellFormed};
+ghost use Rattle.cedar_table.specs.Words.{Links, node_at, Nothing, number_at, owned_slots};
+ghost use Rattle.cedar_table.specs.Words.{OwnNumber, OwnsNothing, Rebased, reduced_layout};
+ghost use Rattle.cedar_table.specs.Words.{SameFrame, size_of, TableHolds, tree_of};
 
 use crate::table::Table;
 use arrayvec::ArrayVec;
@@ -23,23 +29,10 @@ impl<L: Layout, const SLOTS: usize, A: Allocator> Table<L, SLOTS, A> {
     pub fn base_of(&self, node: usize) -> usize
         requires { node < size_of (fields self.now) }
 
-        //= `base_of`, `child_slot`: where a node's slots begin, and its slot for a label. [also child_slot]
+        //= `base_of`, `child_slot`: where a node's slots begin, and its slot for a label. [also child_slot, slot_below]
         ensures { result ≡ base_of (cells self.now) node }
     {
-        match self.stored(node) {
-            Stored::AtBase(base) => base,
-            Stored::OwnNumber(_) => 0,
-            Stored::Nothing => 0,
-        }
-    }
-
-    /// Returns where a node's slots begin, or 0 if its base field has its own number. In the default layout there is no test.
-    pub(crate) fn node_base(&self, node: usize) -> usize
-        requires node_in { node < size_of (fields self.now) }
-        requires says { (cells self.now).stored node ≢ Nothing }
-        ensures { result ≡ base_of (cells self.now) node }
-    {
-        match self.stored_at_node(node) {
+        match self.stored_at(node) {
             Stored::AtBase(base) => base,
             Stored::OwnNumber(_) => 0,
             Stored::Nothing => 0,
@@ -60,13 +53,15 @@ impl<L: Layout, const SLOTS: usize, A: Allocator> Table<L, SLOTS, A> {
         requires says { (cells self.now).stored node ≢ Nothing }
         ensures { result ≡ below (cells self.now) node label }
     {
-        self.node_base(node) ^ usize::from(label)
+        node_base(self, node) ^ usize::from(label)
     }
 
     /// Returns the owner of a held slot that isn't the root's.
     pub fn owner(&self, slot: usize) -> usize
         requires slot_in { slot < size_of (fields self.now) }
         requires owned { (c : ℕ) × ((cells self.now).check slot ≡ pos c) }
+
+        //= `owner` returns the owner of a slot.
         ensures { (cells self.now).check slot ≡ pos result }
     {
         self.places.slots.nodes.at(slot).check as usize
@@ -76,6 +71,8 @@ impl<L: Layout, const SLOTS: usize, A: Allocator> Table<L, SLOTS, A> {
     pub fn is_owned_by(&self, slot: usize, owner: usize) -> bool
         requires slot_in { slot < size_of (fields self.now) }
         requires owner_in { owner < size_of (fields self.now) }
+
+        //= `is_owned_by` returns whether a slot belongs to this owner.
         ensures { IsTrue result ↔ ((cells self.now).check slot ≡ pos owner) }
     {
         self.places.slots.nodes.at(slot).check == owner as i32
@@ -85,6 +82,8 @@ impl<L: Layout, const SLOTS: usize, A: Allocator> Table<L, SLOTS, A> {
     pub fn is_free_slot(&self, slot: usize) -> bool
         requires slot_in { slot < size_of (fields self.now) }
         requires not_root { slot ≢ 0 }
+
+        //= `is_free_slot` returns whether a slot isn't held.
         ensures { IsTrue result ↔ (Held (cells self.now) slot → ⊥) }
     {
         self.places.slots.nodes.at(slot).check < 0
@@ -96,12 +95,14 @@ impl<L: Layout, const SLOTS: usize, A: Allocator> Table<L, SLOTS, A> {
         requires node_in { node < size_of (fields self.now) }
         requires not_root { node ≢ 0 }
         requires node { IsNode (size_of (fields self.now)) (cells self.now) node }
+
+        //= `has_number_slot` returns whether a node owns its slot for label 0.
         ensures { IsTrue result ↔ ((cells self.now).check (below (cells self.now) node 0) ≡ pos node) }
     {
         if self.child(node) != 0 {
             return false;
         }
-        self.is_owned_by(self.node_base(node), node)
+        self.is_owned_by(node_base(self, node), node)
     }
 
     /// Returns the first label of a node's chain, which begins after its number's slot, if it has one.
@@ -109,6 +110,8 @@ impl<L: Layout, const SLOTS: usize, A: Allocator> Table<L, SLOTS, A> {
         requires node_in { node < size_of (fields self.now) }
         requires not_root { node ≢ 0 }
         requires node { IsNode (size_of (fields self.now)) (cells self.now) node }
+
+        //= `first_label` returns the first label of a node's chain, or 0.
         ensures { (h : Head) (ls : List ℕ) → Family (size_of (fields self.now)) (cells self.now) node h ls → Links (cells self.now) node result ls }
     {
         if self.has_number_slot(node) {
@@ -124,6 +127,9 @@ impl<L: Layout, const SLOTS: usize, A: Allocator> Table<L, SLOTS, A> {
         requires node_in { node < size_of (fields self.now) }
         requires not_root { node ≢ 0 }
         requires node { IsNode (size_of (fields self.now)) (cells self.now) node }
+
+        //= `labels_of` returns the labels under which a node owns slots, 0 for its number first; `None` if they are more than it may
+        //  return.
         ensures { (h : Head) (ls : List ℕ) → Family (size_of (fields self.now)) (cells self.now) node h ls → MatchOption result (MOST < length (owned_slots h ls)) (λ labels. labels.items ≡ owned_slots h ls) }
     {
         let mut labels = number_label(self, node);
@@ -144,6 +150,8 @@ impl<L: Layout, const SLOTS: usize, A: Allocator> Table<L, SLOTS, A> {
         requires node_in { node < size_of (fields self.now) }
         requires not_root { node ≢ 0 }
         requires node { IsNode (size_of (fields self.now)) (cells self.now) node }
+
+        //= `all_labels_of` returns all of them.
         ensures { (h : Head) (ls : List ℕ) → Family (size_of (fields self.now)) (cells self.now) node h ls → result.items ≡ owned_slots h ls }
     {
         match self.labels_of(node) {
@@ -155,6 +163,8 @@ impl<L: Layout, const SLOTS: usize, A: Allocator> Table<L, SLOTS, A> {
     /// Returns the slot of a key's node, if there is one.
     pub fn node_of(&self, key: &[u8]) -> Option<usize>
         requires { IsWellFormed SLOTS (fields self.now) }
+
+        //= `node_of` returns the slot of a path's node. If it returns `None`, the tree has no number there, and nothing below.
         ensures { MatchOption result ((number_at (tree_of (fields self.now)) key.now ≡ None) × (node_at (tree_of (fields self.now)) key.now ≡ empty_tree)) (λ s. (s < size_of (fields self.now)) × HasPath (tree_of (fields self.now)) key.now × IsAt (cells self.now) key.now s) }
     {
         let mut node = 0;
@@ -176,6 +186,8 @@ impl<L: Layout, const SLOTS: usize, A: Allocator> Table<L, SLOTS, A> {
         requires slot_held { Held (cells self.old) slot }
         requires owner_in { owner < 2 ^ 31 }
         ensures sound { IsTable SLOTS (fields self.new).places }
+
+        //= `set_check` makes a slot belong to an owner, and changes nothing else.
         ensures at { ChecksAt (cells self.old) (cells self.new) slot owner }
         ensures frame { SameFrame (fields self.old) (fields self.new) }
     {
@@ -194,6 +206,8 @@ impl<L: Layout, const SLOTS: usize, A: Allocator> Table<L, SLOTS, A> {
         requires node_held { Held (cells self.old) node }
         requires not_root { node ≢ 0 }
         ensures sound { IsTable SLOTS (fields self.new).places }
+
+        //= `set_base` sets where the slots of a node begin, and changes nothing else.
         ensures rebased { Rebased (cells self.old) (cells self.new) node base }
         ensures frame { SameFrame (fields self.old) (fields self.new) }
     {
@@ -214,6 +228,9 @@ impl<L: Layout, const SLOTS: usize, A: Allocator> Table<L, SLOTS, A> {
         requires layout { (fields self.old).layout ≡ reduced_layout }
         requires value { is_value value ≡ true }
         ensures sound { IsTable SLOTS (fields self.new).places }
+
+        //= `set_own_number` sets a number in the base field of a node that owns no slot, and changes nothing else: the tree has that number
+        //  there then. [with tree]
         ensures set { FieldSet (cells self.old) (cells self.new) node (OwnNumber value) }
         ensures tree { (f : Forest) (w : List ℕ) → TableHolds (fields self.old) f → IsAt (cells self.old) w node
             → TableHolds (fields self.new) (edit_at w (λ _. Some value) (λ u. u) f) }
@@ -224,6 +241,22 @@ impl<L: Layout, const SLOTS: usize, A: Allocator> Table<L, SLOTS, A> {
             check: self.places.slots.nodes.at(node).check,
         };
         self.write_node(node, record);
+    }
+}
+
+/// Returns where a node's slots begin, or 0 if its base field has its own number. In the default layout there is no test.
+fn node_base<L: Layout, const SLOTS: usize, A: Allocator>(
+    table: &Table<L, SLOTS, A>,
+    node: usize,
+) -> usize
+    requires node_in { node < size_of (fields table.now) }
+    requires says { (cells table.now).stored node ≢ Nothing }
+    ensures { result ≡ base_of (cells table.now) node }
+{
+    match table.stored_at_node(node) {
+        Stored::AtBase(base) => base,
+        Stored::OwnNumber(_) => 0,
+        Stored::Nothing => 0,
     }
 }
 

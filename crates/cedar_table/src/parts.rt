@@ -1,7 +1,8 @@
 //! A table as its parts: it is made from them when it is loaded, and returns them when it is saved.
 
 ghost use Rattle.std.specs.Prelude.{◌*◌, ◌≡◌, ◌≤◌, length};
-ghost use Rattle.cedar_table.specs.Words.{blank_block, blank_info, blank_node, fields, padded, parts_fields, places_of, Shaped, size_of};
+ghost use Rattle.cedar_table.specs.Words.{blank_block, blank_info, blank_node, fields};
+ghost use Rattle.cedar_table.specs.Words.{parts_fields, places_of, Shaped, size_of, with_blanks};
 
 use crate::table::Table;
 use cedar_model::Layout;
@@ -71,7 +72,7 @@ impl<L: Layout, const SLOTS: usize, A: Allocator> Table<L, SLOTS, A> {
 
     /// Returns the slots that are in memory, to be written out: those in use, and maybe more. All others are blank.
     pub fn node_records(&self) -> &[NodeRecord]
-        ensures all { (fields self.now).places.slots.nodes ≡ padded blank_node (length (fields self.now).places.slots.nodes) result.now }
+        ensures all { (fields self.now).places.slots.nodes ≡ with_blanks blank_node (length (fields self.now).places.slots.nodes) result.now }
         ensures some { size_of (fields self.now) ≤ length result.now }
     {
         self.places.slots.nodes.front()
@@ -79,7 +80,7 @@ impl<L: Layout, const SLOTS: usize, A: Allocator> Table<L, SLOTS, A> {
 
     /// Returns the labels of the slots that are in memory, to be written out. All others are blank.
     pub fn info_records(&self) -> &[NInfoRecord]
-        ensures all { (fields self.now).places.slots.infos ≡ padded blank_info (length (fields self.now).places.slots.infos) result.now }
+        ensures all { (fields self.now).places.slots.infos ≡ with_blanks blank_info (length (fields self.now).places.slots.infos) result.now }
         ensures some { size_of (fields self.now) ≤ length result.now }
     {
         self.places.slots.infos.front()
@@ -87,7 +88,7 @@ impl<L: Layout, const SLOTS: usize, A: Allocator> Table<L, SLOTS, A> {
 
     /// Returns the blocks that are in memory, to be written out. All others are blank.
     pub fn block_records(&self) -> &[BlockRecord]
-        ensures all { (fields self.now).places.blocks.records ≡ padded blank_block (length (fields self.now).places.blocks.records) result.now }
+        ensures all { (fields self.now).places.blocks.records ≡ with_blanks blank_block (length (fields self.now).places.blocks.records) result.now }
         ensures some { size_of (fields self.now) ≤ 256 * length result.now }
     {
         self.places.blocks.records.front()

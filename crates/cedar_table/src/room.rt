@@ -1,7 +1,9 @@
 //! Room for blocks that are not in use yet.
 
 ghost use Rattle.std.specs.Prelude.{◌*◌, ◌+◌, ◌<◌, ◌^◌, ◌≡◌, ◌≤◌, IfErr, length, OnErr, OnOk};
-ghost use Rattle.cedar_table.specs.Words.{blocks_after, capacity_of, cells, fields, Grown, IsWellFormed, LacksBlocks, marks, SameSettings, size_of, tree_of};
+ghost use Rattle.cedar_table.specs.Words.{blocks_after, capacity_of, cells, fields, Grown};
+ghost use Rattle.cedar_table.specs.Words.{IsWellFormed, LacksBlocks, marks, SameSettings};
+ghost use Rattle.cedar_table.specs.Words.{size_of, tree_of};
 
 use crate::table::Table;
 use cedar_model::Layout;

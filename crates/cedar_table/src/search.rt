@@ -7,8 +7,10 @@ use std::alloc::Allocator;
 use std::sync::ledger::Ledger;
 
 impl<L: Layout, const SLOTS: usize, A: Allocator> Table<L, SLOTS, A> {
-    ghost use Rattle.std.specs.Prelude.{◌+◌, ◌<◌, ◌↔◌, ◌≡◌, ◌≤◌, false, IsTrue, length, MatchOption, OnSome, pos};
-    ghost use Rattle.cedar_table.specs.Words.{cells, exact, fields, has_label, IsWellFormed, size_of, Stands, subtree, Tree, tree_of};
+    ghost use Rattle.std.specs.Prelude.{◌+◌, ◌<◌, ◌↔◌, ◌≡◌, ◌≤◌, false, IsTrue, length};
+    ghost use Rattle.std.specs.Prelude.{MatchOption, OnSome, pos};
+    ghost use Rattle.cedar_table.specs.Words.{cells, exact, fields, has_label, IsWellFormed};
+    ghost use Rattle.cedar_table.specs.Words.{size_of, Stands, subtree, Tree, tree_of};
 
     /// Returns whether a slot belongs to an owner: one comparison of a check field with a slot's number.
     pub(crate) fn belongs<C: Ledger>(&self, slot: usize, owner: usize, ticks: &mut Ticks<C>) -> bool
@@ -30,6 +32,8 @@ impl<L: Layout, const SLOTS: usize, A: Allocator> Table<L, SLOTS, A> {
         //  comparison at most. [with cost; also number]
         ensures answer { (t : Tree) → Stands (size_of (fields self.now)) (cells self.now) node t → MatchOption result (has_label t.children label ≡ false) (λ s. (s < size_of (fields self.now)) × Stands (size_of (fields self.now)) (cells self.now) s (subtree t.children label)) }
         ensures cost { ticks.new ≤ ticks.old + 1 }
+
+        //= A step of `follow` to a child counts exactly one comparison.
         ensures found { OnSome result (ticks.new ≡ ticks.old + 1) }
     {
         if label == 0 {
@@ -52,6 +56,8 @@ impl<L: Layout, const SLOTS: usize, A: Allocator> Table<L, SLOTS, A> {
         requires node { (t : Tree) × Stands (size_of (fields self.now)) (cells self.now) node t }
         ensures answer { (t : Tree) → Stands (size_of (fields self.now)) (cells self.now) node t → result ≡ t.number }
         ensures cost { ticks.new ≤ ticks.old + 1 }
+
+        //= `number` never lowers the count of comparisons.
         ensures grows { ticks.old ≤ ticks.new }
     {
         match self.stored_at_node(node) {
@@ -73,6 +79,8 @@ impl<L: Layout, const SLOTS: usize, A: Allocator> Table<L, SLOTS, A> {
     pub fn number_of(&self, node: usize) -> Option<i32>
         requires node_in { node < size_of (fields self.now) }
         requires node { (t : Tree) × Stands (size_of (fields self.now)) (cells self.now) node t }
+
+        //= `number_of` returns a node's number.
         ensures { (t : Tree) → Stands (size_of (fields self.now)) (cells self.now) node t → result ≡ t.number }
     {
         if self.child(node) != 0 {

@@ -1,6 +1,7 @@
 //! The table: slots in blocks, free or held, with the settings that it was made with.
 
-ghost use Rattle.std.specs.Prelude.{◌*◌, ◌+◌, ◌-◌, ◌/◌, ◌<◌, ◌^◌, ◌↔◌, ◌≡◌, ◌≤◌, ◌≤ℤ◌, ◌⊎◌, count_by, IfErr, IfOk, IsTrue, length, negsuc, OnErr, pos, ℕ};
+ghost use Rattle.std.specs.Prelude.{◌*◌, ◌+◌, ◌-◌, ◌/◌, ◌<◌, ◌^◌, ◌↔◌, ◌≡◌, ◌≤◌, ◌≤ℤ◌, ◌⊎◌};
+ghost use Rattle.std.specs.Prelude.{count_by, IfErr, IfOk, IsTrue, length, negsuc, OnErr, pos, ℕ};
 ghost use Rattle.cedar_slots.specs.Words.{places_of, Shaped};
 
 use cedar_model::{Layout, Stored};
@@ -23,22 +24,31 @@ pub struct Table<L: Layout, const SLOTS: usize, A: Allocator> {
 }
 
 impl<L: Layout, const SLOTS: usize, A: Allocator> Table<L, SLOTS, A> {
-    ghost use Rattle.cedar_table.specs.Words.{AddsBlock, block_at, capacity_of, cells, cells_without, check_at, empty_tree, fields, Gives, HasPlaces, Held, InfoWritten, is_held, IsNewPlaces, IsPlace, IsSlotLimit, IsTable, IsWellFormed, MakesBlocks, MayClaim, MayRefuse, Memory, NodeWritten, NoPlace, range_with_len, reading, reject_at, SameFrame, SameHeld, SameSettings, SameSlots, size_of, Takes, tree_of};
+    ghost use Rattle.cedar_table.specs.Words.{AddsBlock, block_at, capacity_of, cells};
+    ghost use Rattle.cedar_table.specs.Words.{cells_without, check_at, empty_tree, fields, Gives};
+    ghost use Rattle.cedar_table.specs.Words.{HasPlaces, Held, InfoWritten, is_held, IsNewPlaces};
+    ghost use Rattle.cedar_table.specs.Words.{IsPlace, IsSlotLimit, IsTable, IsWellFormed};
+    ghost use Rattle.cedar_table.specs.Words.{MakesBlocks, MayClaim, MayRefuse, Memory};
+    ghost use Rattle.cedar_table.specs.Words.{NodeWritten, NoPlace, range_with_len, reading};
+    ghost use Rattle.cedar_table.specs.Words.{reject_at, SameFrame, SameHeld, SameSettings};
+    ghost use Rattle.cedar_table.specs.Words.{SameSlots, size_of, Takes, tree_of};
 
-    /// A table with one block, in which the root alone is held. It stands for the empty tree.
+    /// A table with one block, in which the root alone is held. It represents the empty tree.
     pub fn new(alloc: A, ordered: bool, max_trial: i32) -> Result<Self, Shortage>
     where
         A: Copy,
         requires tried { pos 1 ≤ℤ max_trial }
         requires limit { IsSlotLimit SLOTS }
 
-        //= A new table is well-formed and stands for the empty tree; only the root is held. [with tree, bare]
+        //= A new table is well-formed and represents the empty tree; only the root is held. [with tree, sound, bare]
         ensures well_formed { IfOk result (λ table. IsWellFormed SLOTS (fields table)) }
         ensures tree { IfOk result (λ table. tree_of (fields table) ≡ empty_tree) }
         ensures sound { IfOk result (λ table. IsTable SLOTS (fields table).places) }
 
         //= Its settings are those asked for, and it has no entries. [with ordered, entries]
         ensures made { IfOk result (λ table. IsNewPlaces (fields table).places max_trial) }
+
+        //= The root has the check -1 and the base 0. [with root_base]
         ensures root_check { IfOk result (λ table. (cells table).check 0 ≡ negsuc 0) }
         ensures root_base { IfOk result (λ table. (cells table).stored 0 ≡ Stored.AtBase 0) }
         ensures ordered { IfOk result (λ table. (fields table).ordered ≡ ordered) }
@@ -74,16 +84,21 @@ impl<L: Layout, const SLOTS: usize, A: Allocator> Table<L, SLOTS, A> {
         requires slot_in { slot < size_of (fields self.old) }
         requires slot_free { Held (cells self.old) slot → ⊥ }
         requires owner_in { owner < 2 ^ 31 }
+
+        //= Calls that write to a table keep `IsTable`. [also claim, push_e_node, write_node, write_info, add_block, find_place,
+        //  find_places, set_sibling, set_child, set_check]
         ensures sound { IsTable SLOTS (fields self.new).places }
 
         //= `pop_e_node`, `push_e_node`, `write_node` and `write_info` take, give back or write the one slot that is named; nothing else
         //  that is held changes. [also push_e_node.gives, write_node.written, write_info.written]
         ensures takes { Takes (cells self.old) (cells self.new) slot owner }
+
+        //= The slot's base field is the one that is given, and says what the layout reads in it. [with stored; also claim]
         ensures base { (cells self.new).base slot ≡ base }
         ensures stored { (cells self.new).stored slot ≡ reading L.kind base }
 
         //= Calls that make no block keep the number of slots in use, the number of slots, the order, the entries and `max_trial`. [also
-        //  push_e_node, write_node, write_info; by SameFrame]
+        //  claim, push_e_node, write_node, write_info, set_sibling, set_child, link, set_check, set_base, set_own_number; by SameFrame]
         ensures frame { SameFrame (fields self.old) (fields self.new) }
     {
         let node = NodeRecord {
@@ -97,6 +112,8 @@ impl<L: Layout, const SLOTS: usize, A: Allocator> Table<L, SLOTS, A> {
     pub fn claim(&mut self, slot: usize, base: i32, owner: usize)
         requires { MayClaim SLOTS (fields self.old) slot owner }
         ensures sound { IsTable SLOTS (fields self.new).places }
+
+        //= `claim` takes a held slot that is no part of the tree, as `pop_e_node` takes a free one; nothing else that is held changes.
         ensures takes { Takes (cells_without (cells self.old) slot) (cells self.new) slot owner }
         ensures base { (cells self.new).base slot ≡ base }
         ensures stored { (cells self.new).stored slot ≡ reading L.kind base }
@@ -161,6 +178,8 @@ impl<L: Layout, const SLOTS: usize, A: Allocator> Table<L, SLOTS, A> {
         ensures refused { IfErr result (λ error. MayRefuse (fields self.old).places SLOTS error) }
         ensures held { SameHeld (cells self.old) (cells self.new) }
         ensures settings { SameSettings (fields self.old) (fields self.new) }
+
+        //= After a refusal of `add_block` or `find_place` the table is as it was, field by field. [also find_place]
         ensures unchanged { OnErr result (fields self.new ≡ fields self.old) }
     {
         self.places.add_block(SLOTS)
@@ -181,8 +200,9 @@ impl<L: Layout, const SLOTS: usize, A: Allocator> Table<L, SLOTS, A> {
     }
 
     /// Returns a base outside block 0 from which each label's slot is free: in an open block, as far as rejections and trials
-    /// allow a search, otherwise in a new block. What a search learns about blocks is kept, even if it is refused.
-    pub fn find_places(&mut self, labels: &[u8]) -> Result<usize, Shortage>
+    /// allow a search, otherwise in a new block. What a search learns about blocks is kept, even if it is refused. It tries
+    /// `search_limit` open blocks at most.
+    pub fn find_places(&mut self, labels: &[u8], search_limit: usize) -> Result<usize, Shortage>
         requires sound { IsTable SLOTS (fields self.old).places }
         requires some { 0 < length labels.now }
         requires few { length labels.now ≤ 256 }
@@ -192,15 +212,17 @@ impl<L: Layout, const SLOTS: usize, A: Allocator> Table<L, SLOTS, A> {
         ensures refused { IfErr result (λ error. MayRefuse (fields self.old).places SLOTS error) }
         ensures held { SameHeld (cells self.old) (cells self.new) }
         ensures settings { SameSettings (fields self.old) (fields self.new) }
+
+        //= After a refusal of `find_places` or `place_for` all slots are as they were. [also place_for.unchanged]
         ensures same { OnErr result (SameSlots (fields self.old).places (fields self.new).places) }
     {
-        self.places.find_places(labels, SLOTS)
+        self.places.find_places(labels, SLOTS, search_limit)
     }
 
     /// Returns a base from which there is room for all labels. A single label goes where the first free slot is. The move
-    /// of a set makes a block here or not at all.
+    /// of a set makes a block here or not at all. A search for several tries `search_limit` open blocks at most.
     #[inline(always)]
-    pub fn place_for(&mut self, labels: &[u8]) -> Result<usize, Shortage>
+    pub fn place_for(&mut self, labels: &[u8], search_limit: usize) -> Result<usize, Shortage>
         requires sound { IsTable SLOTS (fields self.old).places }
         requires some { 0 < length labels.now }
         requires few { length labels.now ≤ 256 }
@@ -208,11 +230,18 @@ impl<L: Layout, const SLOTS: usize, A: Allocator> Table<L, SLOTS, A> {
         //= The steps by which a table is written from outside keep `IsTable`: a base for some labels, a node's base, a label's place in a
         //  chain, a number in a node's own base field. [also set_base, link, set_own_number]
         ensures sound { IsTable SLOTS (fields self.new).places }
+
+        //= `place_for` returns a base from which the slot of each label is free and outside block 0.
         ensures found { IfOk result (λ base. HasPlaces (size_of (fields self.new)) (cells self.new) base labels.now) }
+
+        //= It fails as `add_block` does, makes one block at most, and changes nothing that is held, and no setting. [with held, blocks,
+        //  settings]
         ensures refused { IfErr result (λ error. MayRefuse (fields self.old).places SLOTS error) }
         ensures held { SameHeld (cells self.old) (cells self.new) }
         ensures blocks { (n : ℕ) × (n ≤ 1) × MakesBlocks n (fields self.old) (fields self.new) }
         ensures unchanged { OnErr result (SameSlots (fields self.old).places (fields self.new).places) }
+
+        //= A single label is never refused and needs no block, unless no slot outside block 0 is free.
         ensures single { length labels.now ≡ 1 → (OnErr result ⊥ × MakesBlocks 0 (fields self.old) (fields self.new)) ⊎ NoPlace (size_of (fields self.old)) (cells self.old) }
         ensures settings { SameSettings (fields self.old) (fields self.new) }
     {
@@ -220,13 +249,13 @@ impl<L: Layout, const SLOTS: usize, A: Allocator> Table<L, SLOTS, A> {
             let slot = self.find_place()?;
             return Ok(slot ^ usize::from(labels[0]));
         }
-        self.find_places(labels)
+        self.find_places(labels, search_limit)
     }
 
     /// Returns how many slots are in use, including free ones.
     pub fn size(&self) -> usize
         //= `size`, `capacity`, `spare_blocks`, `entries`, `ordered`, `max_trial`, the heads, and single fields return what their names say.
-        //  [also capacity, spare_blocks, entries, ordered, max_trial, full_head, closed_head, open_head, block, reject, base, stored,
+        //  [also capacity, spare_blocks, entries, ordered, max_trial, full_head, closed_head, open_head, block, reject, base, stored_at,
         //  sibling, child]
         ensures { result ≡ size_of (fields self.now) }
     {
@@ -255,7 +284,7 @@ impl<L: Layout, const SLOTS: usize, A: Allocator> Table<L, SLOTS, A> {
         ensures count { result ≡ count_by (is_held (cells self.now)) (range_with_len 0 (size_of (fields self.now))) }
         ensures test { (s : ℕ) → IsTrue (is_held (cells self.now) s) ↔ Held (cells self.now) s }
     {
-        self.places.used_slots()
+        self.places.held_slots()
     }
 
     /// Returns the stated number of keys.
@@ -333,8 +362,10 @@ impl<L: Layout, const SLOTS: usize, A: Allocator> Table<L, SLOTS, A> {
     }
 
     /// Returns what the base field of a node says.
-    pub fn stored(&self, node: usize) -> Stored
+    pub fn stored_at(&self, node: usize) -> Stored
         requires { node < size_of (fields self.now) }
+
+        //= `stored_at` and `stored_at_node` return what a node's base field says. [also stored_at_node]
         ensures { result ≡ (cells self.now).stored node }
     {
         L::read_base(self.base(node))
@@ -343,6 +374,8 @@ impl<L: Layout, const SLOTS: usize, A: Allocator> Table<L, SLOTS, A> {
     /// Returns the check field of a slot in use. The read is counted.
     pub fn check<C: Ledger>(&self, slot: usize, ticks: &mut Ticks<C>) -> i32
         requires { slot < size_of (fields self.now) }
+
+        //= `check` returns a slot's check field, and counts one read. [with cell, counted]
         ensures field { result ≡ check_at (fields self.now).places.slots.nodes slot }
         ensures cell { slot < size_of (fields self.now) → result ≡ (cells self.now).check slot }
         ensures counted { ticks.new ≡ ticks.old + 1 }
@@ -354,6 +387,8 @@ impl<L: Layout, const SLOTS: usize, A: Allocator> Table<L, SLOTS, A> {
     /// Returns whether a slot in use is held: it is the root, or its check field names an owner. The read is counted.
     pub fn is_held<C: Ledger>(&self, slot: usize, ticks: &mut Ticks<C>) -> bool
         requires { slot < size_of (fields self.now) }
+
+        //= `is_held` returns whether a slot is held, and counts one read. [with counted]
         ensures held { IsTrue result ↔ Held (cells self.now) slot }
         ensures counted { ticks.new ≡ ticks.old + 1 }
     {

@@ -1,4 +1,4 @@
--- What stands in a tree, key by key, and what a put and a cut change of it.
+-- What is in a tree, key by key, and what a put and a cut change of it.
 pub mod Built
 pub mod Changes
 pub mod Counts

@@ -67,6 +67,6 @@ found_few t q a (suc n) =
       | Some v ↦ omega (arith, rest)
     ]
 
--- there are no more answers than bytes
+-- there are no more results than bytes
 pub front_short : (t : Tree) (q : List ℕ) (n : ℕ) → length (front_from t q n) ≤ length q - n
 front_short t q n = found_few t q n (length q - n)

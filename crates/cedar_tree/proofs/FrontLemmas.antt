@@ -3,10 +3,9 @@ use Rattle.std.proofs.Common.{◌≡◌, ℕ, zero, suc, Less, ◌+◌, ◌<◌,
 use Rattle.std.specs.List.{Contains, filter_map, cons_option, range_with_len, AllByRecursion}
 use Rattle.std.specs.List.Sorted.{IsStrictlySortedBy}
 use Rattle.std.specs.Ordering.{nat_cmp}
-use Rattle.std.proofs.lemmas.Bool.{eqb-true, eqb-false}
+use Rattle.std.proofs.lemmas.Bool.{eqb-true, eqb-false, lt-ltb}
 use Rattle.cedar_tree.specs.Tree.{Tree, number_at}
 use Rattle.cedar_tree.specs.Queries.{front}
-use Rattle.cedar_tree.proofs.WalkLemmas.{ltb-from_lt}
 use Rattle.cedar_tree.proofs.MemberLemmas.{contains_none, contains_here, contains_later, contains_first_or_later, either_part}
 
 into_filter_map : {X Y : Type 0} (h : X → Option Y) (xs : List X) (x : X) (y : Y) → Contains xs x → h x ≡ Some y → Contains (filter_map h xs) y
@@ -77,7 +76,7 @@ all_higher t q low a (suc n) h =
     let rest = all_higher t q low (a + 1) n (omega arith) in
     elim (number_at t (take (a + 1) q)) as (λ o. AllByRecursion (λ m. nat_cmp low m ≡ Less) (places (cons_option (option_map (λ v. (v, a)) o) (filter_map (at_front t q) (range_with_len (a + 1) n))))) [
       | None ↦ rest
-      | Some v ↦ (rw (ltb-from_lt low a h) refl, rest)
+      | Some v ↦ (rw (lt-ltb low a h) refl, rest)
     ]
 
 rising_places : (t : Tree) (q : List ℕ) (a n : ℕ) → IsStrictlySortedBy nat_cmp (places (filter_map (at_front t q) (range_with_len a n)))
@@ -90,6 +89,6 @@ rising_places t q a (suc n) =
       | Some v ↦ (all_higher t q a (a + 1) n (omega arith), rest)
     ]
 
--- its places ascend
+-- its positions ascend
 pub front_ascends : (t : Tree) (q : List ℕ) → IsStrictlySortedBy nat_cmp (map (λ f. f.1) (front t q))
 front_ascends t q = rising_places t q 0 (length q)

@@ -6,7 +6,7 @@ use Rattle.cedar_tree.specs.Queries.{node_at}
 use Rattle.cedar_tree.proofs.TreeLemmas.{subtree_absent, number_at-empty, sound_subtree}
 use Rattle.std.proofs.lemmas.Option.{none-some}
 
-all_above_more : (low more : ℕ) (f : Forest) → low < more → AllAbove more f → AllAbove low f
+pub all_above_more : (low more : ℕ) (f : Forest) → low < more → AllAbove more f → AllAbove low f
 all_above_more low more none h a = tt
 all_above_more low more (child m n below rest) h a = let here = a.0 in (omega arith, all_above_more low more rest h a.1)
 

@@ -11,6 +11,7 @@ use Rattle.cedar_tree.proofs.TreeLemmas.{subtree_absent}
 use Rattle.cedar_tree.proofs.OrderLemmas.{node_at-empty, sound_node_at, number_at-append}
 use Rattle.cedar_tree.proofs.WalkLemmas.{filter-map, eqb_turned, filter-none}
 use Rattle.cedar_tree.proofs.MemberLemmas.{from_map, into_map, held_from_walk, walk_from_held}
+use Rattle.cedar_tree.proofs.GeneralLemmas.{filter-same}
 
 -- `starts_with` by recursion on both
 abbrev begins : List ℕ → List ℕ → Bool
@@ -22,10 +23,6 @@ starts-begins : (p q : List ℕ) → starts_with nat_eq p q ≡ begins q p
 starts-begins p [] = refl
 starts-begins [] (m ∷ q) = refl
 starts-begins (l ∷ p) (m ∷ q) = ap (λ b. m == l && b) (starts-begins p q)
-
-filter-same : {X : Type 0} (p q : X → Bool) (xs : List X) → ((x : X) → p x ≡ q x) → filter p xs ≡ filter q xs
-filter-same p q [] h = refl
-filter-same p q (x ∷ xs) h = λ i. cond (h x i) (x ∷ filter-same p q xs h i) (filter-same p q xs h i)
 
 pub filter-every : {X : Type 0} (xs : List X) → filter (λ x. true) xs ≡ xs
 filter-every [] = refl

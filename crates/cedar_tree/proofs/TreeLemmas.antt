@@ -226,7 +226,7 @@ replace-put_child ordered f l u w =
       | false ↦ λ e. (elim ordered as (λ o. replace (cond o (insert_ascending f l u) (child l u.number u.children f)) l w ≡ cond o (insert_ascending f l w) (child l w.number w.children f)) [ true ↦ replace-insert f l u w e | false ↦ rw (eq-eqb l l refl) refl ])
     ]) refl
 
--- the second of two trees put under a label stands
+-- of two trees put under a label the second one counts
 pub put_child-put_child : (ordered : Bool) (f : Forest) (l : ℕ) (u w : Tree) → put_child ordered (put_child ordered f l u) l w ≡ put_child ordered f l w
 put_child-put_child ordered f l u w =
     rw (has_label-put_child ordered f l u) (replace-put_child ordered f l u w)
@@ -255,7 +255,7 @@ sound-put_child ordered f l u low high s b w =
     put_child_cases IsSoundBelow ordered f l u
     (λ _. sound-replace f l u s b w) (λ h. sound-insert f l u low high h s b w) (λ h. (low, high, h, b, w, s))
 
--- the second of two puts at a path stands
+-- of two puts at a path the second one counts
 pub put-put : (t : Tree) (ordered : Bool) (k : List ℕ) (v w : ℤ) → put (put t ordered k v) ordered k w ≡ put t ordered k w
 put-put t ordered [] v w = refl
 put-put t ordered (l ∷ k) v w =
@@ -330,7 +330,7 @@ pub cut-empty : (k : List ℕ) → cut empty_tree k ≡ empty_tree
 cut-empty [] = refl
 cut-empty (l ∷ k) = elim (is_bare (cut empty_tree k)) as (λ b. record { number = None; children = cond b none none } ≡ empty_tree) [ true ↦ refl | false ↦ refl ]
 
--- the cut tree stands under its label, or is empty
+-- the cut tree is under its label, or is empty
 pub subtree-settle_same : (f : Forest) (l : ℕ) (k : List ℕ) → IsSoundBelow f → subtree (settle f l (cut (subtree f l) k)) l ≡ cut (subtree f l) k
 subtree-settle_same f l k s =
     (elim (is_bare (cut (subtree f l) k)) as (λ b. is_bare (cut (subtree f l) k) ≡ b → subtree (cond b (without f l) (replace f l (cut (subtree f l) k))) l ≡ cut (subtree f l) k) [

@@ -11,7 +11,7 @@ use Rattle.cedar_tree.proofs.CutLemmas.{node_at-end}
 use Rattle.cedar_tree.proofs.PredictLemmas.{map-after, predict-node}
 
 -- a label that was passed is no longer to come
-behind_here : (l : ℕ) (n : Option ℤ) (below rest : Forest) → behind (child l n below rest) l ≡ rest
+pub behind_here : (l : ℕ) (n : Option ℤ) (below rest : Forest) → behind (child l n below rest) l ≡ rest
 behind_here l n below rest = rw (eq-eqb l l refl) refl
 
 pub subtree_here : (l : ℕ) (n : Option ℤ) (below rest : Forest) → subtree (child l n below rest) l ≡ record { number = n; children = below }
@@ -112,14 +112,14 @@ entries_own : (n : Option ℤ) (vs : List Visit) → visited_entries (([], n) �
 entries_own None vs = refl
 entries_own (Some v) vs = refl
 
-entries_below : (f : Forest) → visited_entries (visits_below f) ≡ walk_forest f
+pub entries_below : (f : Forest) → visited_entries (visits_below f) ≡ walk_forest f
 entries_below none = refl
 entries_below (child l n below rest) =
     filter_map-append (λ (v : Visit). option_map (λ (x : ℤ). (v.0, x)) v.1) (map (visit_from (l ∷ [])) (([], n) ∷ visits_below below)) (visits_below rest)
     ∙ ap (λ (x : List Entry). x ++ visited_entries (visits_below rest)) (entries_under l (([], n) ∷ visits_below below) ∙ ap (map (under l)) (entries_own n (visits_below below) ∙ ap (λ (x : List Entry). own_entry n ++ x) (entries_below below)))
     ∙ ap (λ (x : List Entry). map (under l) (own_entry n ++ walk_forest below) ++ x) (entries_below rest)
 
-visits_from_none : (vs : List Visit) → map (visit_from []) vs ≡ vs
+pub visits_from_none : (vs : List Visit) → map (visit_from []) vs ≡ vs
 visits_from_none [] = refl
 visits_from_none (v ∷ vs) = ap (λ (r : List Visit). v ∷ r) (visits_from_none vs)
 

@@ -1,10 +1,10 @@
 -- The walk and the prefixes of a tree: what they hold, each once, and in which order.
-use Rattle.std.proofs.Common.{◌≡◌, ℕ, Less, ◌<◌, ◌≤◌, Bool, true, false, cond, ◌==◌, ◌&&◌, ltb, ℤ, List, [], ◌∷◌, ◌++◌, map, Option, Some, None, refl, sym, ap, ◌∙◌, arith, eq-eqb}
+use Rattle.std.proofs.Common.{◌≡◌, ℕ, Less, ◌<◌, Bool, true, false, cond, ◌==◌, ◌&&◌, ltb, ℤ, List, [], ◌∷◌, ◌++◌, map, Option, Some, None, refl, sym, ap, ◌∙◌, arith, eq-eqb}
 use Rattle.std.specs.List.{filter, AllByRecursion}
 use Rattle.std.specs.Cmp.Lexicographic.{slice_cmp}
 use Rattle.std.specs.Ordering.{nat_cmp}
 use Rattle.std.specs.List.Sorted.{IsStrictlySortedBy}
-use Rattle.std.proofs.lemmas.Bool.{ltb-true, ltb-false, eqb-true, eqb-false, ne_eqb}
+use Rattle.std.proofs.lemmas.Bool.{ltb-true, eqb-true, eqb-false, ne_eqb, lt-ltb}
 use Rattle.std.proofs.lemmas.List.{append-nil, map-append}
 use Rattle.std.proofs.lemmas.List.Elements.{filter-append}
 use Rattle.cedar_tree.specs.Tree.{Forest, none, child, Tree, subtree, number_at, is_bare, IsSoundBelow, AllAbove, IsAscending}
@@ -14,9 +14,6 @@ use Rattle.cedar_tree.proofs.OrderLemmas.{node_at-empty, front_of_key, node_of_f
 
 pub nat_lt_itself : (l : ℕ) → ltb l l ≡ false
 nat_lt_itself l = (elim (ltb l l) as (λ b. ltb l l ≡ b → b ≡ false) [ true ↦ λ e. let h : l < l = ltb-true l l e in absurd (omega arith) | false ↦ λ _. refl ]) refl
-
-pub ltb-from_lt : (l m : ℕ) → l < m → ltb l m ≡ true
-ltb-from_lt l m h = (elim (ltb l m) as (λ b. ltb l m ≡ b → b ≡ true) [ true ↦ λ _. refl | false ↦ λ e. let k : m ≤ l = ltb-false l m e in absurd (omega arith) ]) refl
 
 pub filter-map : {X Y : Type 0} (f : X → Y) (p : Y → Bool) (xs : List X) → filter p (map f xs) ≡ map f (filter (λ x. p (f x)) xs)
 filter-map f p [] = refl
@@ -172,7 +169,7 @@ before_under : (l : ℕ) (p q : List ℕ) → IsBefore p q → IsBefore (l ∷ p
 before_under l p q h = rw (nat_lt_itself l, eq-eqb l l refl) h
 
 before_first : (l m : ℕ) (p q : List ℕ) → l < m → IsBefore (l ∷ p) (m ∷ q)
-before_first l m p q h = rw (ltb-from_lt l m h) refl
+before_first l m p q h = rw (lt-ltb l m h) refl
 
 all_under : (l : ℕ) (p : List ℕ) (qs : List (List ℕ)) → AllByRecursion (IsBefore p) qs → AllByRecursion (IsBefore (l ∷ p)) (map (λ q. l ∷ q) qs)
 all_under l p [] a = tt

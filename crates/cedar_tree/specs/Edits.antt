@@ -1,6 +1,8 @@
 -- Changes of one node of a tree, by which a put and a cut go along a path.
-use Rattle.std.specs.Prelude.{◌≡◌, ℕ, ℤ, Bool, true, ◌==◌, if◌then◌else◌, List, [], ◌∷◌, Option, Some, None}
-use Rattle.cedar_tree.specs.Tree.{Forest, none, child, Tree, empty_tree, has_label, insert_ascending, subtree, without}
+use Rattle.std.specs.Prelude.{◌≡◌, ℕ, ℤ, Bool, true, ◌==◌, if◌then◌else◌, List, []}
+use Rattle.std.specs.Prelude.{◌∷◌, Option, Some, None}
+use Rattle.cedar_tree.specs.Tree.{Forest, none, child, Tree, empty_tree, has_label}
+use Rattle.cedar_tree.specs.Tree.{insert_ascending, subtree, without}
 
 -- the number of the node itself, where the path ends at it
 abbrev pub number_on : List ℕ → (Option ℤ → Option ℤ) → Option ℤ → Option ℤ

@@ -4,7 +4,8 @@ use Rattle.std.specs.List.{Contains, AllByRecursion}
 use Rattle.std.specs.List.Sorted.{IsStrictlySortedBy}
 use Rattle.std.specs.Cmp.Lexicographic.{slice_cmp}
 use Rattle.std.specs.Ordering.{nat_cmp}
-use Rattle.cedar_tree.specs.Tree.{Tree, has_label, subtree, is_bare, cut, IsKey, IsSound, IsAscending}
+use Rattle.cedar_tree.specs.Tree.{Tree, has_label, subtree, is_bare, cut, IsKey}
+use Rattle.cedar_tree.specs.Tree.{IsSound, IsAscending}
 use Rattle.cedar_tree.specs.Queries.{Entry, walk}
 
 -- the paths of some pairs ascend by bytes, each below those after it
@@ -19,7 +20,7 @@ ArePathsKeys pairs = AllByRecursion (λ pair. IsKey pair.0) pairs
 abbrev pub IsTreeOf : List Entry → Tree → Type 0
 IsTreeOf pairs t = IsSound t × IsAscending t.children × (walk t ≡ pairs)
 
--- x stands in a list, and y later in it
+-- x is in a list, and y later in it
 abbrev pub ComesBefore : {X : Type 0} → List X → X → X → Type 0
 ComesBefore {X} xs x y = (before : List X) × (after : List X) × (xs ≡ before ++ x ∷ after) × Contains after y
 

@@ -1,4 +1,4 @@
--- What the answers of a dictionary depend on.
+-- What the results of a dictionary depend on.
 use Rattle.std.specs.Prelude.{ℕ, Bool, true, ℤ, List}
 use Rattle.std.specs.Coded.{Coded, code_by, coded×, coded_bool}
 use Rattle.std.proofs.Common.{refl}
@@ -11,14 +11,14 @@ pub record State : Type 0 where
   pub ordered : Bool
 
 -- the state with the number v at a path
-abbrev pub stored : State → List ℕ → ℤ → State
-stored s path v = record { tree = put s.tree s.ordered path v; ordered = s.ordered }
+abbrev pub after_put : State → List ℕ → ℤ → State
+after_put s path v = record { tree = put s.tree s.ordered path v; ordered = s.ordered }
 
 -- the state without a number at a path
-abbrev pub erased : State → List ℕ → State
-erased s path = record { tree = cut s.tree path; ordered = s.ordered }
+abbrev pub after_erase : State → List ℕ → State
+after_erase s path = record { tree = cut s.tree path; ordered = s.ordered }
 
--- a state as plain data, by which a proof tells states apart. It serves `impl Model` alone.
+-- a state as plain data, by which a proof distinguishes states. It serves `impl Model` alone.
 abbrev pub state_code : Coded State
 state_code = code_by (Tree × Bool) (coded× coded_tree coded_bool) (λ s. (s.tree, s.ordered)) (λ p. record { tree = p.0; ordered = p.1 }) (λ _. refl)
 

@@ -1,11 +1,16 @@
 -- The laws of the labelled tree, each as a statement. Functions of this crate have them as their contracts.
-use Rattle.std.specs.Prelude.{◌≡◌, ◌≢◌, ℕ, ℤ, ◌+◌, ◌-◌, Bool, true, false, not, List, [], ◌∷◌, ◌++◌, ◌<◌, length, take, map, None, Some, IfSome, is_some, ◌↔◌, if◌then◌else◌}
+use Rattle.std.specs.Prelude.{◌≡◌, ◌≢◌, ℕ, ℤ, ◌+◌, ◌-◌, Bool, true, false, not, List, []}
+use Rattle.std.specs.Prelude.{◌∷◌, ◌++◌, ◌<◌, length, take, map, None, Some, IfSome}
+use Rattle.std.specs.Prelude.{is_some, ◌↔◌, if◌then◌else◌}
 use Rattle.std.specs.List.{Contains, filter, AllByRecursion}
 use Rattle.std.specs.List.Sorted.{IsStrictlySortedBy}
 use Rattle.std.specs.Ordering.{nat_cmp}
-use Rattle.cedar_tree.specs.Tree.{Tree, IsPath, IsKey, IsSound, IsSoundBelow, IsAscending, AllNumbers, number_at, put, is_bare, cut}
-use Rattle.cedar_tree.specs.Laws.{ArePathsAscending, ArePathsKeys, IsTreeOf, ComesBefore, IsPartOf, fronts, missing_nodes, bare_nodes}
-use Rattle.cedar_tree.specs.Queries.{Entry, asc, last_at, walk, front, predict, node_at, prefixes, used, is_path, entry_at, IsFront}
+use Rattle.cedar_tree.specs.Tree.{Tree, IsPath, IsKey, IsSound, IsSoundBelow, IsAscending}
+use Rattle.cedar_tree.specs.Tree.{AllNumbers, number_at, put, is_bare, cut}
+use Rattle.cedar_tree.specs.Laws.{ArePathsAscending, ArePathsKeys, IsTreeOf, ComesBefore}
+use Rattle.cedar_tree.specs.Laws.{IsPartOf, fronts, missing_nodes, bare_nodes}
+use Rattle.cedar_tree.specs.Queries.{Entry, asc, last_at, walk, front, predict, node_at, prefixes}
+use Rattle.cedar_tree.specs.Queries.{slots_of_tree, is_path, entry_at, IsFront}
 
 -- a put number is at its path
 abbrev pub PutIsReadBack : Type 0
@@ -27,7 +32,7 @@ abbrev pub CutStaysLocal : Type 0
 CutStaysLocal =
     (t : Tree) (k : List ℕ) (q : List ℕ) → IsSoundBelow t.children → (q ≢ k) → number_at (cut t k) q ≡ number_at t q
 
--- of two puts at a path the later one stands
+-- of two puts at a path the later one counts
 abbrev pub LaterPutStands : Type 0
 LaterPutStands =
     (t : Tree) (ordered : Bool) (k : List ℕ) (v : ℤ) (w : ℤ) → put (put t ordered k v) ordered k w ≡ put t ordered k w
@@ -89,7 +94,7 @@ abbrev pub CutKeepsAscending : Type 0
 CutKeepsAscending =
     (t : Tree) (k : List ℕ) → IsAscending t.children → IsAscending (cut t k).children
 
--- an entry stands in the walk exactly if it is held
+-- an entry is in the walk exactly if it is held
 abbrev pub WalkHasHeld : Type 0
 WalkHasHeld =
     (t : Tree) (k : List ℕ) (v : ℤ) → IsSoundBelow t.children → (Contains (walk t) (k, v) ↔ (number_at t k ≡ Some v))
@@ -121,7 +126,7 @@ abbrev pub FrontHasHeld : Type 0
 FrontHasHeld =
     (t : Tree) (q : List ℕ) (v : ℤ) (n : ℕ) → (Contains (front t q) (v, n) ↔ ((n < length q) × (number_at t (take (n + 1) q) ≡ Some v)))
 
--- its places ascend, so it has each once
+-- its positions ascend, so it has each once
 abbrev pub FrontAscends : Type 0
 FrontAscends =
     (t : Tree) (q : List ℕ) → IsStrictlySortedBy nat_cmp (map (λ found. found.1) (front t q))
@@ -181,13 +186,13 @@ CutCountsPrefixes =
 abbrev pub PutCountsSlots : Type 0
 PutCountsSlots =
     (t : Tree) (ordered : Bool) (k : List ℕ) (v : ℤ) →
-    used (put t ordered k v) ≡ used t + missing_nodes t k + (if is_some (number_at t k) then 0 else 1)
+    slots_of_tree (put t ordered k v) ≡ slots_of_tree t + missing_nodes t k + (if is_some (number_at t k) then 0 else 1)
 
 -- a cut gives back a slot for each node that it leaves bare, and one for the number
 abbrev pub CutCountsSlots : Type 0
 CutCountsSlots =
     (t : Tree) (k : List ℕ) →
-    used (cut t k) + bare_nodes t k + (if is_some (number_at t k) then 1 else 0) ≡ used t
+    slots_of_tree (cut t k) + bare_nodes t k + (if is_some (number_at t k) then 1 else 0) ≡ slots_of_tree t
 
 -- the missing nodes of a path are its fronts that lead to no node
 abbrev pub MissingAreBareFronts : Type 0

@@ -1,10 +1,11 @@
 -- What a walk that is under way has left.
-use Rattle.std.specs.Prelude.{ℕ, ◌+◌, ◌-◌, ◌==◌, if◌then◌else◌, ℤ, List, [], ◌∷◌, ◌++◌, length, take, map, Option, option_map}
+use Rattle.std.specs.Prelude.{ℕ, ◌+◌, ◌-◌, ◌==◌, if◌then◌else◌, ℤ, List, [], ◌∷◌, ◌++◌}
+use Rattle.std.specs.Prelude.{length, take, map, Option, option_map}
 use Rattle.std.specs.List.{filter_map, range_with_len}
 use Rattle.cedar_tree.specs.Tree.{Forest, none, child, Tree, subtree, number_at}
 use Rattle.cedar_tree.specs.Queries.{Entry}
 
--- `front` from a place on: for each n from there below the length of q, where the first n + 1 bytes of q are held, their
+-- `front` from a position on: for each n from there below the length of q, where the first n + 1 bytes of q are held, their
 -- number, and n
 abbrev pub front_from : Tree → List ℕ → ℕ → List (ℤ × ℕ)
 front_from t q place = filter_map (λ n. option_map (λ v. (v, n)) (number_at t (take (n + 1) q))) (range_with_len place (length q - place))

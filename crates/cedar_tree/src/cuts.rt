@@ -1,7 +1,8 @@
 //! Laws of the nodes that a cut passes on its way up.
 
 ghost use Rattle.std.specs.Prelude.{◌++◌, ◌∷◌, ◌≡◌, [], List, None, ℕ};
-ghost use Rattle.cedar_tree.specs.Words.{HasPath, IsAscending, node_at, subtree, Tree, without, without_leaf, without_number};
+ghost use Rattle.cedar_tree.specs.Words.{HasPath, IsAscending, node_at, subtree, Tree, without};
+ghost use Rattle.cedar_tree.specs.Words.{without_leaf, without_number};
 
 /// A path that is one label longer leads to the child under it.
 pub fn paths_go_on()

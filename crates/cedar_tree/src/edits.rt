@@ -1,7 +1,9 @@
 //! Laws by which a put and a cut go along a path, one node at a time.
 
 ghost use Rattle.std.specs.Prelude.{◌++◌, ◌∷◌, ◌≡◌, ◌⊎◌, [], Bool, false, List, None, true, ℕ, ℤ};
-ghost use Rattle.cedar_tree.specs.Words.{cut, has_label, HasPath, is_bare, node_at, put, subtree, Tree, with_leaf, with_number, without, without_leaf, without_number};
+ghost use Rattle.cedar_tree.specs.Words.{cut, has_label, HasPath, is_bare, node_at, put};
+ghost use Rattle.cedar_tree.specs.Words.{subtree, Tree, with_leaf, with_number, without};
+ghost use Rattle.cedar_tree.specs.Words.{without_leaf, without_number};
 
 /// A put makes the same tree if the next node of its path, which is missing, was first added as a bare leaf; and if no node is
 /// missing, it sets the number.

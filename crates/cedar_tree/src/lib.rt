@@ -2,7 +2,24 @@
 //! laws are in specs/Statements.antt.
 #![tactic(auto)]
 
-ghost use Rattle.cedar_tree.specs.Statements.{PutIsReadBack, PutStaysLocal, CutIsReadBack, CutStaysLocal, LaterPutStands, HeldPutChangesNothing, MissedCutChangesNothing, CutUndoesPut, CutForgetsPut, PutKeepsSound, CutKeepsSound, PutKeepsPassing, CutKeepsPassing, FoundPasses, PutKeepsAscending, CutKeepsAscending, WalkHasHeld, WalkHasEachOnce, PutKeepsOtherEntries, CutKeepsOtherEntries, KeysComeBeforeExtensions, FrontHasHeld, FrontAscends, PredictHasHeld, PredictIsPartOfWalk, PredictIsWalkOfNode, PredictOfNothingIsWalk, PrefixesHaveFronts, PrefixesHaveNoOther, PutCountsEntries, CutCountsEntries, PutCountsPrefixes, CutCountsPrefixes, PutCountsSlots, CutCountsSlots, MissingAreBareFronts, NodesAreFronts, HeldMissesNone, CutMissesMore, WalkAscends, OneTree, BuiltIsSound, BuiltIsAscending, BuiltPasses, BuiltHoldsLast, SortedPairsHaveTree, PairsHaveOneTree, EntriesAreKeys, EntriesMakeTree};
+ghost use Rattle.cedar_tree.specs.Statements.{PutIsReadBack, PutStaysLocal, CutIsReadBack};
+ghost use Rattle.cedar_tree.specs.Statements.{CutStaysLocal, LaterPutStands, HeldPutChangesNothing};
+ghost use Rattle.cedar_tree.specs.Statements.{MissedCutChangesNothing, CutUndoesPut, CutForgetsPut};
+ghost use Rattle.cedar_tree.specs.Statements.{PutKeepsSound, CutKeepsSound, PutKeepsPassing};
+ghost use Rattle.cedar_tree.specs.Statements.{CutKeepsPassing, FoundPasses, PutKeepsAscending};
+ghost use Rattle.cedar_tree.specs.Statements.{CutKeepsAscending, WalkHasHeld, WalkHasEachOnce};
+ghost use Rattle.cedar_tree.specs.Statements.{PutKeepsOtherEntries, CutKeepsOtherEntries};
+ghost use Rattle.cedar_tree.specs.Statements.{KeysComeBeforeExtensions, FrontHasHeld, FrontAscends};
+ghost use Rattle.cedar_tree.specs.Statements.{PredictHasHeld, PredictIsPartOfWalk};
+ghost use Rattle.cedar_tree.specs.Statements.{PredictIsWalkOfNode, PredictOfNothingIsWalk};
+ghost use Rattle.cedar_tree.specs.Statements.{PrefixesHaveFronts, PrefixesHaveNoOther};
+ghost use Rattle.cedar_tree.specs.Statements.{PutCountsEntries, CutCountsEntries};
+ghost use Rattle.cedar_tree.specs.Statements.{PutCountsPrefixes, CutCountsPrefixes, PutCountsSlots};
+ghost use Rattle.cedar_tree.specs.Statements.{CutCountsSlots, MissingAreBareFronts, NodesAreFronts};
+ghost use Rattle.cedar_tree.specs.Statements.{HeldMissesNone, CutMissesMore, WalkAscends, OneTree};
+ghost use Rattle.cedar_tree.specs.Statements.{BuiltIsSound, BuiltIsAscending, BuiltPasses};
+ghost use Rattle.cedar_tree.specs.Statements.{BuiltHoldsLast, SortedPairsHaveTree};
+ghost use Rattle.cedar_tree.specs.Statements.{PairsHaveOneTree, EntriesAreKeys, EntriesMakeTree};
 
 mod cuts;
 mod edits;
@@ -107,13 +124,13 @@ pub fn keys_come_before_extensions()
     ensures { KeysComeBeforeExtensions }
 {}
 
-/// The prefix walk has v at n exactly if the first n + 1 bytes are held with v, and its places ascend: so it has
+/// The prefix walk has v at n exactly if the first n + 1 bytes are held with v, and its positions ascend: so it has
 /// each once.
 pub fn front_is_exact()
     //= `front` has v at n exactly if the first n + 1 bytes of the query are held with v.
     ensures has { FrontHasHeld }
 
-    //= Its places ascend, so it has each once.
+    //= Its positions ascend, so it has each once.
     ensures ascends { FrontAscends }
 {}
 

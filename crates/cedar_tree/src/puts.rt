@@ -1,7 +1,8 @@
 //! Laws of a tree that grows by bare leaves along a path, and of how they are removed again.
 
 ghost use Rattle.std.specs.Prelude.{◌++◌, ◌∷◌, ◌≡◌, [], Bool, false, List, true, ℕ};
-ghost use Rattle.cedar_tree.specs.Words.{cut, empty_tree, has_label, HasPath, is_bare, IsAscending, IsSoundBelow, node_at, number_at, Tree, with_leaf};
+ghost use Rattle.cedar_tree.specs.Words.{cut, empty_tree, has_label, HasPath, is_bare, IsAscending};
+ghost use Rattle.cedar_tree.specs.Words.{IsSoundBelow, node_at, number_at, Tree, with_leaf};
 
 /// A new leaf is at the end of its path, has neither number nor child, brings no number, and keeps ascending labels
 /// ascending.

@@ -1,7 +1,11 @@
 //! Laws of walks that are under way.
 
-ghost use Rattle.std.specs.Prelude.{◌+◌, ◌-◌, ◌<◌, ◌∷◌, ◌≡◌, ◌≤◌, [], false, length, List, map, Option, option_map, slice_index, take, ℕ, ℤ};
-ghost use Rattle.cedar_tree.specs.Words.{behind, child, cons_option, empty_tree, Forest, forwards, front, front_from, has_label, IsSoundBelow, node_at, node_up, none, number_at, predict, subtree, Tree, visited_entries, visits_after, visits_left, walk};
+ghost use Rattle.std.specs.Prelude.{◌+◌, ◌-◌, ◌<◌, ◌∷◌, ◌≡◌, ◌≤◌, [], false, length, List, map};
+ghost use Rattle.std.specs.Prelude.{Option, option_map, slice_index, take, ℕ, ℤ};
+ghost use Rattle.cedar_tree.specs.Words.{behind, child, cons_option, empty_tree, Forest, forwards};
+ghost use Rattle.cedar_tree.specs.Words.{front, front_from, has_label, IsSoundBelow, node_at};
+ghost use Rattle.cedar_tree.specs.Words.{node_up, none, number_at, predict, subtree, Tree};
+ghost use Rattle.cedar_tree.specs.Words.{visited_entries, visits_after, visits_left, walk};
 
 /// A walk over all nodes goes on to the first child of its node, or otherwise to the sibling after it, or otherwise to the one after
 /// the nearest node above that has one. The walk from there on is then what it has left.

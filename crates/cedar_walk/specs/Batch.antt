@@ -1,7 +1,7 @@
--- Where a look-up stands that is one of several in step.
+-- How far a look-up is that is one of several in step.
 use Rattle.std.specs.Prelude.{◌≡◌, ℕ, ◌<◌, List, [], drop, get_or, length, map, Option, Some, None}
 use Rattle.std.specs.Borrow.{Bor}
-use Rattle.cedar_tree.specs.Tree.{Tree, number_at}
+use Rattle.cedar_model.specs.Tree.{Tree, number_at}
 use Rattle.cedar_model.specs.Meaning.StandsFor.{Stands}
 use Rattle.cedar_model.specs.Table.TableFields.{Fields, size_of}
 use Rattle.cedar_model.specs.Meaning.WellFormed.{cells_in, tree_of}

@@ -1,11 +1,12 @@
 -- The last node of a walk in a table, and the way to it.
 use Rattle.std.specs.Prelude.{◌≡◌, ◌-◌, ◌<◌, List, [], ◌∷◌, ◌++◌, length}
-use Rattle.cedar_tree.specs.Queries.{Entry, walk}
+use Rattle.cedar_model.specs.Queries.{Entry, walk}
 use Rattle.cedar_walk.specs.declared.visits.Numbered.{Numbered}
 use Rattle.cedar_walk.specs.declared.visits.Place.{Place}
 use Rattle.cedar_model.specs.Table.TableFields.{Fields}
 use Rattle.cedar_model.specs.Meaning.WellFormed.{cells_in, tree_of}
-use Rattle.cedar_walk.specs.Visits.{entries_at, IsBelow, IsNumberedBelow, left_after, left_at, owner_of, path_to}
+use Rattle.cedar_walk.specs.Visits.{entries_at, IsBelow, IsNumberedBelow, left_after}
+use Rattle.cedar_walk.specs.Visits.{left_at, owner_of, path_to}
 
 -- a place below the root, where a walk has nothing left once it is through with all below the node above
 pub record IsOnLastWay (T : Fields) (place : Place) : Type 0 where

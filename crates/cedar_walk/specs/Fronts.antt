@@ -1,8 +1,9 @@
--- Where a walk along a query stands in a table.
-use Rattle.std.specs.Prelude.{◌≡◌, ℕ, ◌-◌, ◌<◌, ◌≤◌, List, [], ◌∷◌, length, MatchOption, take, Option, Some, None}
-use Rattle.cedar_tree.specs.Tree.{Tree}
-use Rattle.cedar_tree.specs.Queries.{node_at}
-use Rattle.cedar_tree.specs.Walks.{front_from}
+-- How far a walk along a query is in a table.
+use Rattle.std.specs.Prelude.{◌≡◌, ℕ, ◌-◌, ◌<◌, ◌≤◌, List, [], ◌∷◌, length}
+use Rattle.std.specs.Prelude.{MatchOption, take, Option, Some, None}
+use Rattle.cedar_model.specs.Tree.{Tree}
+use Rattle.cedar_model.specs.Queries.{node_at}
+use Rattle.cedar_model.specs.Walks.{front_from}
 use Rattle.cedar_walk.specs.declared.fronts.Front.{Front}
 use Rattle.cedar_model.specs.Meaning.StandsFor.{Stands}
 use Rattle.cedar_model.specs.Table.TableFields.{Fields, size_of}

@@ -1,7 +1,7 @@
 -- A key that a walk keeps in step with its node, and the room that it needs.
 use Rattle.std.specs.Prelude.{◌≡◌, ℕ, ◌-◌, ◌<◌, List, [], ◌∷◌, ◌++◌, length}
-use Rattle.cedar_tree.specs.Queries.{Entry}
-use Rattle.cedar_tree.specs.Walks.{visited_entries}
+use Rattle.cedar_model.specs.Queries.{Entry}
+use Rattle.cedar_model.specs.Walks.{visited_entries}
 use Rattle.cedar_model.specs.Table.TableFields.{Fields}
 use Rattle.cedar_model.specs.Meaning.WellFormed.{cells_in}
 use Rattle.cedar_walk.specs.declared.visits.Numbered.{Numbered}

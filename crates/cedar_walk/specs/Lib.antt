@@ -1,4 +1,4 @@
--- Where walks that are under way stand in a table.
+-- How far walks that are under way are in a table.
 pub mod Batch
 pub mod Fronts
 pub mod Visits

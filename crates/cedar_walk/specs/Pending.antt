@@ -1,7 +1,8 @@
 -- Siblings that a walk keeps, to which it has still to come.
-use Rattle.std.specs.Prelude.{◌≡◌, ◌==◌, cond, ℕ, zero, suc, ◌-◌, ◌<◌, List, [], ◌∷◌, get_or, length}
-use Rattle.cedar_tree.specs.Queries.{Entry}
-use Rattle.cedar_tree.specs.Walks.{Visit, visited_entries}
+use Rattle.std.specs.Prelude.{◌≡◌, ◌==◌, cond, ℕ, zero, suc, ◌-◌, ◌<◌, List}
+use Rattle.std.specs.Prelude.{[], ◌∷◌, get_or, length}
+use Rattle.cedar_model.specs.Queries.{Entry}
+use Rattle.cedar_model.specs.Walks.{Visit, visited_entries}
 use Rattle.cedar_walk.specs.declared.pending.PendingSibling.{PendingSibling}
 use Rattle.cedar_walk.specs.declared.visits.Place.{Place}
 use Rattle.cedar_model.specs.Meaning.Family.{below}

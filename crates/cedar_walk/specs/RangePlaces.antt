@@ -1,14 +1,17 @@
 -- Where a walk over a range of keys begins in a table.
-use Rattle.std.specs.Prelude.{◌≡◌, ◌⊎◌, ℕ, ◌<◌, ◌≤◌, false, true, get_or, List, [], ◌++◌, length, map, MatchOption, Option, take}
-use Rattle.cedar_tree.specs.Tree.{Forest, has_label}
-use Rattle.cedar_tree.specs.Queries.{node_at}
-use Rattle.cedar_tree.specs.Walks.{behind, visited_entries, node_up, Visit, visit_from, visits_below}
+use Rattle.std.specs.Prelude.{◌≡◌, ◌⊎◌, ℕ, ◌<◌, ◌≤◌, false, true, get_or, List, [], ◌++◌}
+use Rattle.std.specs.Prelude.{length, map, MatchOption, Option, take}
+use Rattle.cedar_model.specs.Tree.{Forest, has_label}
+use Rattle.cedar_model.specs.Queries.{node_at}
+use Rattle.cedar_model.specs.Walks.{behind, visited_entries, node_up, Visit}
+use Rattle.cedar_model.specs.Walks.{visit_from, visits_below}
 use Rattle.cedar_model.specs.Edit.NodeEdits.{IsAt}
 use Rattle.cedar_model.specs.Table.TableFields.{Fields}
 use Rattle.cedar_model.specs.Meaning.WellFormed.{cells_in, tree_of}
 use Rattle.cedar_walk.specs.declared.ranges.Reached.{Reached}
 use Rattle.cedar_walk.specs.declared.visits.Place.{Place}
-use Rattle.cedar_walk.specs.Visits.{entries_at, first_sibling_label, IsBelow, left_after, path_to, way_up}
+use Rattle.cedar_walk.specs.Visits.{entries_at, first_sibling_label, IsBelow}
+use Rattle.cedar_walk.specs.Visits.{left_after, path_to, way_up}
 use Rattle.cedar_walk.specs.Ranges.{siblings_above}
 
 -- some last siblings: all, or those behind one

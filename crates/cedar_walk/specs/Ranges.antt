@@ -1,10 +1,11 @@
 -- The entries of a tree whose keys lie in a range.
-use Rattle.std.specs.Prelude.{ℕ, ℤ, ◌+◌, nat_eq, nat_lt, if◌then◌else◌, List, ◌++◌, filter, None, Option, option_map}
+use Rattle.std.specs.Prelude.{ℕ, ℤ, ◌+◌, nat_eq, nat_lt, if◌then◌else◌, List, ◌++◌}
+use Rattle.std.specs.Prelude.{filter, None, Option, option_map}
 use Rattle.std.specs.List.{last_or, starts_with}
 use Rattle.std.specs.Cmp.Lexicographic.{slice_cmp}
 use Rattle.std.specs.Ordering.{is_ge, nat_cmp}
-use Rattle.cedar_tree.specs.Tree.{Forest, none, child, Tree}
-use Rattle.cedar_tree.specs.Queries.{Entry, front, walk}
+use Rattle.cedar_model.specs.Tree.{Forest, none, child, Tree}
+use Rattle.cedar_model.specs.Queries.{Entry, front, walk}
 
 -- the longest nonempty front of a text that is held: its number, and how many bytes it has
 abbrev pub longest_front : Tree → List ℕ → Option (ℤ × ℕ)

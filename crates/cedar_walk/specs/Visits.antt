@@ -1,8 +1,10 @@
--- Where a walk over the nodes of a tree stands in a table.
-use Rattle.std.specs.Prelude.{◌≡◌, ℕ, ℤ, zero, suc, ◌+◌, ◌-◌, ◌<◌, ◌≤◌, List, [], ◌∷◌, ◌++◌, length, MatchOption, Option, Some, take, unsigned_abs}
-use Rattle.cedar_tree.specs.Tree.{Forest, none, child, Tree}
-use Rattle.cedar_tree.specs.Queries.{Entry, node_at}
-use Rattle.cedar_tree.specs.Walks.{behind, Visit, visited_entries, forwards, visits_after, visits_left}
+-- How far a walk over the nodes of a tree is in a table.
+use Rattle.std.specs.Prelude.{◌≡◌, ℕ, ℤ, zero, suc, ◌+◌, ◌-◌, ◌<◌, ◌≤◌, List, [], ◌∷◌, ◌++◌, length}
+use Rattle.std.specs.Prelude.{MatchOption, Option, Some, take, unsigned_abs}
+use Rattle.cedar_model.specs.Tree.{Forest, none, child, Tree}
+use Rattle.cedar_model.specs.Queries.{Entry, node_at}
+use Rattle.cedar_model.specs.Walks.{behind, Visit, visited_entries, forwards}
+use Rattle.cedar_model.specs.Walks.{visits_after, visits_left}
 use Rattle.cedar_walk.specs.declared.visits.Numbered.{Numbered}
 use Rattle.cedar_walk.specs.declared.visits.Place.{Place}
 use Rattle.cedar_walk.specs.declared.visits.Visited.{Visited}
@@ -46,7 +48,7 @@ left_after T start n s = visits_after (node_at (tree_of T) start) (way_up (cells
 abbrev pub path_to : Fields → ℕ → ℕ → List ℕ
 path_to T n s = forwards (way_up (cells_in T) n s)
 
--- a walk below the path `start` that had these nodes left, and stood at a path, comes to a node: the first of those left, whose path
+-- a walk below the path `start` that had these nodes left, and was at a path, comes to a node: the first of those left, whose path
 -- has one label of its own after a front of the one before
 pub record ComesTo (T : Fields) (start : List ℕ) (left : List Visit) (path : List ℕ) (next : Visited) : Type 0 where
   pub below : IsBelow (cells_in T) start next.depth next.slot

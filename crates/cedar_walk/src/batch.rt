@@ -1,7 +1,8 @@
 //! Look-ups of many keys in step, so that their waits for memory overlap.
 
 ghost use Rattle.std.specs.Prelude.{◌++◌, ◌+◌, ◌≡◌, ◌≤◌, drop, length, map, Some, take};
-ghost use Rattle.cedar_walk.specs.Words.{AreLanes, exact, fields, IsLane, IsWellFormed, keys_of, tree_of};
+ghost use Rattle.cedar_walk.specs.Words.{AreLanes, exact, fields, IsLane, IsWellFormed};
+ghost use Rattle.cedar_walk.specs.Words.{keys_of, tree_of};
 
 use cedar_model::Layout;
 use cedar_slots::Ticks;
@@ -96,7 +97,7 @@ fn search_in_step<L: Layout, const SLOTS: usize, A: Allocator, C: Ledger>(
     }
 }
 
-/// Looks up the numbers of some keys, and the keys' lengths, as far as there is room for answers; what comes after these stays. It
+/// Looks up the numbers of some keys, and the keys' lengths, as far as there is room for results; what comes after these stays. It
 /// allocates nothing.
 pub fn exact_match_search_batch<L: Layout, const SLOTS: usize, A: Allocator, C: Ledger>(
     table: &Table<L, SLOTS, A>,
@@ -106,8 +107,8 @@ pub fn exact_match_search_batch<L: Layout, const SLOTS: usize, A: Allocator, C: 
 )
     requires { IsWellFormed SLOTS (fields table.now) }
 
-    //= `exact_match_search_batch` of some keys, on a well-formed table: each answer is `exact` of its tree and its key, for as many keys as
-    //  there are places for answers; places after the last key stay. Nothing is said about its count.
+    //= `exact_match_search_batch` of some keys, on a well-formed table: each result is `exact` of its tree and its key, for as many keys as
+    //  there are elements for results; elements after the last key stay. Nothing is said about its count.
     ensures { answers.new ≡ map (exact (tree_of (fields table.now))) (take (length answers.old) (keys_of keys.now)) ++ drop (length keys.now) answers.old }
 {
     let count = keys.len().min(answers.len());

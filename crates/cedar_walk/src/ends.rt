@@ -1,7 +1,8 @@
 //! The last node of a walk.
 
 ghost use Rattle.std.specs.Prelude.{◌≡◌, [], MatchOption};
-ghost use Rattle.cedar_walk.specs.Words.{fields, GoesPast, IsLastNumber, IsOnLastWay, IsWellFormed, left_at, tree_of, walk};
+ghost use Rattle.cedar_walk.specs.Words.{fields, GoesPast, IsLastNumber, IsOnLastWay};
+ghost use Rattle.cedar_walk.specs.Words.{IsWellFormed, left_at, tree_of, walk};
 
 use crate::visits::{
     Numbered, Place, child_under, first_child, next_sibling, numbered_from, parent,

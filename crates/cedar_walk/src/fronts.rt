@@ -1,7 +1,8 @@
 //! The next held prefix of a query.
 
 ghost use Rattle.std.specs.Prelude.{◌*◌, ◌+◌, ◌-◌, ◌<◌, ◌≤◌, length, MatchOption};
-ghost use Rattle.cedar_walk.specs.Words.{fields, front_length, IsNextFront, IsOnQuery, IsWellFormed, tree_of};
+ghost use Rattle.cedar_walk.specs.Words.{fields, front_length, IsNextFront, IsOnQuery};
+ghost use Rattle.cedar_walk.specs.Words.{IsWellFormed, tree_of};
 
 use cedar_model::Layout;
 use cedar_slots::Ticks;

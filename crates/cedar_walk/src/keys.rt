@@ -1,8 +1,11 @@
 //! A walk from number to number that keeps the key of its node. So an item costs the labels in which its key differs from the one
 //! before, and no climb to the node where the walk began.
 
-ghost use Rattle.std.specs.Prelude.{◌≡◌, ◌≢◌, ◌≤◌, IfOk, length, List, MatchOption, OnErr, vec_capacity, ℕ};
-ghost use Rattle.cedar_walk.specs.Words.{cells, fields, FindsNumber, FirstKeyOutgrows, GoesToNumber, IsBelow, IsNumberedBelow, IsWellFormed, KeyGoesOn, NextKeyOutgrows};
+ghost use Rattle.std.specs.Prelude.{◌≡◌, ◌≢◌, ◌≤◌, IfOk, length, List, MatchOption};
+ghost use Rattle.std.specs.Prelude.{OnErr, vec_capacity, ℕ};
+ghost use Rattle.cedar_walk.specs.Words.{cells, fields, FindsNumber, FirstKeyOutgrows};
+ghost use Rattle.cedar_walk.specs.Words.{GoesToNumber, IsBelow, IsNumberedBelow, IsWellFormed};
+ghost use Rattle.cedar_walk.specs.Words.{KeyGoesOn, NextKeyOutgrows};
 
 use crate::visits::{Numbered, label_after_number, number_held, place_after};
 use cedar_model::Layout;

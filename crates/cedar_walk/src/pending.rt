@@ -1,8 +1,12 @@
 //! A walk from number to number that keeps the siblings that it has still to visit. So it mostly goes on at a slot that it knows,
 //! and reads nothing of the nodes above.
 
-ghost use Rattle.std.specs.Prelude.{◌-◌, ◌<◌, ◌∷◌, ◌≡◌, ◌≢◌, ◌≤◌, [], IfSome, List, MatchOption, ℕ, ⊤};
-ghost use Rattle.cedar_walk.specs.Words.{below, cells, ComesToFirst, fields, FindsNumber, first_sibling_label, GoesKeeping, GoesToNumber, IsAt, IsBelow, IsNumberedBelow, IsPending, IsWellFormed, kept_behind, node_at, NoneLeft, owner_of, tree_of, walk};
+ghost use Rattle.std.specs.Prelude.{◌-◌, ◌<◌, ◌∷◌, ◌≡◌, ◌≢◌, ◌≤◌, [], IfSome, List};
+ghost use Rattle.std.specs.Prelude.{MatchOption, ℕ, ⊤};
+ghost use Rattle.cedar_walk.specs.Words.{below, cells, ComesToFirst, fields, FindsNumber};
+ghost use Rattle.cedar_walk.specs.Words.{first_sibling_label, GoesKeeping, GoesToNumber, IsAt};
+ghost use Rattle.cedar_walk.specs.Words.{IsBelow, IsNumberedBelow, IsPending, IsWellFormed};
+ghost use Rattle.cedar_walk.specs.Words.{kept_behind, node_at, NoneLeft, owner_of, tree_of, walk};
 
 use crate::visits::{
     Numbered, Place, child_under, first_child, label_after_number, next_after, next_sibling,
@@ -50,6 +54,7 @@ impl PendingSiblings {
     /// Makes an empty list of siblings.
     #[inline(always)]
     pub fn new() -> Self
+        //= A new list of pending siblings is empty.
         ensures { result ≡ [] }
     {
         let blank = PendingSibling {
@@ -98,6 +103,7 @@ impl PendingSiblings {
 }
 
 impl Clone for PendingSiblings {
+    //= A clone of pending siblings is equal, and never fails. [with is_infallible]
     ghost is_clone = { λ siblings copy. copy ≡ siblings };
 
     ghost is_infallible = { λ _. ⊤ };

@@ -1,7 +1,10 @@
 //! Walks over a range of keys: the first entry at or after a key, and the path of a node that a walk has reached.
 
-ghost use Rattle.std.specs.Prelude.{◌++◌, ◌-◌, ◌<◌, ◌∷◌, ◌≡◌, ◌≤◌, ◌⊎◌, [], length, List, take, true, ℕ};
-ghost use Rattle.cedar_walk.specs.Words.{AboveFrom, BeginsAtFirst, below, cells, ComesToFirst, entries_since, fields, IsAt, IsBelow, IsReached, IsWellFormed, left_above, node_at, path_to, tree_of};
+ghost use Rattle.std.specs.Prelude.{◌++◌, ◌-◌, ◌<◌, ◌∷◌, ◌≡◌, ◌≤◌, ◌⊎◌, [], length};
+ghost use Rattle.std.specs.Prelude.{List, take, true, ℕ};
+ghost use Rattle.cedar_walk.specs.Words.{AboveFrom, BeginsAtFirst, below, cells, ComesToFirst};
+ghost use Rattle.cedar_walk.specs.Words.{entries_since, fields, IsAt, IsBelow, IsReached};
+ghost use Rattle.cedar_walk.specs.Words.{IsWellFormed, left_above, node_at, path_to, tree_of};
 
 use crate::visits::{
     Numbered, Place, child_under, first_child, first_numbered, next_after, numbered_from, parent,
@@ -41,6 +44,8 @@ pub fn write_path<L: Layout, const SLOTS: usize, A: Allocator>(
     requires well_formed { IsWellFormed SLOTS (fields table.now) }
     requires below { (start : List ℕ) × IsBelow (cells table.now) start depth node }
     requires room { depth ≤ length key.old }
+
+    //= `write_path` writes the path to a node over the last bytes of a key, and changes none in front of them.
     ensures { key.new ≡ take (length key.old - depth) key.old ++ path_to (fields table.now) depth node }
 {
     let front = key.len() - depth;
@@ -126,6 +131,8 @@ pub fn first_since<L: Layout, const SLOTS: usize, A: Allocator>(
 ) -> Option<Numbered>
     requires well_formed { IsWellFormed SLOTS (fields table.now) }
     requires ordered { (fields table.now).ordered ≡ true }
+
+    //= `first_since` finds the first entry at a key or after it by bytes, and returns `None` if there is none.
     ensures { ComesToFirst (fields table.now) [] (entries_since (tree_of (fields table.now)) key.now) result }
 {
     if key.is_empty() {

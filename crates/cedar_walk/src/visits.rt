@@ -1,7 +1,11 @@
 //! A walk over the nodes of a tree, each before its children: from a node to the next one, by the slots alone.
 
 ghost use Rattle.std.specs.Prelude.{◌++◌, ◌<◌, ◌∷◌, ◌≡◌, ◌≢◌, [], List, pos, Some, true, ℕ, ℤ};
-ghost use Rattle.cedar_walk.specs.Words.{below, cells, ComesToFirst, fields, FindsNumber, first_sibling_label, GoesToNode, GoesToNumber, GoesToPlace, has_label, IsAt, IsBelow, IsNumberedBelow, IsWellFormed, label_after, left_after, left_at, node_at, size_of, Stands, Tree, tree_of, walk};
+ghost use Rattle.cedar_walk.specs.Words.{below, cells, ComesToFirst, fields, FindsNumber};
+ghost use Rattle.cedar_walk.specs.Words.{first_sibling_label, GoesToNode, GoesToNumber};
+ghost use Rattle.cedar_walk.specs.Words.{GoesToPlace, has_label, IsAt, IsBelow, IsNumberedBelow};
+ghost use Rattle.cedar_walk.specs.Words.{IsWellFormed, label_after, left_after, left_at, node_at};
+ghost use Rattle.cedar_walk.specs.Words.{size_of, Stands, Tree, tree_of, walk};
 
 use cedar_model::{Layout, Stored};
 use cedar_table::Table;

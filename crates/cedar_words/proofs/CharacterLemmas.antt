@@ -9,7 +9,7 @@ use Rattle.std.proofs.lemmas.List.Elements.{All-cons, All-head, All-nil, All-tai
 use Rattle.std.proofs.lemmas.Slice.Eq.{bytes_eq-Decides}
 use Rattle.std.proofs.lemmas.Str.{byte_from_char, length-encode, IsCharBoundary-after_ascii, IsCharBoundary-before_ascii, IsCharBoundary-from_rest, IsCharBoundary-from_take, IsCharBoundary-start, IsUtf8-between, IsUtf8-drop}
 use Rattle.cedarwood.specs.Tree.{cut, empty_tree, IsSoundBelow, number_at, put, Tree}
-use Rattle.cedarwood.specs.State.{State, stored}
+use Rattle.cedarwood.specs.State.{after_put, State}
 use Rattle.cedarwood.specs.Queries.{Entry}
 use Rattle.cedarwood.specs.Builds.{all_stored}
 use Rattle.cedarwood.proofs.TreeLemmas.{number_at-cut_other, number_at-cut_same, number_at-empty, number_at-put_other}
@@ -110,7 +110,7 @@ cut_parts_from t text utf8 keys (x ∷ tokens) place is =
 pub cut_parts : (t : Tree) (text : List ℕ) (tokens : List Token) → IsUtf8 text → HasUtf8Keys t → IsCut t text tokens → All (PartsNoCharacter text) tokens
 cut_parts t text tokens utf8 keys is = cut_parts_from t text utf8 keys tokens 0 is
 
--- tokens side by side of which each is the longest at its place are a cut
+-- tokens side by side of which each is the longest at its position are a cut
 longest_piece : (t : Tree) (text : List ℕ) (place len : ℕ) (value : Option ℤ) → number_at t (take len (drop place text)) ≡ value → (value ≡ None → len ≡ 1)
     → MatchOption value (len ≡ 1) (λ v. number_at t (take len (drop place text)) ≡ Some v)
 longest_piece t text place len None held one = one refl
@@ -130,7 +130,7 @@ longest_cut t text (x ∷ tokens) place beside longest =
 pub segments_parts : (t : Tree) (text : List ℕ) → IsUtf8 text → HasUtf8Keys t → All (PartsNoCharacter text) (segments t text)
 segments_parts t text utf8 keys = cut_parts t text (segments t text) utf8 keys (longest_cut t text (segments t text) 0 (segments_cover t text) (segments_longest t text))
 
--- so it is with those from any place on
+-- so it is with those from any position on
 pub later_parts : (t : Tree) (text : List ℕ) (place : ℕ) → IsUtf8 text → HasUtf8Keys t → All (PartsNoCharacter text) (tokens_behind t 0 place (drop place text))
 later_parts t text place utf8 keys =
     let left = length-drop place text in
@@ -196,4 +196,4 @@ pub stored_utf8 : (s : State) (entries : List Entry) → HasUtf8Keys s.tree → 
 stored_utf8 s [] keys all = keys
 stored_utf8 s (e ∷ entries) keys all =
     let first : IsUtf8 e.0 = All-head (λ (x : Entry). IsUtf8 x.0) e entries all in
-    stored_utf8 (stored s e.0 e.1) entries (put_utf8 s.tree s.ordered e.0 e.1 keys first) (All-tail (λ (x : Entry). IsUtf8 x.0) e entries all)
+    stored_utf8 (after_put s e.0 e.1) entries (put_utf8 s.tree s.ordered e.0 e.1 keys first) (All-tail (λ (x : Entry). IsUtf8 x.0) e entries all)

@@ -114,7 +114,7 @@ ahead_of_piece t u later rest n (Some v) go some within held cheap = elim (best_
   | inr more ↦ inl more
 ]
 
--- of a cut from a place on, what is known of its first token
+-- of a cut from a position on, what is known of its first token
 record IsFirst (t : Tree) (u : ℕ → ℕ) (text costs : List ℕ) (place left : ℕ) (x : Token) : Type 0 where
   pub within : x.1 ≤ left
   pub cost : cost_at costs left ≤ price (u place) x.2 + cost_at costs (left - x.1)

@@ -16,7 +16,7 @@ NoneFrom t q low end = (k : ℕ) → low ≤ k → k < end → number_at t (take
 abbrev pub IsLast : Tree → List ℕ → ℕ → ℤ × ℕ → Type 0
 IsLast t q end found = (found.1 < end) × (number_at t (take (found.1 + 1) q) ≡ Some found.0) × NoneFrom t q (found.1 + 1) end
 
--- the last one found among the fronts from a place on, where `before` was found already
+-- the last one found among the fronts from a position on, where `before` was found already
 abbrev Found : Tree → List ℕ → ℕ → ℕ → Option (ℤ × ℕ) → Option (ℤ × ℕ) → Type 0
 Found t q low end before last = (NoneFrom t q low end × (last ≡ before)) ⊎ ((found : ℤ × ℕ) × (last ≡ Some found) × IsLast t q end found)
 
@@ -61,7 +61,7 @@ len_within t q h = (elim (longest t q) as (λ o. IfSome o (λ found. found.1 < l
   | Some found ↦ λ within. omega (arith, within)
 ]) (longest_within t q)
 
--- the token at a place of a text is the longest there
+-- the token at a position of a text is the longest there
 pub token_longest : (t : Tree) (text : List ℕ) (place : ℕ) → 0 < length (drop place text) → IsLongest t text (place, len_of (longest t (drop place text)), found_number (longest t (drop place text)))
 token_longest t text place h =
     let q : List ℕ = drop place text in

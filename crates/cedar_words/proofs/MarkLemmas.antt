@@ -1,4 +1,4 @@
--- Marks: what a byte tells of a step, and what follows of its bytes and its number.
+-- Marks: what a byte says of a step, and what follows of its bytes and its number.
 use Rattle.std.proofs.Common.{◌≡◌, ℕ, ◌+◌, ◌-◌, ◌^◌, ◌<◌, ◌≤◌, ◌⊎◌, inl, inr, min, ℤ, pos, unsigned_abs, List, [], ◌∷◌, ◌++◌, length, take, drop, Option, Some, None, MatchOption, refl, sym, ap, subst, ◌∙◌, arith, to_z, w32}
 use Rattle.std.proofs.lemmas.List.{get_or_append_left, get_or_push, length_push, take-append-le, take_all}
 use Rattle.std.proofs.lemmas.Bool.Decides.{eqb_tells}
@@ -35,7 +35,7 @@ marks_more t u text costs marks cost mark left some len same is was k low high =
 pub marks_pushed : (t : Tree) (u : ℕ → ℕ) (text costs marks all_costs all_marks : List ℕ) → all_costs ≡ costs → all_marks ≡ marks → AreMarksOver t u text costs marks → AreMarksOver t u text all_costs all_marks
 marks_pushed t u text costs marks all_costs all_marks is are was = subst (λ l. AreMarksOver t u text l all_marks) (sym is) (subst (λ l. AreMarksOver t u text costs l) (sym are) was)
 
--- 0 tells that a step goes over one byte without a number
+-- 0 says that a step goes over one byte without a number
 byte_is : (t : Tree) (rest : List ℕ) (value : Option ℤ) (len mark : ℕ) → 0 < len → mark ≡ 0 → (mark ≡ 255) ⊎ MatchOption value (mark ≡ 0) (λ v. (mark ≡ len) × (v ≡ pos (unsigned_abs v)) × (unsigned_abs v < 2 ^ 31))
     → MatchOption value (len ≡ 1) (λ v. number_at t (take len rest) ≡ Some v) → (1 ≡ len) × (◌≡◌ {A = Option ℤ} None value)
 byte_is t rest value len mark some zero (inl never) piece = absurd (omega (arith, zero, never))
@@ -48,7 +48,7 @@ told_byte t u text costs are left mark some within is zero =
     let at = step_is t u text costs are left some within in
     byte_is t (drop (length text - left) text) (step_at t u text costs left).value (step_at t u text costs left).len mark at.some zero is at.piece
 
--- what a mark of a key tells of a step over so many bytes, where they cost less than what all great sums count as
+-- what a mark of a key says of a step over so many bytes, where they cost less than what all great sums count as
 pub record IsToldKey (costs : List ℕ) (left len : ℕ) (value : Option ℤ) (mark : ℕ) : Type 0 where
   pub within : mark ≤ left
   pub bytes : mark ≡ len
@@ -78,7 +78,7 @@ told_key t u text costs are left mark some within is key low =
     let at = step_is t u text costs are left some within in
     key_is costs left (step_at t u text costs left).len mark (u (length text - left)) (step_at t u text costs left).value key low at.within is at.cost
 
--- the token at a place comes first, where it is told by its bytes and its number
+-- the token at a position comes first, where it is known by its bytes and its number
 pub along_told : (steps : ℕ → Step) (place left len : ℕ) (value : Option ℤ) → 0 < left → len ≡ (steps left).len → value ≡ (steps left).value → 0 < len
     → cut_along steps 0 place left ≡ (place, len, value) ∷ cut_along steps 0 (place + len) (left - len)
 along_told steps place left len value some bytes number go =
@@ -86,7 +86,7 @@ along_told steps place left len value some bytes number go =
     ∙ ap (λ n. (place, n, (steps left).value) ∷ cut_along steps 0 (place + n) (left - n)) (sym bytes)
     ∙ ap (λ v. (place, len, v) ∷ cut_along steps 0 (place + len) (left - len)) (sym number)
 
--- the same of the mark at a place of a text
+-- the same of the mark at a position of a text
 pub key_at : (t : Tree) (u : ℕ → ℕ) (text costs marks : List ℕ) (place mark : ℕ) → place < length text → AreCosts t u text costs → AreMarks t u text costs marks → mark ≡ mark_at marks (length text - place)
     → (mark_at marks (length text - place) ≡ 0 → ⊥) → mark_at marks (length text - place) < 255
     → IsToldKey costs (length text - place) (step_at t u text costs (length text - place)).len (step_at t u text costs (length text - place)).value mark

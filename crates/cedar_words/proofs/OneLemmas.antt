@@ -1,7 +1,7 @@
 -- That there is one cheapest cut, and that cuts cover their texts.
 use Rattle.std.proofs.Common.{◌≡◌, ℕ, ◌+◌, ℤ, List, [], ◌∷◌, length, Option, Some, None, MatchOption, refl, sym, ap, subst, ◌∙◌, arith}
 use Rattle.cedarwood.specs.Tree.{Tree}
-use Rattle.cedar_tree.proofs.MemberLemmas.{either_part}
+use Rattle.cedarwood.proofs.MemberLemmas.{either_part}
 use Rattle.cedar_words.specs.Cuts.{IsAhead, IsCheapestBy, IsCutFrom}
 use Rattle.cedar_words.specs.Tokens.{AreAdjacent, Token}
 

@@ -7,7 +7,7 @@ use Rattle.std.proofs.lemmas.List.{length-drop, take_all}
 use Rattle.cedarwood.specs.Tree.{Tree, number_at}
 use Rattle.cedarwood.specs.Queries.{front}
 use Rattle.cedarwood.proofs.FrontLemmas.{front_from_held, held_from_front}
-use Rattle.cedar_tree.proofs.MemberLemmas.{contains_none, either_part, from_map, into_map}
+use Rattle.cedarwood.proofs.MemberLemmas.{contains_none, either_part, from_map, into_map}
 use Rattle.cedar_words.specs.Spots.{IsKeyIn, IsLeftmost, keywords_in, keywords_of, Spot, spot, spots_from, spots_left}
 use Rattle.cedar_words.specs.Steps.{AreWithin}
 use Rattle.cedar_words.specs.Tokens.{len_of, longest, found_number, tokens_behind}
@@ -25,7 +25,7 @@ none_behind t place text e k low =
     no_bytes [] h = refl
     no_bytes (b ∷ q) h = absurd (omega (arith, h))
 
--- a place at which no key begins may stand before them
+-- a position at which no key begins may come before them
 leftmost_from : (t : Tree) (text : List ℕ) (place : ℕ) (spots : List Spot) → longest t (drop place text) ≡ None → IsLeftmost t text (place + 1) spots → IsLeftmost t text place spots
 leftmost_from t text place [] none is = λ k low. elim (eqb_tells place k) [
   | inl same ↦ ap (λ p. longest t (drop p text)) (sym same.1) ∙ none
@@ -74,12 +74,12 @@ leftmost_behind t text zero place (b ∷ rest) e h =
 pub keywords_leftmost : (t : Tree) (text : List ℕ) → IsLeftmost t text 0 (keywords_in t text)
 keywords_leftmost t text = leftmost_behind t text 0 0 text refl (omega arith)
 
--- nothing stands where no byte is left
+-- nothing is found where no byte is left
 no_spots : (t : Tree) (place : ℕ) (q : List ℕ) → length q ≡ 0 → spots_from t place q ≡ []
 no_spots t place [] h = refl
 no_spots t place (b ∷ q) h = absurd (omega (arith, h))
 
--- all keys from a place on are those that its walk has and those from the next place on
+-- all keys from a position on are those that its walk has and those from the next position on
 pub from_left : (t : Tree) (text : List ℕ) (place : ℕ) → spots_from t place (drop place text) ≡ spots_left t text place (front t (drop place text))
 from_left t text place = at (drop place text) refl
   where
@@ -90,7 +90,7 @@ from_left t text place = at (drop place text) refl
         sym (no_spots t (place + 1) (drop (place + 1) text) short)
     at (b ∷ rest) is = ap (λ q. map (spot place) (front t (b ∷ rest)) ++ spots_from t (place + 1) q) (sym (drop_one place text rest b is))
 
--- where a walk has found all at a place, what is left is what the walk at the next place has, and what is behind it
+-- where a walk has found all at a position, what is left is what the walk at the next position has, and what is behind it
 pub left_next : (t : Tree) (text : List ℕ) (place : ℕ) → spots_left t text place [] ≡ spots_left t text (place + 1) (front t (drop (place + 1) text))
 left_next t text place = from_left t text (place + 1)
 
@@ -110,7 +110,7 @@ left_end t text place fronts end within =
 pub rest_of : (text : List ℕ) (place : ℕ) → take (length text - place) (drop place text) ≡ drop place text
 rest_of text place = let all : length (drop place text) ≤ length text - place = omega (arith, length-drop place text) in take_all (length text - place) (drop place text) all
 
--- those from a place on, or from the end where the place is behind it
+-- those from a position on, or from the end where the position is behind it
 pub spots_within : (t : Tree) (text : List ℕ) (place start : ℕ) → start ≡ min place (length text) → spots_from t start (drop start text) ≡ spots_from t place (drop place text)
 spots_within t text place start is = elim (leb_tells place (length text)) [
   | inl low ↦
@@ -124,7 +124,7 @@ spots_within t text place start is = elim (leb_tells place (length text)) [
       no_spots t start (drop start text) none ∙ sym (no_spots t place (drop place text) short)
 ]
 
--- a match from a place on is a key so many bytes behind it
+-- a match from a position on is a key so many bytes behind it
 match_held : (t : Tree) (rest : List ℕ) (place : ℕ) (s : Spot) → Contains (spots_from t place rest) s
     → (k : ℕ) × (s.0 ≡ place + k) × (0 < s.1) × (k + s.1 ≤ length rest) × (number_at t (take s.1 (drop k rest)) ≡ Some s.2)
 match_held t [] place s c = absurd (contains_none s c)

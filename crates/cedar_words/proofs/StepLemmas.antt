@@ -6,7 +6,7 @@ use Rattle.std.proofs.lemmas.Bool.Decides.{eqb_tells, leb_tells}
 use Rattle.cedarwood.specs.Tree.{Tree, number_at}
 use Rattle.cedarwood.specs.Queries.{front}
 use Rattle.cedarwood.proofs.FrontLemmas.{front_from_held, held_from_front}
-use Rattle.cedar_tree.proofs.MemberLemmas.{contains_first_or_later, contains_here, contains_later, contains_none, either_part}
+use Rattle.cedarwood.proofs.MemberLemmas.{contains_first_or_later, contains_here, contains_later, contains_none, either_part}
 use Rattle.cedar_words.specs.Cuts.{price}
 use Rattle.cedar_words.specs.Steps.{AreCostsOver, AreWithin, best_from, best_of, better_of, cost_at, cut_along, key_step, step_over}
 use Rattle.cedar_words.specs.declared.costs.Step.{Step}
@@ -33,7 +33,7 @@ passed_along steps (suc k) place (suc left) =
     let less : left - k ≡ suc left - suc k = omega arith in
     passed_along steps k (place + 1) left ∙ ap (λ p. cut_along steps 0 p (left - k)) here ∙ ap (λ n. cut_along steps 0 (place + suc k) n) less
 
--- the token at a place comes first
+-- the token at a position comes first
 pub along_step : (steps : ℕ → Step) (place left : ℕ) (step : Step) → 0 < left → steps left ≡ step → 0 < step.len
     → cut_along steps 0 place left ≡ (place, step.len, step.value) ∷ cut_along steps 0 (place + step.len) (left - step.len)
 along_step steps place zero step some is h = absurd (omega (arith, some))

@@ -16,7 +16,7 @@ taken t (suc k) place (b ∷ rest) =
     let same : place + 1 + k ≡ place + suc k = omega arith in
     taken t k (place + 1) rest ∙ ap (λ p. tokens_behind t 0 p (drop k rest)) same
 
--- the token that was found at a place
+-- the token that was found at a position
 abbrev token : ℕ → Option (ℤ × ℕ) → Token
 token place found = (place, len_of found, found_number found)
 
@@ -117,7 +117,7 @@ drop_one zero text rest b e = ap (drop 1) e
 drop_one (suc place) [] rest b e = absurd (cc)
 drop_one (suc place) (c ∷ text) rest b e = let same : suc place + 1 ≡ suc (place + 1) = omega arith in ap (λ n. drop n (c ∷ text)) same ∙ drop_one place text rest b e
 
--- each of them is the longest at its place
+-- each of them is the longest at its position
 pub tokens_longest : (t : Tree) (text : List ℕ) (k place : ℕ) (rest : List ℕ) → drop place text ≡ rest → All (IsLongest t text) (tokens_behind t k place rest)
 tokens_longest t text k place [] e = All-nil (IsLongest t text)
 tokens_longest t text (suc k) place (b ∷ rest) e = tokens_longest t text k (place + 1) rest (drop_one place text rest b e)
@@ -135,7 +135,7 @@ pub none_left : (t : Tree) (place : ℕ) (rest : List ℕ) → length rest ≡ 0
 none_left t place [] h = refl
 none_left t place (b ∷ rest) h = absurd (omega (arith, h))
 
--- those from a place on, or from the end where the place is behind it
+-- those from a position on, or from the end where the position is behind it
 pub tokens_within : (t : Tree) (text : List ℕ) (place start : ℕ) → start ≡ min place (length text) → tokens_behind t 0 start (drop start text) ≡ tokens_behind t 0 place (drop place text)
 tokens_within t text place start is = elim (leb_tells place (length text)) [
   | inl low ↦

@@ -1,5 +1,6 @@
 -- Texts and keys that are UTF-8, and which tokens are whole characters.
-use Rattle.std.specs.Prelude.{◌≡◌, ◌↔◌, ℕ, ◌+◌, ◌<◌, ℤ, List, MatchOption, Some, slice_index, IsUtf8, IsCharBoundary}
+use Rattle.std.specs.Prelude.{◌≡◌, ◌↔◌, ℕ, ◌+◌, ◌<◌, ℤ, List, MatchOption, Some}
+use Rattle.std.specs.Prelude.{slice_index, IsUtf8, IsCharBoundary}
 use Rattle.cedarwood.specs.Tree.{Tree, number_at}
 use Rattle.cedar_words.specs.Tokens.{Token}
 
@@ -7,7 +8,7 @@ use Rattle.cedar_words.specs.Tokens.{Token}
 abbrev pub HasUtf8Keys : Tree → Type 0
 HasUtf8Keys tree = (key : List ℕ) (number : ℤ) → number_at tree key ≡ Some number → IsUtf8 key
 
--- so many bytes of a text from a place on are whole characters of it: they begin and end where characters do, or the text
+-- so many bytes of a text from a position on are whole characters of it: they begin and end where characters do, or the text
 abbrev pub AreWholeCharacters : List ℕ → ℕ → ℕ → Type 0
 AreWholeCharacters text place len = IsCharBoundary text place × IsCharBoundary text (place + len)
 

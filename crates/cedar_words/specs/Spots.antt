@@ -1,5 +1,6 @@
--- Keys that stand in a text.
-use Rattle.std.specs.Prelude.{◌≡◌, ℕ, ◌+◌, ◌-◌, ◌<◌, ◌≤◌, ℤ, List, [], ◌∷◌, ◌++◌, length, drop, take, map, Option, Some, None, option_map}
+-- Keys that are in a text.
+use Rattle.std.specs.Prelude.{◌≡◌, ℕ, ◌+◌, ◌-◌, ◌<◌, ◌≤◌, ℤ, List, [], ◌∷◌, ◌++◌, length, drop}
+use Rattle.std.specs.Prelude.{take, map, Option, Some, None, option_map}
 use Rattle.std.specs.List.{filter_map}
 use Rattle.cedarwood.specs.Tree.{Tree, number_at}
 use Rattle.cedarwood.specs.Queries.{front}
@@ -13,20 +14,20 @@ Spot = ℕ × ℕ × ℤ
 abbrev pub IsKeyIn : Tree → List ℕ → Spot → Type 0
 IsKeyIn tree text s = (0 < s.1) × (s.0 + s.1 ≤ length text) × (number_at tree (take s.1 (drop s.0 text)) ≡ Some s.2)
 
--- a key that was found at a place, by its number and one less than its bytes
+-- a key that was found at a position, by its number and one less than its bytes
 abbrev pub spot : ℕ → ℤ × ℕ → Spot
 spot place found = (place, found.1 + 1, found.0)
 
--- all keys in a text, of which these bytes are left from a place on: place after place, at each the shortest first
+-- all keys in a text, of which these bytes are left from a position on: position after position, at each the shortest first
 abbrev pub spots_from : Tree → ℕ → List ℕ → List Spot
 spots_from tree place [] = []
 spots_from tree place (b ∷ rest) = map (spot place) (front tree (b ∷ rest)) ++ spots_from tree (place + 1) rest
 
--- those that are left in a text where a walk at a place has these left
+-- those that are left in a text where a walk at a position has these left
 abbrev pub spots_left : Tree → List ℕ → ℕ → List (ℤ × ℕ) → List Spot
 spots_left tree text place fronts = map (spot place) fronts ++ spots_from tree (place + 1) (drop (place + 1) text)
 
--- the same, where the place and the walk are one value
+-- the same, where the position and the walk are one value
 abbrev pub spots_at : Tree → List ℕ → ℕ × List (ℤ × ℕ) → List Spot
 spots_at tree text at = spots_left tree text at.0 at.1
 
@@ -38,7 +39,7 @@ keyword_of t = option_map (λ v. (t.0, t.1, v)) t.2
 abbrev pub keywords_of : List Token → List Spot
 keywords_of tokens = filter_map keyword_of tokens
 
--- the keys of a text that don't overlap, where these bytes are left from a place on: of those that begin first the longest, and so on
+-- the keys of a text that don't overlap, where these bytes are left from a position on: of those that begin first the longest, and so on
 -- from its end
 abbrev pub keywords_from : Tree → ℕ → List ℕ → List Spot
 keywords_from tree place rest = keywords_of (tokens_behind tree 0 place rest)
@@ -47,8 +48,8 @@ keywords_from tree place rest = keywords_of (tokens_behind tree 0 place rest)
 abbrev pub keywords_in : Tree → List ℕ → List Spot
 keywords_in tree text = keywords_of (segments tree text)
 
--- from a place on: no key begins before the first keyword, which is the longest key that begins at its place; from its end on the same
--- holds of the others; and no key begins behind the last one
+-- from a position on: no key begins before the first keyword, which is the longest key that begins at its position; from its end on the
+-- same holds of the others; and no key begins behind the last one
 abbrev pub IsLeftmost : Tree → List ℕ → ℕ → List Spot → Type 0
 IsLeftmost tree text from [] = (place : ℕ) → from ≤ place → longest tree (drop place text) ≡ None
 IsLeftmost tree text from (s ∷ spots) =

@@ -1,5 +1,7 @@
 -- How a cut of least cost is found: what the last bytes of a text cost, none of them, one, and so on, each by what fewer cost.
-use Rattle.std.specs.Prelude.{◌≡◌, ℕ, zero, suc, ◌+◌, ◌-◌, ◌^◌, ◌<◌, ◌⊎◌, min, nat_le, if◌then◌else◌, ℤ, pos, unsigned_abs, List, [], ◌∷◌, length, drop, take, slice_index_or, Option, Some, None, MatchOption}
+use Rattle.std.specs.Prelude.{◌≡◌, ℕ, zero, suc, ◌+◌, ◌-◌, ◌^◌, ◌<◌, ◌⊎◌, min, nat_le}
+use Rattle.std.specs.Prelude.{if◌then◌else◌, ℤ, pos, unsigned_abs, List, [], ◌∷◌, length, drop}
+use Rattle.std.specs.Prelude.{take, slice_index_or, Option, Some, None, MatchOption}
 use Rattle.cedarwood.specs.Tree.{Tree}
 use Rattle.cedarwood.specs.Queries.{front}
 use Rattle.cedar_words.specs.Tokens.{Token}
@@ -40,7 +42,7 @@ AreWithin most [] = Unit {0}
 AreWithin most (found ∷ fronts) = (found.1 < most) × AreWithin most fronts
 
 -- the best step over so many of the last bytes of a text, where it is known what fewer cost, and what a byte without a number costs at each
--- place
+-- position
 abbrev pub step_at : Tree → (ℕ → ℕ) → List ℕ → List ℕ → ℕ → Step
 step_at tree unknown text costs left = best_of (unknown (length text - left)) (take left costs) (front tree (drop (length text - left) text))
 
@@ -53,12 +55,12 @@ pub record AreCostsOver (tree : Tree) (unknown : ℕ → ℕ) (text costs : List
 abbrev pub AreCosts : Tree → (ℕ → ℕ) → List ℕ → List ℕ → Type 0
 AreCosts tree unknown text costs = (length costs ≡ length text + 1) × AreCostsOver tree unknown text costs
 
--- what a byte tells of a step: 255 nothing, 0 that it goes over one byte without a number, and else how many bytes its key has, whose
+-- what a byte says of a step: 255 nothing, 0 that it goes over one byte without a number, and else how many bytes its key has, whose
 -- number isn't negative
 abbrev pub IsMark : Step → ℕ → Type 0
 IsMark step mark = (mark ≡ 255) ⊎ MatchOption step.value (mark ≡ 0) (λ v. (mark ≡ step.len) × (v ≡ pos (unsigned_abs v)) × (unsigned_abs v < 2 ^ 31))
 
--- what tells of the best step over so many of the last bytes
+-- what says which step over so many of the last bytes is the best
 abbrev pub mark_at : List ℕ → ℕ → ℕ
 mark_at marks left = slice_index_or marks left 0
 
@@ -70,7 +72,7 @@ AreMarksOver tree unknown text costs marks = (left : ℕ) → 0 < left → left 
 abbrev pub AreMarks : Tree → (ℕ → ℕ) → List ℕ → List ℕ → List ℕ → Type 0
 AreMarks tree unknown text costs marks = (length marks ≡ length text + 1) × AreMarksOver tree unknown text costs marks
 
--- the tokens that steps lead along from a place on, where so many bytes are left: some of them belong to the token before
+-- the tokens that steps lead along from a position on, where so many bytes are left: some of them belong to the token before
 abbrev pub cut_along : (ℕ → Step) → ℕ → ℕ → ℕ → List Token
 cut_along steps taken place zero = []
 cut_along steps (suc taken) place (suc left) = cut_along steps taken (place + 1) left

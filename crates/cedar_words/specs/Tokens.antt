@@ -1,5 +1,6 @@
--- A text that is cut into tokens: from each place the longest key that a tree holds there, or else one byte.
-use Rattle.std.specs.Prelude.{◌≡◌, ℕ, zero, suc, ◌+◌, ◌-◌, ◌<◌, ◌≤◌, ℤ, List, [], ◌∷◌, length, drop, take, sum, map, Option, Some, None, option_map}
+-- A text that is cut into tokens: from each position the longest key that a tree holds there, or else one byte.
+use Rattle.std.specs.Prelude.{◌≡◌, ℕ, zero, suc, ◌+◌, ◌-◌, ◌<◌, ◌≤◌, ℤ, List, [], ◌∷◌, length, drop}
+use Rattle.std.specs.Prelude.{take, sum, map, Option, Some, None, option_map}
 use Rattle.std.specs.List.{last_or}
 use Rattle.cedarwood.specs.Tree.{Tree, number_at}
 use Rattle.cedarwood.specs.Queries.{front}
@@ -20,7 +21,7 @@ len_of (Some found) = found.1 + 1
 abbrev pub found_number : Option (ℤ × ℕ) → Option ℤ
 found_number found = option_map (λ f. f.0) found
 
--- the tokens of a text, of which these bytes are left from a place on: so many of them belong to the token before
+-- the tokens of a text, of which these bytes are left from a position on: so many of them belong to the token before
 abbrev pub tokens_behind : Tree → ℕ → ℕ → List ℕ → List Token
 tokens_behind tree taken place [] = []
 tokens_behind tree (suc taken) place (b ∷ rest) = tokens_behind tree taken (place + 1) rest
@@ -28,7 +29,7 @@ tokens_behind tree zero place (b ∷ rest) =
     let found = longest tree (b ∷ rest) in
     (place, len_of found, found_number found) ∷ tokens_behind tree (len_of found - 1) (place + 1) rest
 
--- the tokens of these bytes from a place on are the first one, and then those from its end on
+-- the tokens of these bytes from a position on are the first one, and then those from its end on
 abbrev pub TokensGoOn : Tree → ℕ → List ℕ → Type 0
 TokensGoOn tree place text = 0 < length text → (found : Option (ℤ × ℕ)) → longest tree text ≡ found
     → tokens_behind tree 0 place text ≡ (place, len_of found, found_number found) ∷ tokens_behind tree 0 (place + len_of found) (drop (len_of found) text)
@@ -41,12 +42,12 @@ segments tree text = tokens_behind tree 0 0 text
 abbrev pub bytes_in : List Token → ℕ
 bytes_in tokens = sum (map (λ t. t.1) tokens)
 
--- from a place to an end each token begins where the one before it ended, and has one byte or more
+-- from a position to an end each token begins where the one before it ended, and has one byte or more
 abbrev pub AreAdjacent : List Token → ℕ → ℕ → Type 0
 AreAdjacent [] place end = place ≡ end
 AreAdjacent (t ∷ tokens) place end = (t.0 ≡ place) × (0 < t.1) × AreAdjacent tokens (place + t.1) end
 
--- a token of a text has the number that its bytes hold, nothing longer is held from its place on, and without a number it
+-- a token of a text has the number that its bytes hold, nothing longer is held from its position on, and without a number it
 -- is one byte
 abbrev pub IsLongest : Tree → List ℕ → Token → Type 0
 IsLongest tree text t =

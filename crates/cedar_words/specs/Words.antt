@@ -1,11 +1,15 @@
 -- The words that the public clauses cite, from one place: a caller's crate takes them from here, and so do this crate's own sources.
 pub use Rattle.cedar_words.specs.Characters.{AreWholeCharacters, HasUtf8Keys, PartsNoCharacter}
-pub use Rattle.cedar_words.specs.Cuts.{character_price, cost_by, HasOneCheapest, IsAhead, IsCheapest, IsCheapestBy, IsCut}
+pub use Rattle.cedar_words.specs.Cuts.{character_price, cost_by, HasOneCheapest, IsAhead}
+pub use Rattle.cedar_words.specs.Cuts.{IsCheapest, IsCheapestBy, IsCut}
 pub use Rattle.cedar_words.specs.Cuts.{IsAheadCapped, IsLeastCapped}
-pub use Rattle.cedar_words.specs.Spots.{IsKeyIn, IsLeftmost, keywords_from, keywords_in, keywords_of, Spot, spots_at, spots_from}
+pub use Rattle.cedar_words.specs.Spots.{IsKeyIn, IsLeftmost, keywords_from, keywords_in}
+pub use Rattle.cedar_words.specs.Spots.{keywords_of, Spot, spots_at, spots_from}
 pub use Rattle.cedar_words.specs.Spots.{spots_left}
-pub use Rattle.cedar_words.specs.Steps.{AreCosts, AreMarks, AreWithin, best_cut, best_of, better_of, IsFoundBy, IsMark, key_step, step_at, step_over}
-pub use Rattle.cedar_words.specs.Tokens.{AreAdjacent, bytes_in, found_number, IsLongest, len_of, longest, segments, Token, tokens_behind}
+pub use Rattle.cedar_words.specs.Steps.{AreCosts, AreMarks, AreWithin, best_cut, best_of, better_of}
+pub use Rattle.cedar_words.specs.Steps.{IsFoundBy, IsMark, key_step, step_at, step_over}
+pub use Rattle.cedar_words.specs.Tokens.{AreAdjacent, bytes_in, found_number, IsLongest, len_of}
+pub use Rattle.cedar_words.specs.Tokens.{longest, segments, Token, tokens_behind}
 pub use Rattle.cedar_words.specs.Tokens.{TokensGoOn}
 pub use Rattle.cedarwood.specs.Queries.{Entry, front}
 pub use Rattle.cedarwood.specs.State.{State}

@@ -1,7 +1,12 @@
 //! The cut of least cost: a key costs its value, and each byte without a value costs the same.
 
-ghost use Rattle.std.specs.Prelude.{◌+◌, ◌-◌, ◌<◌, ◌^◌, ◌∷◌, ◌≡◌, ◌≤◌, [], IfOk, length, List, MatchOption, ℕ, ℤ};
-ghost use Rattle.cedar_words.specs.Words.{AreCosts, AreMarks, AreWithin, best_cut, best_of, better_of, character_price, front, IsAheadCapped, IsCheapest, IsCheapestBy, IsCut, IsFoundBy, IsLeastCapped, IsMark, key_step, step_at, step_over, Tree};
+ghost use Rattle.std.specs.Prelude.{◌+◌, ◌-◌, ◌<◌, ◌^◌, ◌∷◌, ◌≡◌, ◌≤◌, [], IfOk, length};
+ghost use Rattle.std.specs.Prelude.{List, MatchOption, ℕ, ℤ};
+ghost use Rattle.cedar_words.specs.Words.{AreCosts, AreMarks, AreWithin, best_cut, best_of};
+ghost use Rattle.cedar_words.specs.Words.{better_of, character_price, front, IsAheadCapped};
+ghost use Rattle.cedar_words.specs.Words.{IsCheapest, IsCheapestBy, IsCut, IsFoundBy};
+ghost use Rattle.cedar_words.specs.Words.{IsLeastCapped, IsMark, key_step, step_at, step_over};
+ghost use Rattle.cedar_words.specs.Words.{Tree};
 
 use cedarwood::{Layout, PrefixIter, Trie, Walked};
 use std::alloc::{AllocError, Allocator};
@@ -14,12 +19,12 @@ struct Step {
     value: Option<i32>,
 }
 
-/// What a byte without a value costs, at each place of a text.
+/// What a byte without a value costs, at each position of a text.
 trait BytePrice {
-    /// What it costs at a place.
+    /// What it costs at a position.
     ghost price_at: { Self → List ℕ → ℕ → ℕ };
 
-    /// What it costs at a place.
+    /// What it costs at a position.
     fn price(&self, text: &[u8], place: usize) -> u32
         requires { place < length text.now }
         ensures { result ≡ price_at self.now text.now place };
@@ -192,7 +197,7 @@ fn costs_of<T: FirstStep, P: BytePrice, B: Allocator + Copy>(
     Ok(Known { costs, marks })
 }
 
-/// The first token of a cheapest cut of what is left of a text from a place on. A mark says how many bytes it has, and its value is what
+/// The first token of a cheapest cut of what is left of a text from a position on. A mark says how many bytes it has, and its value is what
 /// they cost more than what follows them. If the mark says nothing, the step is looked for once more.
 fn token_at<T: FirstStep, P: BytePrice>(
     trie: &T,
@@ -269,7 +274,7 @@ fn cut_by<T: FirstStep, P: BytePrice, B: Allocator + Copy>(
 /// costs 2^64 or more, it is some cut of it.
 ///
 /// It allocates nine bytes for each byte of the text and nine more, in two allocations, and frees them when it ends; the result grows as
-/// any vector does. Each place costs a prefix walk.
+/// any vector does. Each position costs a prefix walk.
 ///
 /// # Errors
 /// `AllocError` if an allocation is refused.

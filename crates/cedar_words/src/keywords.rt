@@ -1,7 +1,8 @@
 //! The keywords of a text, which don't overlap.
 
 ghost use Rattle.std.specs.Prelude.{◌≡◌, drop, List, ⊤};
-ghost use Rattle.cedar_words.specs.Words.{item_count, keywords_from, keywords_in, keywords_of, Spot, YieldsFirst};
+ghost use Rattle.cedar_words.specs.Words.{item_count, keywords_from, keywords_in};
+ghost use Rattle.cedar_words.specs.Words.{keywords_of, Spot, YieldsFirst};
 
 use crate::longest::LongestPrefix;
 use crate::segments::{Segments, segment, segment_from};
@@ -11,7 +12,7 @@ use std::iter::FusedIterator;
 use std::marker::Model;
 
 /// The keywords of a text in their order: for each where it begins, how many bytes it has, and its value. It allocates nothing, and a clone
-/// goes on from the same place.
+/// goes on from the same position.
 ///
 /// A contract sees the keywords that are left.
 #[derive(Drop)]
@@ -47,8 +48,8 @@ pub fn leftmost_longest<'a, L: Layout, const SLOTS: usize, A: Allocator + Copy>(
     }
 }
 
-/// Finds the keywords of a text from a place on, as `leftmost_longest` does. From the end of a keyword on they are those that come after
-/// it; from a place inside one others may be found. From a place after the text's end there are none.
+/// Finds the keywords of a text from a position on, as `leftmost_longest` does. From the end of a keyword on they are those that come after
+/// it; from a position inside one others may be found. From a position after the text's end there are none.
 ///
 /// ```
 /// cedar.build(&[("he", 1), ("her", 2), ("ero", 3)])?;
@@ -61,7 +62,7 @@ pub fn leftmost_longest_from<'a, L: Layout, const SLOTS: usize, A: Allocator + C
     text: &'a [u8],
     place: usize,
 ) -> Keywords<'a, Trie<L, SLOTS, A>>
-    //= The keywords from a place on are the tokens from there on that have a value.
+    //= The keywords from a position on are the tokens from there on that have a value.
     ensures { result ≡ keywords_from trie.now.state.tree place (drop place text.now) }
 {
     Keywords {
@@ -82,7 +83,7 @@ fn next_keyword<T: LongestPrefix>(tokens: &mut Segments<'_, T>) -> Option<(usize
 }
 
 impl<'a, T: LongestPrefix> Clone for Keywords<'a, T> {
-    //= Keywords that have ended stay ended, and a clone goes on from the same place. [with is_infallible; by FusedIterator]
+    //= Keywords that have ended stay ended, and a clone goes on from the same position. [with is_infallible; by FusedIterator]
     ghost is_clone = { λ it copy. copy ≡ it };
 
     ghost is_infallible = { λ _. ⊤ };

@@ -1,7 +1,14 @@
 //! Laws of the tokens of a text.
 
-ghost use Rattle.std.specs.Prelude.{◌+◌, ◌↔◌, ◌<◌, ◌^◌, ◌≡◌, ◌≤◌, [], All, Bool, Contains, drop, IsUtf8, length, List, ℕ, ℤ};
-ghost use Rattle.cedar_words.specs.Words.{all_stored, AreAdjacent, AreWholeCharacters, bytes_in, cost_by, cut, empty_tree, Entry, HasOneCheapest, HasUtf8Keys, IsAheadCapped, IsCheapestBy, IsCut, IsKeyIn, IsLeastCapped, IsLeftmost, IsLongest, IsSoundBelow, keywords_from, keywords_in, PartsNoCharacter, put, segments, Spot, spots_from, State, Token, tokens_behind, TokensGoOn, Tree};
+ghost use Rattle.std.specs.Prelude.{◌+◌, ◌↔◌, ◌<◌, ◌^◌, ◌≡◌, ◌≤◌, [], All, Bool, Contains};
+ghost use Rattle.std.specs.Prelude.{drop, IsUtf8, length, List, ℕ, ℤ};
+ghost use Rattle.cedar_words.specs.Words.{all_stored, AreAdjacent, AreWholeCharacters, bytes_in};
+ghost use Rattle.cedar_words.specs.Words.{cost_by, cut, empty_tree, Entry, HasOneCheapest};
+ghost use Rattle.cedar_words.specs.Words.{HasUtf8Keys, IsAheadCapped, IsCheapestBy, IsCut, IsKeyIn};
+ghost use Rattle.cedar_words.specs.Words.{IsLeastCapped, IsLeftmost, IsLongest, IsSoundBelow};
+ghost use Rattle.cedar_words.specs.Words.{keywords_from, keywords_in, PartsNoCharacter, put};
+ghost use Rattle.cedar_words.specs.Words.{segments, Spot, spots_from, State, Token, tokens_behind};
+ghost use Rattle.cedar_words.specs.Words.{TokensGoOn, Tree};
 
 /// The tokens of a text cover it in order: each begins where the one before it ended, has one byte or more, and together they have
 /// the bytes of the text.
@@ -19,16 +26,16 @@ pub fn tokens_lie_within()
     ensures { (tree : Tree) (text : List ℕ) → All (λ token. token.0 + token.1 ≤ length text) (segments tree text) }
 {}
 
-/// Each token is the longest key that begins at its place, with its value, or one byte if none does.
+/// Each token is the longest key that begins at its position, with its value, or one byte if none does.
 pub fn tokens_are_longest()
-    //= Each is the longest key at its place: its value is what its bytes hold, nothing longer there is held, and without a value it is one
-    //  byte.
+    //= Each is the longest key at its position: its value is what its bytes hold, nothing longer there is held, and without a value it is
+    //  one byte.
     ensures { (tree : Tree) (text : List ℕ) → All (IsLongest tree text) (segments tree text) }
 {}
 
-/// The tokens from a place on are the one there, and then those from its end on.
+/// The tokens from a position on are the one there, and then those from its end on.
 pub fn tokens_go_on()
-    //= The tokens from a place on are the one there, and then those from its end on. [with more]
+    //= The tokens from a position on are the one there, and then those from its end on. [with more]
     ensures ends { (tree : Tree) (place : ℕ) → tokens_behind tree 0 place [] ≡ [] }
     ensures more { (tree : Tree) (place : ℕ) (text : List ℕ) → TokensGoOn tree place text }
 {}
@@ -61,10 +68,10 @@ pub fn matches_are_keys()
     ensures { (tree : Tree) (text : List ℕ) (found : Spot) → Contains (spots_from tree 0 text) found ↔ IsKeyIn tree text found }
 {}
 
-/// No key begins before the first keyword of a text, between two or after the last, and each is the longest key at its place.
+/// No key begins before the first keyword of a text, between two or after the last, and each is the longest key at its position.
 pub fn keywords_are_leftmost()
     //= No key begins before the first keyword of a text, between two or after the last one, and each is the longest key that begins at its
-    //  place.
+    //  position.
     ensures { (tree : Tree) (text : List ℕ) → IsLeftmost tree text 0 (keywords_in tree text) }
 {}
 
@@ -72,7 +79,7 @@ pub fn keywords_are_leftmost()
 /// `&text[start..start + len]`, if the dictionary's keys are texts too.
 pub fn keys_part_no_character()
     //= In a text that is UTF-8, over keys that are, each key that occurs is whole characters: it begins and ends where characters do, or
-    //  with the text. So is each keyword, also from a place on. [with keywords, later; by HasUtf8Keys]
+    //  with the text. So is each keyword, also from a position on. [with keywords, later; by HasUtf8Keys]
     ensures keys { (tree : Tree) (text : List ℕ) (found : Spot) → IsUtf8 text → HasUtf8Keys tree → IsKeyIn tree text found → AreWholeCharacters text found.0 found.1 }
     ensures keywords { (tree : Tree) (text : List ℕ) → IsUtf8 text → HasUtf8Keys tree → All (λ found. AreWholeCharacters text found.0 found.1) (keywords_in tree text) }
     ensures later { (tree : Tree) (text : List ℕ) (place : ℕ) → IsUtf8 text → HasUtf8Keys tree → All (λ found. AreWholeCharacters text found.0 found.1) (keywords_from tree place (drop place text)) }

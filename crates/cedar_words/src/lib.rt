@@ -1,6 +1,6 @@
-//! Texts by the keys of a dictionary. `segment` cuts a text into tokens: at each place the longest key that begins there, with its value,
-//! or otherwise one byte without a value. `cheapest` cuts it so that the costs of its tokens have the least sum. `matches` finds all keys
-//! in it, `leftmost_longest` those that don't overlap.
+//! Texts by the keys of a dictionary. `segment` cuts a text into tokens: at each position the longest key that begins there, with its
+//! value, or otherwise one byte without a value. `cheapest` cuts it so that the costs of its tokens have the least sum. `matches` finds all
+//! keys in it, `leftmost_longest` those that don't overlap.
 //!
 //! ```
 //! let mut cedar = Cedar::new(rt.alloc())?;

@@ -1,7 +1,10 @@
 //! The tokens of a text, one after another.
 
-ghost use Rattle.std.specs.Prelude.{◌+◌, ◌<◌, ◌^◌, ◌≡◌, ◌≤◌, drop, IfSome, length, List, min, Some, ⊤};
-ghost use Rattle.cedar_words.specs.Words.{bytes_in, found_number, IsWithinCount, item_count, len_of, longest, segments, Token, tokens_behind, UpTo, YieldsFirst};
+ghost use Rattle.std.specs.Prelude.{◌+◌, ◌<◌, ◌^◌, ◌≡◌, ◌≤◌, drop, IfSome, length};
+ghost use Rattle.std.specs.Prelude.{List, min, Some, ⊤};
+ghost use Rattle.cedar_words.specs.Words.{bytes_in, found_number, IsWithinCount, item_count};
+ghost use Rattle.cedar_words.specs.Words.{len_of, longest, segments, Token, tokens_behind};
+ghost use Rattle.cedar_words.specs.Words.{UpTo, YieldsFirst};
 
 use crate::longest::LongestPrefix;
 use cedarwood::{Layout, Trie};
@@ -10,7 +13,7 @@ use std::iter::FusedIterator;
 use std::marker::Model;
 
 /// The tokens of a text in their order: for each where it begins, how many bytes it has, and its value if it has one. It allocates nothing,
-/// and a clone goes on from the same place.
+/// and a clone goes on from the same position.
 ///
 /// A contract sees the tokens that are left.
 #[derive(Drop)]
@@ -29,8 +32,8 @@ impl<'a, T: LongestPrefix> Model for Segments<'a, T> {
     ghost invariant = { λ it. it.place + length it.rest.now < 2 ^ 64 };
 }
 
-/// Cuts a text into tokens: at each place the longest key that begins there, with its value, or else one byte without a value. The tokens
-/// cover the text in order. They borrow the dictionary and the text, and allocate nothing.
+/// Cuts a text into tokens: at each position the longest key that begins there, with its value, or else one byte without a value. The
+/// tokens cover the text in order. They borrow the dictionary and the text, and allocate nothing.
 ///
 /// ```
 /// cedar.build(&[("a", 1), ("abc", 3)])?;
@@ -52,8 +55,8 @@ pub fn segment<'a, L: Layout, const SLOTS: usize, A: Allocator + Copy>(
     }
 }
 
-/// Cuts a text into tokens from a place on, as `segment` does. From the end of a token on they are those that come after it; from a place
-/// inside one others may be found. From a place after the text's end there are none.
+/// Cuts a text into tokens from a position on, as `segment` does. From the end of a token on they are those that come after it; from a
+/// position inside one others may be found. From a position after the text's end there are none.
 ///
 /// ```
 /// cedar.build(&[("a", 1), ("abc", 3)])?;
@@ -66,7 +69,7 @@ pub fn segment_from<'a, L: Layout, const SLOTS: usize, A: Allocator + Copy>(
     text: &'a [u8],
     place: usize,
 ) -> Segments<'a, Trie<L, SLOTS, A>>
-    //= The tokens from a place on are those of what is left there, each with its place in the whole text.
+    //= The tokens from a position on are those of what is left there, each with its position in the whole text.
     ensures { result ≡ tokens_behind trie.now.state.tree 0 place (drop place text.now) }
 {
     let start = place.min(text.len());
@@ -91,7 +94,7 @@ fn first_token<T: LongestPrefix>(trie: &T, text: &[u8]) -> (usize, Option<i32>)
 }
 
 impl<'a, T: LongestPrefix> Clone for Segments<'a, T> {
-    //= What has ended stays ended, and a clone goes on from the same place. [with is_infallible; by FusedIterator]
+    //= What has ended stays ended, and a clone goes on from the same position. [with is_infallible; by FusedIterator]
     ghost is_clone = { λ it copy. copy ≡ it };
 
     ghost is_infallible = { λ _. ⊤ };
@@ -124,6 +127,7 @@ impl<'a, T: LongestPrefix> Iterator for Segments<'a, T> {
     }
 
     fn size_hint(&self) -> (usize, Option<usize>)
+        //= How many tokens are left is within the size hint. [with upper]
         ensures lower { IsWithinCount result.0 (item_count (λ (rest : List Token). rest) self.now) }
         ensures upper { IfSome result.1 (UpTo (item_count (λ (rest : List Token). rest) self.now)) }
 

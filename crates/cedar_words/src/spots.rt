@@ -1,7 +1,8 @@
 //! All keys in a text.
 
 ghost use Rattle.std.specs.Prelude.{◌-◌, ◌≡◌, ◌≤◌, drop, length, List, ⊤};
-ghost use Rattle.cedar_words.specs.Words.{AreWithin, front, item_count, Spot, spots_at, spots_from, spots_left, Tree, YieldsFirst};
+ghost use Rattle.cedar_words.specs.Words.{AreWithin, front, item_count, Spot, spots_at, spots_from};
+ghost use Rattle.cedar_words.specs.Words.{spots_left, Tree, YieldsFirst};
 
 use crate::costs::NextFront;
 use cedarwood::{Layout, PrefixIter, Trie, Walked};
@@ -35,15 +36,15 @@ impl<L: Layout, const SLOTS: usize, A: Allocator + Copy> Fronts for Trie<L, SLOT
     }
 }
 
-/// All keys in a text, place after place, and at each the shortest first: for each where it begins, how many bytes it has, and its value.
-/// They may overlap. It allocates nothing, and a clone goes on from the same place.
+/// All keys in a text, position after position, and at each the shortest first: for each where it begins, how many bytes it has, and its
+/// value. They may overlap. It allocates nothing, and a clone goes on from the same position.
 ///
 /// A contract sees those that are left.
 #[derive(Drop)]
 pub struct AllMatches<'a, T: Fronts> {
     trie: &'a T,
     text: &'a [u8],
-    // The place, and what is left of the walk there.
+    // The position, and what is left of the walk there.
     place: usize,
     walk: PrefixIter<'a, T>,
 }
@@ -56,8 +57,8 @@ impl<'a, T: Fronts> Model for AllMatches<'a, T> {
     ghost invariant = { λ it. (it.place ≤ length it.text.now) × AreWithin (length it.text.now - it.place) it.walk.rest };
 }
 
-/// Finds all keys in a text: place after place, and at each the shortest first. It returns an iterator, which borrows the dictionary and
-/// the text and allocates nothing.
+/// Finds all keys in a text: position after position, and at each the shortest first. It returns an iterator, which borrows the dictionary
+/// and the text and allocates nothing.
 ///
 /// ```
 /// cedar.build(&[("he", 1), ("her", 2), ("ero", 3)])?;
@@ -71,15 +72,15 @@ pub fn matches<'a, L: Layout, const SLOTS: usize, A: Allocator + Copy>(
     trie: &'a Trie<L, SLOTS, A>,
     text: &'a [u8],
 ) -> AllMatches<'a, Trie<L, SLOTS, A>>
-    //= The matches of a text are the keys that begin at each of its places, place after place and at each the shortest first, an item a
-    //  call. [also AllMatches.next_gives]
+    //= The matches of a text are the keys that begin at each of its positions, position after position and at each the shortest first, an
+    //  item a call. [also AllMatches.next_gives]
     ensures { result ≡ spots_from trie.now.state.tree 0 text.now }
 {
     matches_from(trie, text, 0)
 }
 
-/// Finds the keys in a text from a place on, as `matches` does: those that begin there or after it. From a place after the end there are
-/// none.
+/// Finds the keys in a text from a position on, as `matches` does: those that begin there or after it. From a position after the end there
+/// are none.
 ///
 /// ```
 /// cedar.build(&[("he", 1), ("her", 2), ("ero", 3)])?;
@@ -92,7 +93,7 @@ pub fn matches_from<'a, L: Layout, const SLOTS: usize, A: Allocator + Copy>(
     text: &'a [u8],
     place: usize,
 ) -> AllMatches<'a, Trie<L, SLOTS, A>>
-    //= The matches from a place on are the keys that begin there or after it.
+    //= The matches from a position on are the keys that begin there or after it.
     ensures { result ≡ spots_from trie.now.state.tree place (drop place text.now) }
 {
     let start = place.min(text.len());
@@ -104,7 +105,7 @@ pub fn matches_from<'a, L: Layout, const SLOTS: usize, A: Allocator + Copy>(
     }
 }
 
-/// The next key at this place, or at the first place after it where one begins.
+/// The next key at this position, or at the first position after it where one begins.
 fn next_match<'a, T: Fronts>(
     trie: &'a T,
     text: &'a [u8],
@@ -128,7 +129,7 @@ fn next_match<'a, T: Fronts>(
 }
 
 impl<'a, T: Fronts> Clone for AllMatches<'a, T> {
-    //= Matches that have ended stay ended, and a clone goes on from the same place. [with is_infallible; by FusedIterator]
+    //= Matches that have ended stay ended, and a clone goes on from the same position. [with is_infallible; by FusedIterator]
     ghost is_clone = { λ it copy. copy ≡ it };
 
     ghost is_infallible = { λ _. ⊤ };

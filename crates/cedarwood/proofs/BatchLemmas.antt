@@ -1,12 +1,12 @@
 -- What a batch of updates or of erasures leaves, by the changes that it is made of.
-use Rattle.std.proofs.Common.{◌≡◌, ◌∙◌, ◌↔◌, ℕ, ◌+◌, ◌<◌, ◌≤◌, pos, inl, inr, Bool, true, false, IsTrue, List, [], ◌∷◌, ◌++◌, length, take, drop, get_or, set, Option, Some, None, IsSome, is_some, Result, Ok, Err, refl, sym, ap, subst, arith}
+use Rattle.std.proofs.Common.{◌≡◌, ◌∙◌, ◌↔◌, ℕ, suc, ◌+◌, ◌<◌, ◌≤◌, pos, inl, inr, Bool, true, false, IsTrue, List, [], ◌∷◌, ◌++◌, length, take, drop, get_or, set, Option, Some, None, IsSome, is_some, Result, Ok, Err, refl, sym, ap, subst, arith}
 use Rattle.std.proofs.lemmas.Bool.{cases_lt}
 use Rattle.std.proofs.lemmas.List.{drop_all, drop-drop, drop-set-lt, get_or-map, length-map, take-append-drop, take_all, take_more, take_more_set}
 use Rattle.std.specs.Borrow.{Bor}
 use Rattle.cedar_walk.specs.Batch.{keys_of}
 use Rattle.cedar_walk.proofs.WalkLemmas.Lanes.{key_count}
 use Rattle.cedar_tree.specs.Queries.{Entry}
-use Rattle.cedar_tree.specs.State.{State}
+use Rattle.cedar_tree.specs.State.{State, after_erase}
 use Rattle.cedar_tree.specs.Tree.{number_at}
 use Rattle.cedar_bulk.specs.Sorted.{Pair, entries_of}
 use Rattle.cedar_model.specs.Table.Layouts.{LayoutKind}
@@ -69,11 +69,16 @@ pub state_of : (s t : Dictionary) (ks : List (List ℕ)) (answers : List Bool) �
 state_of s t [] answers h = ap (λ (d : Dictionary). d.state) h.1
 state_of s t (k ∷ ks) answers h = state_of h.0 t ks h.2 h.5 ∙ ap (λ (x : State). keys_erased x ks) h.4.state
 
-held_as : {X : Type 0} (a : Bool) (o : Option X) → IsTrue a ↔ IsSome o → a ≡ is_some o
+pub held_as : {X : Type 0} (a : Bool) (o : Option X) → IsTrue a ↔ IsSome o → a ≡ is_some o
 held_as true (Some x) h = refl
 held_as true None h = absurd (let apart : false ≡ true = h.0 refl in cc)
 held_as false (Some x) h = absurd (let apart : false ≡ true = h.1 refl in cc)
 held_as false None h = refl
+
+-- there is an answer for each key
+pub length-held_in_turn : (s : State) (keys : List (List ℕ)) → length (held_in_turn s keys) ≡ length keys
+length-held_in_turn s [] = refl
+length-held_in_turn s (key ∷ keys) = ap suc (length-held_in_turn (after_erase s key) keys)
 
 pub answers_of : (s t : Dictionary) (ks : List (List ℕ)) (answers : List Bool) → IsErasures s t ks answers → answers ≡ held_in_turn s.state ks
 answers_of s t [] answers h = h.0
@@ -82,16 +87,17 @@ answers_of s t (k ∷ ks) answers h =
     ∙ ap (λ (x : Bool). x ∷ h.2) (held_as h.1 (number_at s.state.tree k) h.4.answer)
     ∙ ap (λ (x : List Bool). is_some (number_at s.state.tree k) ∷ x) (answers_of h.0 t ks h.2 h.5 ∙ ap (λ (x : State). held_in_turn x ks) h.4.state)
 
-pub sizes_of : (s t : Dictionary) (ks : List (List ℕ)) (answers : List Bool) → IsErasures s t ks answers → (t.size ≡ s.size) × (t.capacity ≡ s.capacity) × (t.max_trial ≡ s.max_trial)
-sizes_of s t [] answers h = (ap (λ (d : Dictionary). d.size) h.1, ap (λ (d : Dictionary). d.capacity) h.1, ap (λ (d : Dictionary). d.max_trial) h.1)
+pub sizes_of : (s t : Dictionary) (ks : List (List ℕ)) (answers : List Bool) → IsErasures s t ks answers → (t.size ≡ s.size) × (t.capacity ≡ s.capacity) × (t.max_trial ≡ s.max_trial) × (t.search_limit ≡ s.search_limit)
+sizes_of s t [] answers h =
+    (ap (λ (d : Dictionary). d.size) h.1, ap (λ (d : Dictionary). d.capacity) h.1, ap (λ (d : Dictionary). d.max_trial) h.1, ap (λ (d : Dictionary). d.search_limit) h.1)
 sizes_of s t (k ∷ ks) answers h =
     let later = sizes_of h.0 t ks h.2 h.5 in
     let first = h.4 in
-    (later.0 ∙ first.size.0, later.1 ∙ first.size.1, later.2 ∙ first.max_trial)
+    (later.0 ∙ first.size.0, later.1 ∙ first.size.1, later.2 ∙ first.max_trial, later.3 ∙ first.search_limit)
 
 -- ---- erasures, a key at a time
 
--- the key at an index is erased, and answered
+-- the key at an index is erased, and its result is known
 pub erasure_more : (s t u : Dictionary) (keys : List (Bor (List ℕ))) (answers : List Bool) (i : ℕ) (d : Bor (List ℕ)) (held : Bool) → i < length keys → i < length answers
     → IsErasures s t (take i (keys_of keys)) (take i answers) → IsErasure t u (get_or keys i d).now held → IsErasures s u (take (i + 1) (keys_of keys)) (take (i + 1) (set answers i held))
 erasure_more s t u keys answers i d held h room so_far last =

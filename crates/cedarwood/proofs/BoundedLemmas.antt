@@ -19,7 +19,7 @@ use Rattle.cedar_walk.specs.Keys.{KeyOutgrows}
 use Rattle.cedar_walk.specs.Ranges.{behind_path}
 use Rattle.cedar_walk.specs.Visits.{left_at, path_to}
 use Rattle.cedar_walk.proofs.WalkLemmas.NextNode.{path_length}
-use Rattle.cedarwood.specs.RangeWalks.{bounded, follows_end, IsEnd, IsRangePlace, precedes_end, ranged}
+use Rattle.cedarwood.specs.RangeWalks.{entries_left, entries_left_before, follows_end, IsEnd, IsRangePlace, precedes_end}
 use Rattle.cedarwood.proofs.BetweenLemmas.{after_both, between_none, both_fail, lower, none_passes, opposite, stricter}
 use Rattle.cedarwood.proofs.RangeLemmas.{range_place, ranged_is}
 use Rattle.cedar_walk.proofs.WalkLemmas.Since.{behind_none}
@@ -62,16 +62,16 @@ module _ (slots : ℕ) (T : Fields) (k : IsWellFormed slots T) (start : List ℕ
       follow_one v w (one_path (cells_in T) k.stands.root (follow_on v []) (follow_on w []) pn.0.0 pe.0.0 (pn.0.1 ∙ s ∙ sym pe.0.1))
 
   -- the node behind the range is next: nothing is left
-  pub ended : (to : Option (List ℕ)) → IsEnd T start to (Some n) (Some e) → n.slot ≡ e.slot → bounded T start to (Some n) ≡ []
+  pub ended : (to : Option (List ℕ)) → IsEnd T start to (Some n) (Some e) → n.slot ≡ e.slot → entries_left_before T start to (Some n) ≡ []
   ended to end s =
       let p = path_to T n.depth n.slot in
       let q = path_to T e.depth e.slot in
       let deep : n.depth ≡ e.depth =
       omega (arith, ap length (same_path s), length-append start p, length-append start q, path_length T n.depth n.slot, path_length T e.depth e.slot) in
-      let long : length (ranged T start (Some n)) ≡ length (ranged T start (Some e)) =
+      let long : length (entries_left T start (Some n)) ≡ length (entries_left T start (Some e)) =
       ap (λ d. suc (length (map (behind_path start) (visited_entries (left_at T start d n.slot))))) deep
       ∙ ap (λ x. suc (length (map (behind_path start) (visited_entries (left_at T start e.depth x))))) s in
-      none_passes (λ (x : Entry). follows_end to x.0) (λ x. precedes_end to x.0) (λ x. not_before to x.0) (ranged T start (Some n))
+      none_passes (λ (x : Entry). follows_end to x.0) (λ x. precedes_end to x.0) (λ x. not_before to x.0) (entries_left T start (Some n))
       (omega (arith, long, ap length end))
 
   -- where it isn't next, the next entry is no first one of those behind the range
@@ -81,17 +81,17 @@ module _ (slots : ℕ) (T : Fields) (k : IsWellFormed slots T) (start : List ℕ
 module _ (slots : ℕ) (T : Fields) (k : IsWellFormed slots T) (start : List ℕ) (n : Numbered) (pn : IsRangePlace T start (Some n)) (to : Option (List ℕ)) where
   -- the next entry is before the bound, and those behind it end where they ended
   pub goes_on : (end : Option Numbered) → IsRangePlace T start end → IsEnd T start to (Some n) end → ((e : Numbered) → end ≡ Some e → n.slot ≡ e.slot → ⊥)
-      → (precedes_end to (path_of T start n) ≡ true) × (filter (λ x. follows_end to x.0) (left_of T start n) ≡ ranged T start end)
+      → (precedes_end to (path_of T start n) ≡ true) × (filter (λ x. follows_end to x.0) (left_of T start n) ≡ entries_left T start end)
   goes_on end pe ends other =
       (elim (follows_end to (path_of T start n)) as (λ b. follows_end to (path_of T start n) ≡ b
-      → cond b ((path_of T start n, n.number) ∷ filter (λ x. follows_end to x.0) (left_of T start n)) (filter (λ x. follows_end to x.0) (left_of T start n)) ≡ ranged T start end
-      → (precedes_end to (path_of T start n) ≡ true) × (filter (λ x. follows_end to x.0) (left_of T start n) ≡ ranged T start end)) [
+      → cond b ((path_of T start n, n.number) ∷ filter (λ x. follows_end to x.0) (left_of T start n)) (filter (λ x. follows_end to x.0) (left_of T start n)) ≡ entries_left T start end
+      → (precedes_end to (path_of T start n) ≡ true) × (filter (λ x. follows_end to x.0) (left_of T start n) ≡ entries_left T start end)) [
         | true ↦ λ is same. absurd (at_end end pe other same)
         | false ↦ λ is same. (not_behind to (path_of T start n) is, same)
       ]) refl ends
     where
       at_end : (end : Option Numbered) → IsRangePlace T start end → ((e : Numbered) → end ≡ Some e → n.slot ≡ e.slot → ⊥)
-          → (path_of T start n, n.number) ∷ filter (λ x. follows_end to x.0) (left_of T start n) ≡ ranged T start end → ⊥
+          → (path_of T start n, n.number) ∷ filter (λ x. follows_end to x.0) (left_of T start n) ≡ entries_left T start end → ⊥
       at_end None pe other same = cc
       at_end (Some e) pe other same = not_first slots T k start n e pn pe n.number e.number _ _ (other e refl) same
 
@@ -109,13 +109,13 @@ between_turned t from to turned =
 module _ (T : Fields) (from to : List ℕ) (next end : Option Numbered)
     (begins : MatchOption next (entries_since (tree_of T) from ≡ []) (ComesToNumber T [] (entries_since (tree_of T) from)))
     (ends : MatchOption end (entries_since (tree_of T) to ≡ []) (ComesToNumber T [] (entries_since (tree_of T) to))) where
-  since_from : ranged T [] next ≡ entries_since (tree_of T) from
+  since_from : entries_left T [] next ≡ entries_since (tree_of T) from
   since_from = ranged_is T [] (entries_since (tree_of T) from) next begins ∙ sym (behind_none (entries_since (tree_of T) from))
 
-  since_end : ranged T [] end ≡ entries_since (tree_of T) to
+  since_end : entries_left T [] end ≡ entries_since (tree_of T) to
   since_end = ranged_is T [] (entries_since (tree_of T) to) end ends ∙ sym (behind_none (entries_since (tree_of T) to))
 
-  pub bounded_is : bounded T [] (Some to) next ≡ entries_between (tree_of T) from to
+  pub bounded_is : entries_left_before T [] (Some to) next ≡ entries_between (tree_of T) from to
   bounded_is = ap (filter (λ (e : Entry). is_lt (slice_cmp nat_cmp e.0 to))) since_from
 
   pub bounded_places : IsRangePlace T [] next × IsRangePlace T [] end
@@ -128,26 +128,26 @@ module _ (T : Fields) (from to : List ℕ) (next end : Option Numbered)
       ∙ sym since_end
 
 -- a walk without a bound gives all
-pub unbounded : (T : Fields) (start : List ℕ) (next : Option Numbered) → bounded T start None next ≡ ranged T start next
-unbounded T start next = filter-every (ranged T start next)
+pub unbounded : (T : Fields) (start : List ℕ) (next : Option Numbered) → entries_left_before T start None next ≡ entries_left T start next
+unbounded T start next = filter-every (entries_left T start next)
 
 pub no_end : (T : Fields) (start : List ℕ) (next : Option Numbered) → IsEnd T start None next None
-no_end T start next = filter-none (λ (e : Entry). false) (ranged T start next) (λ e. refl)
+no_end T start next = filter-none (λ (e : Entry). false) (entries_left T start next) (λ e. refl)
 
 -- and goes on
 pub step_of : (T : Fields) (start : List ℕ) (to : Option (List ℕ)) (n : Numbered) (found : Option Numbered) → precedes_end to (path_of T start n) ≡ true
     → MatchOption found (visited_entries (left_at T start n.depth n.slot) ≡ []) (ComesToNumber T start (visited_entries (left_at T start n.depth n.slot)))
-    → bounded T start to (Some n) ≡ (path_of T start n, n.number) ∷ bounded T start to found
+    → entries_left_before T start to (Some n) ≡ (path_of T start n, n.number) ∷ entries_left_before T start to found
 step_of T start to n found head m =
     ap (λ b. cond b ((path_of T start n, n.number) ∷ filter (λ (e : Entry). precedes_end to e.0) (left_of T start n)) (filter (λ (e : Entry). precedes_end to e.0) (left_of T start n))) head
     ∙ ap (λ (es : List Entry). (path_of T start n, n.number) ∷ filter (λ (e : Entry). precedes_end to e.0) es) (sym (ranged_is T start (visited_entries (left_at T start n.depth n.slot)) found m))
 
 -- the next entry is one
-pub some_left : (T : Fields) (start : List ℕ) (to : Option (List ℕ)) (n : Numbered) → precedes_end to (path_of T start n) ≡ true → 0 < length (bounded T start to (Some n))
+pub some_left : (T : Fields) (start : List ℕ) (to : Option (List ℕ)) (n : Numbered) → precedes_end to (path_of T start n) ≡ true → 0 < length (entries_left_before T start to (Some n))
 some_left T start to n head =
     subst (λ b. 0 < length (cond b ((path_of T start n, n.number) ∷ filter (λ (e : Entry). precedes_end to e.0) (left_of T start n)) (filter (λ (e : Entry). precedes_end to e.0) (left_of T start n)))) (sym head) (omega arith)
 
 -- and its key is the next one to be written
-pub next_outgrows : (T : Fields) (start : List ℕ) (to : Option (List ℕ)) (n : Numbered) (room : ℕ) → precedes_end to (path_of T start n) ≡ true → room < length (path_of T start n) → KeyOutgrows room (bounded T start to (Some n))
+pub next_outgrows : (T : Fields) (start : List ℕ) (to : Option (List ℕ)) (n : Numbered) (room : ℕ) → precedes_end to (path_of T start n) ≡ true → room < length (path_of T start n) → KeyOutgrows room (entries_left_before T start to (Some n))
 next_outgrows T start to n room head long =
     subst (λ b. KeyOutgrows room (cond b ((path_of T start n, n.number) ∷ filter (λ (e : Entry). precedes_end to e.0) (left_of T start n)) (filter (λ (e : Entry). precedes_end to e.0) (left_of T start n)))) (sym head) long

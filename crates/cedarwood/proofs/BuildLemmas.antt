@@ -88,9 +88,16 @@ kept layout slots s (e ∷ es) r a h = elim h [
   | inr y ↦ y.2.max_trial
 ]
 
+pub limit_kept : (layout : LayoutKind) (slots : ℕ) (s : Dictionary) (es : List Entry) (r : Result (Unit {0}) CedarError) (a : Dictionary) → IsBuild layout slots s es r a → a.search_limit ≡ s.search_limit
+limit_kept layout slots s [] r a h = ap (λ (d : Dictionary). d.search_limit) h.1
+limit_kept layout slots s (e ∷ es) r a h = elim h [
+  | inl m ↦ limit_kept layout slots m.0 es r a m.2 ∙ m.1.search_limit
+  | inr y ↦ y.2.search_limit
+]
+
 -- ---- in the words of a build's clauses
 
-none_is_some : {X : Type 0} (o : Option X) → o ≡ None → IsSome o → ⊥
+pub none_is_some : {X : Type 0} (o : Option X) → o ≡ None → IsSome o → ⊥
 none_is_some {X} o none some = let apart : false ≡ true = subst (λ (x : Option X). IsSome x) none some in cc
 
 -- pairs that passed the test have no fault
@@ -122,3 +129,12 @@ trial_by_fault (Some e) layout slots s es r a unchanged h = ap (λ (d : Dictiona
 pub trial_is_kept : (layout : LayoutKind) (slots : ℕ) (s : Dictionary) (es : List Entry) (r : Result (Unit {0}) CedarError) (a : Dictionary) → (IsSome (first_fault es) → a ≡ s)
     → (first_fault es ≡ None → IsBuild layout slots s es r a) → a.max_trial ≡ s.max_trial
 trial_is_kept layout slots s es r a unchanged h = trial_by_fault (first_fault es) layout slots s es r a unchanged h
+
+limit_by_fault : (f : Option CedarError) (layout : LayoutKind) (slots : ℕ) (s : Dictionary) (es : List Entry) (r : Result (Unit {0}) CedarError) (a : Dictionary) → (IsSome f → a ≡ s)
+    → (f ≡ None → IsBuild layout slots s es r a) → a.search_limit ≡ s.search_limit
+limit_by_fault None layout slots s es r a unchanged h = limit_kept layout slots s es r a (h refl)
+limit_by_fault (Some e) layout slots s es r a unchanged h = ap (λ (d : Dictionary). d.search_limit) (unchanged refl)
+
+pub limit_is_kept : (layout : LayoutKind) (slots : ℕ) (s : Dictionary) (es : List Entry) (r : Result (Unit {0}) CedarError) (a : Dictionary) → (IsSome (first_fault es) → a ≡ s)
+    → (first_fault es ≡ None → IsBuild layout slots s es r a) → a.search_limit ≡ s.search_limit
+limit_is_kept layout slots s es r a unchanged h = limit_by_fault (first_fault es) layout slots s es r a unchanged h

@@ -12,7 +12,7 @@ use Rattle.cedar_model.specs.Table.Layouts.{LayoutKind}
 use Rattle.cedarwood.specs.Dictionary.{capacity_after, Dictionary, first_bytes, IsMarked, with_some}
 use Rattle.cedarwood.specs.Shrinking.{IsCompact, IsRebuilt, most_capacity}
 use Rattle.cedarwood.specs.Updates.{PacksUpdate}
-use Rattle.cedarwood.proofs.GrowthLemmas.{capacity_after-sum}
+use Rattle.cedarwood.proofs.GrowthLemmas.{capacity_after-sum, no_less}
 
 -- ---- how many first bytes a put adds
 
@@ -79,10 +79,6 @@ marks_few d is =
     omega (arith, same, some_fewer (λ path. is_some (number_at d.marked path)) d.state.tree.children, length-append (own_entry d.state.tree.number) (walk_forest d.state.tree.children))
 
 -- ---- how many slots there are
-
-no_less : (b : Bool) (c : ℕ) → c ≤ cond b (2 * c) c
-no_less true c = omega arith
-no_less false c = omega arith
 
 capacity_stays : (n s c : ℕ) → c ≤ capacity_after n s c
 unfolding capacity_after

@@ -14,9 +14,10 @@ use Rattle.cedar_walk.specs.declared.visits.Visited.{Visited}
 use Rattle.cedar_model.specs.Table.TableFields.{Fields}
 use Rattle.cedar_walk.specs.Visits.{ComesTo, ComesToNumber, IsBelow, left_at, number_below, path_to}
 use Rattle.cedar_model.specs.Meaning.WellFormed.{cells_in, IsWellFormed, tree_of}
-use Rattle.cedar_walk.proofs.WalkLemmas.NextNode.{at_root, path_length}
+use Rattle.cedar_walk.proofs.WalkLemmas.NextNode.{path_length}
 use Rattle.cedarwood.specs.WalkPlaces.{ComesToEntry, entries_from, IsEntriesPlace}
 use Rattle.cedarwood.proofs.DictionaryLemmas.{no_number}
+use Rattle.cedar_model.proofs.UpdateLemmas.TrimUpwards.{root_path}
 
 -- ---- the beginning
 
@@ -40,7 +41,7 @@ entries_begin slots T key n k none_yet count =
 -- at the root all entries are left
 pub all_left : (slots : ℕ) (T : Fields) (key : List ℕ) → IsWellFormed slots T → IsEntriesPlace T key 0 → visited_entries (left_at T [] (length key) 0) ≡ walk (tree_of T)
 all_left slots T key k at =
-    let none_yet : key ≡ [] = sym at.path ∙ at_root (cells_in T) k.stands.root (path_to T (length key) 0) at.below in
+    let none_yet : key ≡ [] = sym at.path ∙ root_path (cells_in T) (path_to T (length key) 0) 0 k.stands.root at.below refl in
     ap (λ w. visited_entries (left_at T [] (length w) 0)) none_yet
     ∙ sym (walk_visits (tree_of T) ∙ ap (λ (o : Option ℤ). visited_entries (([], o) ∷ visits_left (tree_of T) [])) (no_number slots T k))
 

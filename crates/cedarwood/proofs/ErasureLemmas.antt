@@ -5,7 +5,7 @@ use Rattle.std.specs.List.{Contains, filter, starts_with}
 use Rattle.std.proofs.lemmas.Bool.{false≢true}
 use Rattle.cedar_tree.specs.Tree.{cut, empty_tree, is_bare, IsSoundBelow, number_at, Tree}
 use Rattle.cedar_tree.specs.Queries.{Entry, entry_at, is_path, node_at, walk}
-use Rattle.cedar_tree.specs.State.{erased, State}
+use Rattle.cedar_tree.specs.State.{after_erase, State}
 use Rattle.cedar_tree.specs.Walks.{visited_entries}
 use Rattle.cedar_tree.proofs.EntryLemmas.Built.{is_path_itself, same_path}
 use Rattle.cedar_tree.proofs.EntryLemmas.Changes.{walk-cut}
@@ -201,7 +201,7 @@ module _ (slots : ℕ) (T U V : Fields) (q k : List ℕ) (v : ℤ) (rest : List 
   pub erases_on : IsWellFormed slots V → MarksCut (marks U) (marks V) k → size_of V ≡ size_of U → capacity_of V ≡ capacity_of U → SameModes U V → Erases slots T V q
   erases_on well cut_mark size capacity modes =
       let sound : IsSoundBelow (tree_of U).children = so_far.formed.sound in
-      let same : state_of V ≡ erased (state_of U) k = λ i. record { tree = tree i; ordered = modes.ordered i } in
+      let same : state_of V ≡ after_erase (state_of U) k = λ i. record { tree = tree i; ordered = modes.ordered i } in
       record {
         formed = well;
         state = (λ i. all_erased (same i) (left i)) ∙ sym (ap (all_erased (state_of U)) first) ∙ so_far.state;
@@ -241,8 +241,8 @@ module _ (slots : ℕ) (T U : Fields) (q : List ℕ) (well : IsWellFormed slots 
           absurd (false≢true (ap is_some (sym (none_held (tree_of U) q w done.formed.sound gone under)) ∙ marked_held slots U done.formed w h))
       by_test false outside h = (outside, (done.marked w outside).0 h)
 
-  pub erases_all : (n : ℕ) → n ≡ T.entries - U.entries → IsErasedUnder (dictionary_of T) (dictionary_of U) q n
-  erases_all n is =
+  pub erases_all : (limit n : ℕ) → n ≡ T.entries - U.entries → IsErasedUnder (dictionary_of limit T) (dictionary_of limit U) q n
+  erases_all limit n is =
       let count = erased_count in
       record {
         count = omega (arith, is, count);
@@ -255,11 +255,13 @@ module _ (slots : ℕ) (T U : Fields) (q : List ℕ) (well : IsWellFormed slots 
         marked = is_marked slots U done.formed;
         size = (done.size, done.capacity);
         max_trial = done.modes.max_trial;
+        search_limit = refl;
       }
 
 -- under the empty path are all entries
-pub cleared : (slots : ℕ) (T U : Fields) (q : List ℕ) (n : ℕ) → q ≡ [] → IsWellFormed slots U → IsErasedUnder (dictionary_of T) (dictionary_of U) q n → IsCleared (dictionary_of T) (dictionary_of U)
-cleared slots T U q n whole well e =
+pub cleared : (slots limit : ℕ) (T U : Fields) (q : List ℕ) (n : ℕ) → q ≡ [] → IsWellFormed slots U → IsErasedUnder (dictionary_of limit T) (dictionary_of limit U) q n
+    → IsCleared (dictionary_of limit T) (dictionary_of limit U)
+cleared slots limit T U q n whole well e =
     let gone : walk (tree_of U) ≡ [] = sym (filter-every (walk (tree_of U))) ∙ subst (λ p. entries_with (tree_of U) p ≡ []) whole e.gone in
     let tree : tree_of U ≡ empty_tree = no_entries (tree_of U) well.sound gone in
     record {
@@ -268,13 +270,14 @@ cleared slots T U q n whole well e =
       ordered = e.ordered;
       size = e.size;
       max_trial = e.max_trial;
+      search_limit = e.search_limit;
     }
 
 -- ---- a key that was found, and is erased without being looked up again
 
 -- to erase a key that isn't held changes nothing
-pub unheld : (slots : ℕ) (T : Fields) (key : List ℕ) → IsWellFormed slots T → number_at (tree_of T) key ≡ None → IsErasure (dictionary_of T) (dictionary_of T) key false
-unheld slots T key well none =
+pub unheld : (slots limit : ℕ) (T : Fields) (key : List ℕ) → IsWellFormed slots T → number_at (tree_of T) key ≡ None → IsErasure (dictionary_of limit T) (dictionary_of limit T) key false
+unheld slots limit T key well none =
     let same = unheld_same slots T key well none in
     record {
       answer = (λ h. absurd (false≢true h), λ h. absurd (false≢true (sym (ap is_some none) ∙ h)));
@@ -283,20 +286,22 @@ unheld slots T key well none =
       marked = is_marked slots T well;
       size = (refl, refl);
       max_trial = refl;
+      search_limit = refl;
     }
 
 -- the number of a key that was found is held
-pub found_is_held : (T : Fields) (key : List ℕ) (found : Found) → IsFound (dictionary_of T) key found → is_some (number_at (tree_of T) key) ≡ true
-found_is_held T key found is = ap is_some is.value
+pub found_is_held : (limit : ℕ) (T : Fields) (key : List ℕ) (found : Found) → IsFound (dictionary_of limit T) key found → is_some (number_at (tree_of T) key) ≡ true
+found_is_held limit T key found is = ap is_some is.value
 
 -- once it is cut away, the key is erased
-pub erased_found : (slots : ℕ) (T U : Fields) (key : List ℕ) (found : Found) → IsFound (dictionary_of T) key found → IsWellFormed slots U → tree_of U ≡ cut (tree_of T) key
-    → MarksCut (marks T) (marks U) key → size_of U ≡ size_of T → capacity_of U ≡ capacity_of T → SameModes T U → IsErasure (dictionary_of T) (dictionary_of U) key true
-erased_found slots T U key found is well tree cut_mark size capacity modes = record {
-  answer = (λ _. found_is_held T key found is, λ _. refl);
+pub erased_found : (slots limit : ℕ) (T U : Fields) (key : List ℕ) (found : Found) → IsFound (dictionary_of 0 T) key found → IsWellFormed slots U → tree_of U ≡ cut (tree_of T) key
+    → MarksCut (marks T) (marks U) key → size_of U ≡ size_of T → capacity_of U ≡ capacity_of T → SameModes T U → IsErasure (dictionary_of limit T) (dictionary_of limit U) key true
+erased_found slots limit T U key found is well tree cut_mark size capacity modes = record {
+  answer = (λ _. found_is_held 0 T key found is, λ _. refl);
   state = λ i. record { tree = tree i; ordered = modes.ordered i };
   marks = cut_mark;
   marked = is_marked slots U well;
   size = (size, capacity);
   max_trial = modes.max_trial;
+  search_limit = refl;
 }

@@ -29,7 +29,7 @@ capacity_by_blocks (suc n) a c =
     ∙ ap (capacity_after n (256 * (a + 1))) room
     ∙ capacity_by_blocks n (a + 1) (cond (a == c) (2 * c) c)
 
-no_less : (b : Bool) (c : ℕ) → c ≤ cond b (2 * c) c
+pub no_less : (b : Bool) (c : ℕ) → c ≤ cond b (2 * c) c
 no_less true c = omega arith
 no_less false c = omega arith
 
@@ -41,8 +41,8 @@ blocks_stay (suc n) a c =
     let later : cond (a == c) (2 * c) c ≤ blocks_after n (a + 1) (cond (a == c) (2 * c) c) = blocks_stay n (a + 1) (cond (a == c) (2 * c) c) in
     omega arith
 
-pub grows : (n : ℕ) (T T' : Fields) → MakesBlocks n T T' → Grows n (dictionary_of T) (dictionary_of T')
-grows n T T' made = record {
+pub grows : (n limit : ℕ) (T T' : Fields) → MakesBlocks n T T' → Grows n (dictionary_of limit T) (dictionary_of limit T')
+grows n limit T T' made = record {
   size = omega (arith, made.active);
   capacity = ap (λ b. 256 * b) made.capacity ∙ sym (capacity_by_blocks n T.places.blocks.active (length T.places.blocks.records));
 }

@@ -1,3 +1,11 @@
+pub use Rattle.cedar_tree.proofs.WalkLemmas
+pub use Rattle.cedar_tree.proofs.OrderLemmas
+pub use Rattle.cedar_tree.proofs.MemberLemmas
+pub use Rattle.cedar_tree.proofs.GeneralLemmas
+pub use Rattle.cedar_tree.proofs.FrontFromLemmas
+pub use Rattle.cedar_tree.proofs.EntryLemmas
+pub use Rattle.cedar_model.proofs.MeaningLemmas.HeldCount
+pub use Rattle.cedar_format.proofs.OneTable
 pub use Rattle.cedar_tree.proofs.FrontLemmas
 pub use Rattle.cedar_tree.proofs.TreeLemmas
 pub mod DictionaryLemmas

@@ -58,7 +58,7 @@ kept_are T s (child l n u rest) test sound h =
     ]
 
 -- a well-formed table's tree of marks has some of its tree's numbers
-pub is_marked : (slots : ℕ) (T : Fields) → IsWellFormed slots T → IsMarked (dictionary_of T)
+pub is_marked : (slots : ℕ) (T : Fields) → IsWellFormed slots T → IsMarked (dictionary_of 0 T)
 is_marked slots T well =
     let f : Forest = (tree_of T).children in
     let c : Cells = cells_in T in

@@ -11,7 +11,7 @@ use Rattle.cedar_walk.proofs.WalkLemmas.NextNode.{path_length}
 use Rattle.cedarwood.specs.declared.queries.predict.PredictPlace.{PredictPlace}
 use Rattle.cedarwood.specs.WalkPlaces.{answers_of, GoesOnTo, predicted_from}
 
--- what is left of a prediction are the answers of the entries that its walk has left
+-- what is left of a prediction are the results of the entries that its walk has left
 pub goes_on : (T : Fields) (query : List ℕ) (place : PredictPlace) (siblings : List PendingSibling) (left : List Entry) (found : Option Numbered) → predicted_from T query place ≡ answers_of left
     → MatchOption found (left ≡ []) (ComesToNumber T query left) → IfSome found (λ (next : Numbered). IsPending T siblings next.depth next.slot)
     → MatchOption found (predicted_from T query place ≡ []) (GoesOnTo T query place siblings)

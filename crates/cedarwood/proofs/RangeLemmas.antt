@@ -6,10 +6,10 @@ use Rattle.cedar_walk.specs.declared.visits.Numbered.{Numbered}
 use Rattle.cedar_walk.specs.Visits.{ComesToNumber}
 use Rattle.cedar_walk.specs.Ranges.{behind_path}
 use Rattle.cedar_model.specs.Table.TableFields.{Fields}
-use Rattle.cedarwood.specs.RangeWalks.{IsRangePlace, ranged}
+use Rattle.cedarwood.specs.RangeWalks.{entries_left, IsRangePlace}
 
 -- a walk that comes to the first of some entries has these left
-pub ranged_is : (T : Fields) (start : List ℕ) (left : List Entry) (found : Option Numbered) → MatchOption found (left ≡ []) (ComesToNumber T start left) → ranged T start found ≡ map (behind_path start) left
+pub ranged_is : (T : Fields) (start : List ℕ) (left : List Entry) (found : Option Numbered) → MatchOption found (left ≡ []) (ComesToNumber T start left) → entries_left T start found ≡ map (behind_path start) left
 ranged_is T start left None gone = ap (map (behind_path start)) (sym gone)
 ranged_is T start left (Some next) comes = ap (map (behind_path start)) (sym comes.entries)
 

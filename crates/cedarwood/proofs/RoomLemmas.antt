@@ -11,29 +11,29 @@ use Rattle.cedar_table.specs.Table.Room as table
 use Rattle.cedarwood.specs.declared.error.CedarError.TheVariants.{SlotLimit}
 use Rattle.cedarwood.specs.Dictionary.{Dictionary, capacity_after}
 use Rattle.cedarwood.specs.Room.{LacksRoom}
-use Rattle.cedarwood.specs.Told.{told}
+use Rattle.cedarwood.specs.Told.{error_of_shortage}
 use Rattle.cedarwood.proofs.GrowthLemmas.{capacity_by_blocks, dictionary_of}
 use Rattle.cedarwood.proofs.OutcomeLemmas.{told_outcome}
 
-module _ (slots n : ℕ) (T T' : Fields) (d : Dictionary) (same : dictionary_of T ≡ d) where
+module _ (slots n limit : ℕ) (T T' : Fields) (d : Dictionary) (same : dictionary_of limit T ≡ d) where
   pub capacity_then : length T'.places.blocks.records ≡ blocks_after n T.places.blocks.active (length T.places.blocks.records) → capacity_of T' ≡ capacity_after n d.size d.capacity
   capacity_then grown =
       ap (λ b. 256 * b) grown
       ∙ sym (capacity_by_blocks n T.places.blocks.active (length T.places.blocks.records))
       ∙ ap (λ (x : Dictionary). capacity_after n x.size x.capacity) same
 
-  pub all_kept : T' ≡ T → dictionary_of T' ≡ d
-  all_kept kept = ap dictionary_of kept ∙ same
+  pub all_kept : T' ≡ T → dictionary_of limit T' ≡ d
+  all_kept kept = ap (dictionary_of limit) kept ∙ same
 
   pub has_room : IsWellFormed slots T → 256 * n ≤ d.capacity - d.size → size_of T + 256 * n ≤ capacity_of T
   has_room well room =
       let there : 256 * n ≤ capacity_of T - size_of T = subst (λ (x : Dictionary). 256 * n ≤ x.capacity - x.size) (sym same) room in
       omega (arith, well.table.sound.shaped.blocks.active_in)
 
-  pub lacks : (e : Shortage) → table.LacksBlocks T slots n e → LacksRoom slots d n (told e)
-  lacks e h = subst (λ (x : Dictionary). LacksRoom slots x n (told e)) same (by_error e h)
+  pub lacks : (e : Shortage) → table.LacksBlocks T slots n e → LacksRoom slots d n (error_of_shortage e)
+  lacks e h = subst (λ (x : Dictionary). LacksRoom slots x n (error_of_shortage e)) same (by_error e h)
     where
-      by_error : (e : Shortage) → table.LacksBlocks T slots n e → LacksRoom slots (dictionary_of T) n (told e)
+      by_error : (e : Shortage) → table.LacksBlocks T slots n e → LacksRoom slots (dictionary_of limit T) n (error_of_shortage e)
       by_error shortage.Memory h = h
       by_error shortage.SlotLimit h = h
 
@@ -44,10 +44,10 @@ module _ (slots n : ℕ) (T T' : Fields) (d : Dictionary) (same : dictionary_of 
       no_lack shortage.Memory h enough = absurd (omega (arith, h.0))
       no_lack shortage.SlotLimit h enough = absurd (omega (arith, well.table.within))
 
-  pub limit_is_told : (e : Shortage) → table.LacksBlocks T slots n e → slots < d.size + 256 * n → told e ≡ SlotLimit
+  pub limit_is_told : (e : Shortage) → table.LacksBlocks T slots n e → slots < d.size + 256 * n → error_of_shortage e ≡ SlotLimit
   limit_is_told e h past = which e h (subst (λ (x : Dictionary). slots < x.size + 256 * n) (sym same) past)
     where
-      which : (e : Shortage) → table.LacksBlocks T slots n e → slots < size_of T + 256 * n → told e ≡ SlotLimit
+      which : (e : Shortage) → table.LacksBlocks T slots n e → slots < size_of T + 256 * n → error_of_shortage e ≡ SlotLimit
       which shortage.Memory h past = absurd (omega (arith, h.1))
       which shortage.SlotLimit h past = refl
 
@@ -61,7 +61,7 @@ module _ (slots n : ℕ) (T T' : Fields) (d : Dictionary) (same : dictionary_of 
   asks_for_none well (Ok x) h room = refl
   asks_for_none well (Err e) h room = absurd (never_with_room well e h room)
 
-  -- past the limit it is the limit that is told
+  -- past the limit it is the limit that is reported
   pub tells_limit : IsWellFormed slots T' → size_of T' ≡ size_of T → (r : Result (Unit {0}) Shortage) → OnOk r (size_of T' + 256 * n ≤ capacity_of T') → IfErr r (table.LacksBlocks T slots n)
       → slots < d.size + 256 * n → told_outcome r ≡ Err SlotLimit
   tells_limit well size (Ok x) spare h past = absurd (limit_is_kept well size spare past)

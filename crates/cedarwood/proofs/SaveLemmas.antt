@@ -1,5 +1,5 @@
 -- What was saved is the file of a well-formed table, and all of it.
-use Rattle.std.proofs.Common.{◌≡◌, ℕ, ◌≤◌, ◌∙◌, List, [], ◌++◌, ap, append-nil, drop, get_or, length, None, Option, Result, Ok, Err, OnOk, refl, Some, subst, sym, take}
+use Rattle.std.proofs.Common.{◌≡◌, ℕ, ◌≤◌, ◌∙◌, List, [], ◌++◌, ap, append-nil, drop, get_or, length, None, Option, refl, Some, subst, sym, take}
 use Rattle.std.proofs.Math.Seq.{take-append_seam}
 use Rattle.std.proofs.lemmas.List.{append_cancel_left}
 use Rattle.std.specs.Io.Buffered.{writer_buffer, writer_contents, writer_inner}
@@ -23,11 +23,6 @@ file_passes version kind slots T U known same layout formed fits =
     subst (λ V. (limit : ℕ) → need (header_of version V) ≤ limit → header_answer (layout_byte kind) slots limit (table_bytes version V) ≡ None) same
     (subst (λ k. (limit : ℕ) → need (header_of version T) ≤ limit → header_answer (layout_byte k) slots limit (table_bytes version T) ≡ None) layout
     (λ limit within. tables_pass version slots limit T known formed fits within))
-
--- what holds whatever becomes of the new file
-pub on_either : {T E P : Type 0} (result : Result T E) → P → OnOk result P
-on_either (Ok x) holds = holds
-on_either (Err e) holds = tt
 
 -- what was written through a buffer that had nothing at first, once it has nothing any more
 buffered_appends : (bytes held filed rest : List ℕ) (before between after : Option (List ℕ)) → held ≡ [] → Appends (append_known before held) (append_known between filed) bytes
@@ -54,7 +49,7 @@ written_through contents bytes before after made filled flushed inner unused gro
 
 -- ---- where it was written
 
--- a path and what follows, told apart
+-- a path and what follows, kept apart
 told_apart : (p q b c : List ℕ) → address p ++ b ≡ address q ++ c → (p ≡ q) × (b ≡ c)
 told_apart p q b c is =
     let long : length p ≡ length q = ap (λ (l : List ℕ). get_or l 0 0) is in
@@ -62,7 +57,7 @@ told_apart p q b c is =
     let same : p ≡ q = sym (take-append_seam p b) ∙ ap (λ n. take n (p ++ b)) long ∙ ap (λ l. take (length q) l) rest ∙ take-append_seam q c in
     (same, append_cancel_left q b c (ap (λ l. l ++ b) (sym same) ∙ rest))
 
--- what was written behind a path, where nothing stood before
+-- what was written behind a path, where nothing was before
 pub lands : (path whole p b q c : List ℕ) → p ≡ path → b ≡ [] → address q ++ c ≡ (address p ++ b) ++ whole → (q ≡ path) × (c ≡ whole)
 lands path whole p b q c is empty grown =
     told_apart q path c whole

@@ -5,7 +5,7 @@ use Rattle.std.specs.List.{AllByRecursion}
 use Rattle.std.proofs.lemmas.List.{append_assoc, append-nil, drop_more, map-append}
 use Rattle.cedar_tree.specs.Tree.{Tree, empty_tree, IsKey, number_at, put}
 use Rattle.cedar_tree.specs.Queries.{Entry, prefixes, walk}
-use Rattle.cedar_tree.specs.State.{State, stored}
+use Rattle.cedar_tree.specs.State.{after_put, State}
 use Rattle.cedar_tree.specs.Walks.{visited_entries}
 use Rattle.cedar_tree.proofs.EntryLemmas.Keys.{held_key}
 use Rattle.cedar_tree.proofs.OrderLemmas.{number_of_node}
@@ -31,6 +31,8 @@ use Rattle.cedarwood.proofs.GrowthLemmas.{capacity_after-sum, dictionary_of}
 use Rattle.cedarwood.proofs.InnerMarksLemmas.{inner_empty, inner_put}
 use Rattle.cedarwood.proofs.PutBackLemmas.{walk_put_back}
 use Rattle.cedarwood.proofs.SortedInputLemmas.{clean_key, key_clean}
+use Rattle.cedar_tree.proofs.GeneralLemmas.{all_and_one}
+use Rattle.cedarwood.proofs.FaultLemmas.{key_without_fault}
 
 -- ---- the nodes of all entries
 
@@ -42,10 +44,6 @@ next_is T left (Some place) comes = comes.entries
 pub next_there : (T : Fields) (left : List Entry) (found : Option Numbered) → MatchOption found (left ≡ []) (ComesToNumber T [] left) → IsNextPlace T found
 next_there T left None gone = tt
 next_there T left (Some place) comes = (comes.below, comes.number)
-
-each_more : {X : Type 0} (P : X → Type 0) (xs : List X) (x : X) → AllByRecursion P xs → P x → AllByRecursion P (xs ++ x ∷ [])
-each_more P [] x a p = (p, tt)
-each_more P (y ∷ xs) x a p = (a.0, each_more P xs x a.1 p)
 
 -- one place more is listed
 listed_more : (T : Fields) (all : List Entry) (places : List Numbered) (place : Numbered) (next : Option Numbered) → all ≡ map (entry_of T) places ++ entries_after T (Some place)
@@ -64,7 +62,7 @@ lists_on T all places places' place next found is so_far each there pushed comes
     let left : List Entry = visited_entries (left_at T [] place.depth place.slot) in
     let here : all ≡ map (entry_of T) places ++ entries_after T (Some place) = so_far ∙ ap (λ (o : Option Numbered). map (entry_of T) places ++ entries_after T o) is in (
       listed_more T all places place found here (next_is T left found comes) ∙ ap (λ (ps : List Numbered). map (entry_of T) ps ++ entries_after T found) (sym pushed),
-      subst (AllByRecursion (IsEntryPlace T)) (sym pushed) (each_more (IsEntryPlace T) places place each (subst (IsNextPlace T) is there)),
+      subst (AllByRecursion (IsEntryPlace T)) (sym pushed) (all_and_one (IsEntryPlace T) places place each (subst (IsNextPlace T) is there)),
       next_there T left found comes,
     )
 
@@ -85,11 +83,12 @@ place_fault slots T well place at =
 -- ---- entries put
 
 -- nothing was put yet
-pub none_put : (layout : LayoutKind) (settings : CedarBuilder) (d : Dictionary) → IsEmpty settings d → IsPutBack layout d.state.ordered d.max_trial [] d
+pub none_put : (layout : LayoutKind) (settings : CedarBuilder) (d : Dictionary) → IsEmpty settings d → IsPutBack layout d.state.ordered d.max_trial d.search_limit [] d
 unfolding capacity_after
 none_put layout settings d e = record {
   state = ap (λ (t : Tree). record { tree = t; ordered = d.state.ordered }) e.tree;
   max_trial = refl;
+  search_limit = refl;
   marks = record {
     inner = λ _ w. subst (λ (m : Tree). HasMark m w ↔ IsInnerKey d.state.tree w) (sym e.unmarked) (subst (λ (t : Tree). HasMark empty_tree w ↔ IsInnerKey t w) (sym e.tree) (inner_empty w));
     by_default = λ _. e.unmarked ∙ sym e.tree;
@@ -104,23 +103,18 @@ none_put layout settings d e = record {
   };
 }
 
-key_without_fault : (key : List ℕ) (v : ℤ) → fault key v ≡ None → 0 < length key
-key_without_fault [] v fine = absurd (some_none EmptyKey fine) where
-  some_none : (e : CedarError) → ◌≡◌ {A = Option CedarError} (Some e) None → ⊥
-  some_none e h = cc
-key_without_fault (b ∷ key) v fine = omega arith
-
-module _ (layout : LayoutKind) (slots : ℕ) (order : Bool) (trials : ℤ) (es : List Entry) (e : Entry) (d d' : Dictionary) (so_far : IsPutBack layout order trials es d) (fine : fault e.0 e.1 ≡ None) where
+module _ (layout : LayoutKind) (slots : ℕ) (order : Bool) (trials : ℤ) (limit : ℕ) (es : List Entry) (e : Entry) (d d' : Dictionary) (so_far : IsPutBack layout order trials limit es d) (fine : fault e.0 e.1 ≡ None) where
   -- one more
-  pub put_more : IsUpdate layout slots d d' e.0 e.1 (Ok tt) → IsPutBack layout order trials (e ∷ es) d'
+  pub put_more : IsUpdate layout slots d d' e.0 e.1 (Ok tt) → IsPutBack layout order trials limit (e ∷ es) d'
   put_more u =
       let tree : d'.state.tree ≡ put d.state.tree d.state.ordered e.0 e.1 = ap (λ (s : State). s.tree) u.ok in
       let m = so_far.size in
       let n = u.blocks in
       let grown : Grows n.0 d d' = n.3 in
       record {
-        state = u.ok ∙ ap (λ (s : State). stored s e.0 e.1) so_far.state;
+        state = u.ok ∙ ap (λ (s : State). after_put s e.0 e.1) so_far.state;
         max_trial = u.max_trial ∙ so_far.max_trial;
+        search_limit = u.search_limit ∙ so_far.search_limit;
         marks = record {
           inner = λ reduced w. subst (λ (t : Tree). HasMark d'.marked w ↔ IsInnerKey t w) (sym tree)
               (inner_put d.state.tree d.state.ordered e.0 e.1 (key_without_fault e.0 e.1 fine) d.marked d'.marked (u.marks reduced) (so_far.marks.inner reduced) w);
@@ -138,14 +132,14 @@ module _ (layout : LayoutKind) (slots : ℕ) (order : Bool) (trials : ℤ) (es :
 
   -- why it was refused
   lack : (x : CedarError) → IsShortage x → (x ≡ SlotLimit → slots ≤ 256 * key_bytes (e ∷ es)) → LacksPlaces slots (e ∷ es) x
-  lack EmptyKey h limit = absurd h
-  lack (NulByte position) h limit = absurd h
-  lack (InvalidValue value) h limit = absurd h
-  lack (InvalidMaxTrial value) h limit = absurd h
-  lack (DuplicateKey index) h limit = absurd h
-  lack (KeysNotSorted index) h limit = absurd h
-  lack Memory h limit = inl refl
-  lack SlotLimit h limit = inr (refl, limit refl)
+  lack EmptyKey h full = absurd h
+  lack (NulByte position) h full = absurd h
+  lack (InvalidValue value) h full = absurd h
+  lack (InvalidMaxTrial value) h full = absurd h
+  lack (DuplicateKey index) h full = absurd h
+  lack (KeysNotSorted index) h full = absurd h
+  lack Memory h full = inl refl
+  lack SlotLimit h full = inr (refl, full refl)
 
   pub put_refused : (x : CedarError) → IsUpdate layout slots d d' e.0 e.1 (Err x) → LacksPlaces slots (e ∷ es) x
   put_refused x u =
@@ -161,11 +155,6 @@ bytes_of_places T places zero = omega arith
 bytes_of_places T [] (suc i) = omega arith
 bytes_of_places T (p ∷ places) (suc i) =
     let later : key_bytes (map (entry_of T) (drop i places)) ≤ key_bytes (map (entry_of T) places) = bytes_of_places T places i in omega (arith, later)
-
-pub place_at : {X : Type 0} (P : X → Type 0) (xs : List X) (i : ℕ) (d : X) → i < length xs → AllByRecursion P xs → P (get_or xs i d)
-place_at P [] i d inside each = absurd (omega (arith, inside))
-place_at P (x ∷ xs) zero d inside each = each.0
-place_at P (x ∷ xs) (suc i) d inside each = place_at P xs i d (omega (arith, inside)) each.1
 
 -- ---- one place after another, from the last one on
 
@@ -186,8 +175,8 @@ fewer_lack : (slots : ℕ) (es all : List Entry) (x : CedarError) → key_bytes 
 fewer_lack slots es all x fewer (inl memory) = inl memory
 fewer_lack slots es all x fewer (inr limit) = let few : slots ≤ 256 * key_bytes es = limit.1 in inr (limit.0, omega (arith, fewer, few))
 
-module _ (layout : LayoutKind) (slots : ℕ) (order : Bool) (trials : ℤ) (T : Fields) (places : List Numbered) (left i : ℕ) (blank : Numbered) (d d' : Dictionary) (next : left ≡ i + 1) (inside : i < length places)
-    (fine : fault (path_to T (get_or places i blank).depth (get_or places i blank).slot) (get_or places i blank).number ≡ None) (so_far : IsPutBack layout order trials (map (entry_of T) (drop left places)) d)
+module _ (layout : LayoutKind) (slots : ℕ) (order : Bool) (trials : ℤ) (limit : ℕ) (T : Fields) (places : List Numbered) (left i : ℕ) (blank : Numbered) (d d' : Dictionary) (next : left ≡ i + 1) (inside : i < length places)
+    (fine : fault (path_to T (get_or places i blank).depth (get_or places i blank).slot) (get_or places i blank).number ≡ None) (so_far : IsPutBack layout order trials limit (map (entry_of T) (drop left places)) d)
     (r : Result (Unit {0}) CedarError) (puts : PutsEntry layout slots d d' (entry_of T (get_or places i blank)) r) where
   abbrev later : List Entry
   later = map (entry_of T) (drop left places)
@@ -198,10 +187,10 @@ module _ (layout : LayoutKind) (slots : ℕ) (order : Bool) (trials : ℤ) (T : 
   one_more : map (entry_of T) (drop i places) ≡ entry_of T place ∷ later
   one_more = ap (map (entry_of T)) (drop_more places i blank inside) ∙ ap (λ n. entry_of T place ∷ map (entry_of T) (drop n places)) (sym next)
 
-  pub turn_put : r ≡ Ok tt → IsPutBack layout order trials (map (entry_of T) (drop i places)) d'
+  pub turn_put : r ≡ Ok tt → IsPutBack layout order trials limit (map (entry_of T) (drop i places)) d'
   turn_put is =
       let u : IsUpdate layout slots d d' (entry_of T place).0 (entry_of T place).1 (Ok tt) = (subst (PutsEntry layout slots d d' (entry_of T place)) is puts).put in
-      subst (λ (es : List Entry). IsPutBack layout order trials es d') (sym one_more) (put_more layout slots order trials later (entry_of T place) d d' so_far fine u)
+      subst (λ (es : List Entry). IsPutBack layout order trials limit es d') (sym one_more) (put_more layout slots order trials limit later (entry_of T place) d d' so_far fine u)
 
   pub turn_refused : (x : CedarError) → r ≡ Err x → LacksPlaces slots (map (entry_of T) places) x
   turn_refused x is = why (subst (PutsEntry layout slots d d' (entry_of T place)) is puts).refused
@@ -210,7 +199,7 @@ module _ (layout : LayoutKind) (slots : ℕ) (order : Bool) (trials : ℤ) (T : 
       why (inl memory) = inl memory
       why (inr u) =
           fewer_lack slots (map (entry_of T) (drop i places)) (map (entry_of T) places) x (bytes_of_places T places i)
-          (subst (λ (es : List Entry). LacksPlaces slots es x) (sym one_more) (put_refused layout slots order trials later (entry_of T place) d d' so_far fine x u))
+          (subst (λ (es : List Entry). LacksPlaces slots es x) (sym one_more) (put_refused layout slots order trials limit later (entry_of T place) d d' so_far fine x u))
 
 -- what is said of a refusal
 pub lacking : {X E : Type 0} (P : X → Type 0) (Q : E → Type 0) (r : Result X E) (e : E) → r ≡ Err e → Q e → MatchResult r P Q
@@ -218,16 +207,19 @@ lacking {X} {E} P Q r e is q = subst (λ (x : Result X E). MatchResult x P Q) (s
 
 -- ---- all of them
 
-pub put_as_asked : (layout : LayoutKind) (order order' : Bool) (trials trials' : ℤ) (es es' : List Entry) (d : Dictionary) → order ≡ order' → trials ≡ trials' → es ≡ es' → IsPutBack layout order trials es d → IsPutBack layout order' trials' es' d
-put_as_asked layout order order' trials trials' es es' d orders settings entries back =
-    subst (λ o. IsPutBack layout o trials' es' d) orders (subst (λ (n : ℤ). IsPutBack layout order n es' d) settings (subst (λ (xs : List Entry). IsPutBack layout order trials xs d) entries back))
+pub put_as_asked : (layout : LayoutKind) (order order' : Bool) (trials trials' : ℤ) (limit limit' : ℕ) (es es' : List Entry) (d : Dictionary) → order ≡ order' → trials ≡ trials' → limit ≡ limit' → es ≡ es'
+    → IsPutBack layout order trials limit es d → IsPutBack layout order' trials' limit' es' d
+put_as_asked layout order order' trials trials' limit limit' es es' d orders settings limits entries back =
+    subst (λ o. IsPutBack layout o trials' limit' es' d) orders (subst (λ (n : ℤ). IsPutBack layout order n limit' es' d) settings
+    (subst (λ (n : ℕ). IsPutBack layout order trials n es' d) limits (subst (λ (xs : List Entry). IsPutBack layout order trials limit xs d) entries back)))
 
-of_table : (layout : LayoutKind) (slots : ℕ) (T : Fields) (d : Dictionary) → IsWellFormed slots T → IsPutBack layout T.ordered T.places.blocks.max_trial (walk (tree_of T)) d → IsRebuilt layout (dictionary_of T) d
-of_table layout slots T d well back =
+of_table : (layout : LayoutKind) (slots limit : ℕ) (T : Fields) (d : Dictionary) → IsWellFormed slots T → IsPutBack layout T.ordered T.places.blocks.max_trial limit (walk (tree_of T)) d → IsRebuilt layout (dictionary_of limit T) d
+of_table layout slots limit T d well back =
     let state : d.state ≡ record { tree = tree_of T; ordered = T.ordered } = back.state ∙ ap (λ (t : Tree). record { tree = t; ordered = T.ordered }) (walk_put_back T.ordered (tree_of T) well.sound well.ascending) in
     record {
       state = state;
       max_trial = back.max_trial;
+      search_limit = back.search_limit;
       marks = subst (λ (t : Tree). SortedMarks layout t d.marked) (ap (λ (s : State). s.tree) state) back.marks;
       marked = back.marked;
       size = back.size;
@@ -235,14 +227,14 @@ of_table layout slots T d well back =
     }
 
 -- what is made of the entries of a dictionary's table is that dictionary, rebuilt
-pub is_rebuilt : (layout : LayoutKind) (slots : ℕ) (T : Fields) (before : Dictionary) (order : Bool) (trials : ℤ) (r : Result Dictionary CedarError) → dictionary_of T ≡ before → IsWellFormed slots T → order ≡ T.ordered
-    → trials ≡ T.places.blocks.max_trial → MatchResult r (IsPutBack layout order trials (walk (tree_of before.table))) (LacksPlaces slots (walk (tree_of before.table)))
+pub is_rebuilt : (layout : LayoutKind) (slots limit : ℕ) (T : Fields) (before : Dictionary) (order : Bool) (trials : ℤ) (r : Result Dictionary CedarError) → dictionary_of limit T ≡ before → IsWellFormed slots T → order ≡ T.ordered
+    → trials ≡ T.places.blocks.max_trial → MatchResult r (IsPutBack layout order trials limit (walk (tree_of before.table))) (LacksPlaces slots (walk (tree_of before.table)))
     → MatchResult r (IsRebuilt layout before) (LacksPlaces slots (walk before.state.tree))
-is_rebuilt layout slots T before order trials r same well orders settings =
-    subst (λ (x : Dictionary). MatchResult r (IsPutBack layout order trials (walk (tree_of x.table))) (LacksPlaces slots (walk (tree_of x.table))) → MatchResult r (IsRebuilt layout x) (LacksPlaces slots (walk x.state.tree))) same (by_result r)
+is_rebuilt layout slots limit T before order trials r same well orders settings =
+    subst (λ (x : Dictionary). MatchResult r (IsPutBack layout order trials limit (walk (tree_of x.table))) (LacksPlaces slots (walk (tree_of x.table))) → MatchResult r (IsRebuilt layout x) (LacksPlaces slots (walk x.state.tree))) same (by_result r)
   where
-    by_result : (r : Result Dictionary CedarError) → MatchResult r (IsPutBack layout order trials (walk (tree_of T))) (LacksPlaces slots (walk (tree_of T))) → MatchResult r (IsRebuilt layout (dictionary_of T)) (LacksPlaces slots (walk (tree_of T)))
-    by_result (Ok d) back = of_table layout slots T d well (put_as_asked layout order T.ordered trials T.places.blocks.max_trial (walk (tree_of T)) (walk (tree_of T)) d orders settings refl back)
+    by_result : (r : Result Dictionary CedarError) → MatchResult r (IsPutBack layout order trials limit (walk (tree_of T))) (LacksPlaces slots (walk (tree_of T))) → MatchResult r (IsRebuilt layout (dictionary_of limit T)) (LacksPlaces slots (walk (tree_of T)))
+    by_result (Ok d) back = of_table layout slots limit T d well (put_as_asked layout order T.ordered trials T.places.blocks.max_trial limit limit (walk (tree_of T)) (walk (tree_of T)) d orders settings refl refl back)
     by_result (Err e) lacks = lacks
 
 -- ---- in the place of the one before
@@ -251,6 +243,7 @@ pub stays : (layout : LayoutKind) (slots : ℕ) (before made : Dictionary) → I
 stays layout slots before made is more = record {
   state = refl;
   max_trial = refl;
+  search_limit = refl;
   capacity = omega arith;
   rebuilt = (made, is, (λ less. absurd (omega (arith, less, more))), (λ _. refl));
   bounded = omega (arith, more, rebuilt_fits layout before made is);
@@ -262,6 +255,7 @@ pub replaced : (layout : LayoutKind) (slots : ℕ) (before made : Dictionary) �
 replaced layout slots before made is less = record {
   state = is.state;
   max_trial = is.max_trial;
+  search_limit = is.search_limit;
   capacity = less;
   rebuilt = (made, is, (λ _. refl), (λ more. absurd (omega (arith, less, more))));
   bounded = rebuilt_fits layout before made is;

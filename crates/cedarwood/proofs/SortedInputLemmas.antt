@@ -89,7 +89,7 @@ pub first_fault : {X : Type 0} (f rest whole : Option CedarError) (r r' : Result
 first_fault None rest whole r r' e is faulty sound was same = absurd (not_both r e (sound refl) was)
 first_fault (Some x) rest whole r r' e is faulty sound was same = subst (λ o. IfSome o (λ y. r' ≡ Err y)) (sym is) (sym same ∙ faulty)
 
--- a fault that a test answered is handed on
+-- a fault that a test returned is handed on
 pub fault_handed_on : {X Y : Type 0} (f : Option CedarError) (r : Result X CedarError) (r' : Result Y CedarError) (e : CedarError) → IfSome f (λ x. r ≡ Err x) → (f ≡ None → IsOk r) → r ≡ Err e → r' ≡ Err e → IfSome f (λ x. r' ≡ Err x)
 fault_handed_on None r r' e faulty sound was is = absurd (not_both r e (sound refl) was)
 fault_handed_on (Some x) r r' e faulty sound was is = let same : e ≡ x = cc in subst (λ y. r' ≡ Err y) same is
@@ -134,7 +134,7 @@ no_fault_behind index before key v less clean some range =
     ∙ ap (λ f. or_else f (fault_of_order index (slice_cmp nat_cmp before key))) range
     ∙ ap (fault_of_order index) less
 
-path_clean : (key : List ℕ) → IsPath key → HasNoNul key
+pub path_clean : (key : List ℕ) → IsPath key → HasNoNul key
 path_clean [] path i h = absurd (omega (arith, h))
 path_clean (b ∷ key) path zero h = λ e. omega (arith, path.0, e)
 path_clean (b ∷ key) path (suc i) h = path_clean key path.2 i (omega (arith, h))

@@ -2,8 +2,8 @@
 use Rattle.std.proofs.Common.{◌≡◌, ℕ, ℤ, ◌+◌, ◌*◌, ◌-◌, ◌<◌, ◌≤◌, ◌⊎◌, inl, inr, Bool, true, false, cond, int_le, ◌&&◌, ◌==◌, pos, List, [], ◌∷◌, length, Option, Some, None, IfSome, IsSome, is_some, option_map, position, refl, ap, sym, subst, ◌∙◌, arith, Result, Ok, Err, OnOk, OnErr, IfErr, IsErr, IsOk, rules}
 use Rattle.std.proofs.lemmas.Result.{on_ok_weaker, on_err_weaker}
 use Rattle.cedar_tree.specs.Tree.{Tree, has_label, number_at, put}
-use Rattle.cedar_tree.specs.Queries.{used}
-use Rattle.cedar_tree.specs.State.{State, stored}
+use Rattle.cedar_tree.specs.Queries.{slots_of_tree}
+use Rattle.cedar_tree.specs.State.{after_put, State}
 use Rattle.cedarwood.specs.declared.error.CedarError.{CedarError}
 use Rattle.cedarwood.specs.declared.error.CedarError.TheVariants.{EmptyKey, NulByte, InvalidValue}
 use Rattle.cedar_model.specs.Table.Cells.{NoPlace}
@@ -21,7 +21,7 @@ use Rattle.cedarwood.specs.Dictionary.{Dictionary, Grows, first_bytes}
 use Rattle.cedar_slots.specs.declared.shortage.Shortage.{Shortage}
 use Rattle.cedar_slots.specs.declared.shortage.Shortage.TheVariants as shortage
 use Rattle.cedarwood.specs.Fault.{fault, key_fault, value_fault, or_else, IsShortage}
-use Rattle.cedarwood.specs.Told.{told}
+use Rattle.cedarwood.specs.Told.{error_of_shortage}
 use Rattle.cedarwood.specs.Updates.{PacksUpdate}
 use Rattle.cedarwood.proofs.GrowthLemmas.{dictionary_of, blocks_stay, grows}
 use Rattle.cedarwood.proofs.SortedInputLemmas.{not_both}
@@ -81,11 +81,11 @@ unheld : (o : Option ℤ) → (is_some o ≡ true → ⊥) → o ≡ None
 unheld None h = refl
 unheld (Some v) h = absurd (h refl)
 
-is_shortage : (e : Shortage) → IsShortage (told e)
+is_shortage : (e : Shortage) → IsShortage (error_of_shortage e)
 is_shortage shortage.Memory = tt
 is_shortage shortage.SlotLimit = tt
 
-refusals : {X : Type 0} (r : Result X Shortage) (o : Option ℤ) → (is_some o ≡ true → OnErr r ⊥) → IfErr r (λ e. IsShortage (told e) × (o ≡ None))
+refusals : {X : Type 0} (r : Result X Shortage) (o : Option ℤ) → (is_some o ≡ true → OnErr r ⊥) → IfErr r (λ e. IsShortage (error_of_shortage e) × (o ≡ None))
 refusals (Ok x) o over = tt
 refusals (Err e) o over = (is_shortage e, unheld o over)
 
@@ -103,10 +103,10 @@ enough n k slots T T' (Err e) within h few made room =
     absurd (omega (arith, made.active, made.capacity, few))
 
 same_stored : (t : Tree) (ordered o : Bool) (old : State) (key : List ℕ) (v w : ℤ) → old.tree ≡ t → old.ordered ≡ o → w ≡ v → ordered ≡ o
-    → ◌≡◌ {A = State} (record { tree = put t o key w; ordered = ordered }) (stored old key v)
+    → ◌≡◌ {A = State} (record { tree = put t o key w; ordered = ordered }) (after_put old key v)
 same_stored t ordered o old key v w e f g h = cc
 
-module _ {X : Type 0} (slots : ℕ) (T T' : Fields) (d : Dictionary) (same : dictionary_of T ≡ d) (r : Result X Shortage) (key : List ℕ) where
+module _ {X : Type 0} (slots limit : ℕ) (T T' : Fields) (d : Dictionary) (same : dictionary_of limit T ≡ d) (r : Result X Shortage) (key : List ℕ) where
   same_tree : d.state.tree ≡ tree_of T
   same_tree = ap (λ (x : Dictionary). x.state.tree) (sym same)
 
@@ -114,7 +114,7 @@ module _ {X : Type 0} (slots : ℕ) (T T' : Fields) (d : Dictionary) (same : dic
   same_order = ap (λ (x : Dictionary). x.state.ordered) (sym same)
 
   pub stored_is : (v w : ℤ) → w ≡ v → SameModes T T' → OnOk r (tree_of T' ≡ put (tree_of T) T.ordered key w)
-      → OnOk r (◌≡◌ {A = State} (record { tree = tree_of T'; ordered = T'.ordered }) (stored d.state key v))
+      → OnOk r (◌≡◌ {A = State} (record { tree = tree_of T'; ordered = T'.ordered }) (after_put d.state key v))
   stored_is v w e modes =
       on_ok_weaker r (λ (done : tree_of T' ≡ put (tree_of T) T.ordered key w).
       ap (λ t. record { tree = t; ordered = T'.ordered }) done
@@ -132,12 +132,12 @@ module _ {X : Type 0} (slots : ℕ) (T T' : Fields) (d : Dictionary) (same : dic
       on_err_weaker r (λ (kept : tree_of T' ≡ tree_of T). let tree : d.state.tree ≡ tree_of T = same_tree in let order : d.state.ordered ≡ T.ordered = same_order in let now : T'.ordered ≡ T.ordered = modes.ordered in cc)
 
   pub is_refused : (is_some (number_at (tree_of T) key) ≡ true → OnErr r ⊥ × MakesBlocks 0 T T')
-      → IfErr r (λ e. IsShortage (told e) × (number_at d.state.tree key ≡ None))
+      → IfErr r (λ e. IsShortage (error_of_shortage e) × (number_at d.state.tree key ≡ None))
   is_refused over =
       refusals r (number_at d.state.tree key) (λ held. (over (subst (λ t. is_some (number_at t key) ≡ true) same_tree held)).0)
 
-  pub grows_by : (n : ℕ) → MakesBlocks n T T' → Grows n d (dictionary_of T')
-  grows_by n made = subst (λ x. Grows n x (dictionary_of T')) same (grows n T T' made)
+  pub grows_by : (n : ℕ) → MakesBlocks n T T' → Grows n d (dictionary_of limit T')
+  grows_by n made = subst (λ x. Grows n x (dictionary_of limit T')) same (grows n limit T T' made)
 
   pub is_spare : (n : ℕ) → 256 * length T'.places.blocks.records ≤ slots → IfErr r (λ e. MayRefuse T'.places slots e) → OnErr r (n < length key) → MakesBlocks n T T'
       → 256 * length key ≤ d.capacity - d.size → IsOk r
@@ -145,23 +145,23 @@ module _ {X : Type 0} (slots : ℕ) (T T' : Fields) (d : Dictionary) (same : dic
       let room' : 256 * length key ≤ capacity_of T - size_of T = subst (λ (x : Dictionary). 256 * length key ≤ x.capacity - x.size) (sym same) room in
       enough n (length key) slots T T' r within h few made room'
 
-  pub over_held : (is_some (number_at (tree_of T) key) ≡ true → OnErr r ⊥ × MakesBlocks 0 T T') → IsSome (number_at d.state.tree key) → Grows 0 d (dictionary_of T')
+  pub over_held : (is_some (number_at (tree_of T) key) ≡ true → OnErr r ⊥ × MakesBlocks 0 T T') → IsSome (number_at d.state.tree key) → Grows 0 d (dictionary_of limit T')
   over_held over held = grows_by 0 (over (subst (λ t. IsSome (number_at t key)) same_tree held)).1
 
   pub at_one_byte : IsWellFormed slots T → (b : ℕ)
       → (has_label (tree_of T).children b ≡ false → (OnErr r ⊥ × MakesBlocks 0 T T') ⊎ (T.layout ≡ default_layout) × NoPlace (size_of T) (cells_in T))
       → has_label d.state.tree.children b ≡ false
-      → (IsOk r × Grows 0 d (dictionary_of T')) ⊎ (T.layout ≡ default_layout) × (d.size + first_bytes d.state.tree ≡ used d.state.tree + 255)
+      → (IsOk r × Grows 0 d (dictionary_of limit T')) ⊎ (T.layout ≡ default_layout) × (d.size + first_bytes d.state.tree ≡ slots_of_tree d.state.tree + 255)
   at_one_byte well b made absent = elim (made (subst (λ (t : Tree). has_label t.children b ≡ false) same_tree absent)) [
     | inl m ↦ inl (is_ok_of r m.0, grows_by 0 m.1)
-    | inr full ↦ inr (full.0, subst (λ (x : Dictionary). x.size + first_bytes x.state.tree ≡ used x.state.tree + 255) same (full_blocks_counted slots T well full.0 full.1))
+    | inr full ↦ inr (full.0, subst (λ (x : Dictionary). x.size + first_bytes x.state.tree ≡ slots_of_tree x.state.tree + 255) same (full_blocks_counted slots T well full.0 full.1))
   ]
 
   -- how few slots stay free
-  pub packs_update : IsWellFormed slots T → IsWellFormed slots T' → PacksKey T T' key → PacksUpdate d (dictionary_of T') key
-  packs_update well well' packs = subst (λ (x : Dictionary). PacksUpdate x (dictionary_of T') key) same (by_case packs)
+  pub packs_update : IsWellFormed slots T → IsWellFormed slots T' → PacksKey T T' key → PacksUpdate d (dictionary_of limit T') key
+  packs_update well well' packs = subst (λ (x : Dictionary). PacksUpdate x (dictionary_of limit T') key) same (by_case packs)
     where
-      by_case : PacksKey T T' key → PacksUpdate (dictionary_of T) (dictionary_of T') key
+      by_case : PacksKey T T' key → PacksUpdate (dictionary_of limit T) (dictionary_of limit T') key
       by_case (inl (inl few)) = inl few
       by_case (inl (inr free)) = inr (inl (omega (arith, free (tree_of T').children well'.stands, count_is_marked slots T' well')))
       by_case (inr full) = inr (inr (omega (arith, full_held slots T (tree_of T).children well.table well.stands full.0, count_is_marked slots T well), full.1, full.2))

@@ -7,8 +7,8 @@ use Rattle.cedarwood.proofs.DictionaryLemmas.{is_sound}
 use Rattle.cedarwood.proofs.GrowthLemmas.{dictionary_of}
 use Rattle.cedarwood.proofs.MarkedLemmas.{is_marked}
 
-pub is_valid : (slots : ℕ) (T : Fields) → IsWellFormed slots T → IsValid slots (dictionary_of T)
-is_valid slots T w =
+pub is_valid : (slots limit : ℕ) (T : Fields) → IsWellFormed slots T → IsValid slots (dictionary_of limit T)
+is_valid slots limit T w =
     let s = w.table.sound.shaped.blocks in
     let d = w.table.sound.doubled in record {
       sound = is_sound slots T w;

@@ -1,7 +1,8 @@
--- What a batch of updates or of erasures answers, and what it leaves.
-use Rattle.std.specs.Prelude.{◌≡◌, ◌↔◌, ℕ, ◌<◌, pos, Bool, IsTrue, List, [], ◌∷◌, fold, get_or, is_some, length, Some, take, IsSome, Result, Ok, Err}
+-- What a batch of updates or of erasures returns, and what it leaves.
+use Rattle.std.specs.Prelude.{◌≡◌, ◌↔◌, ℕ, ◌<◌, pos, Bool, IsTrue, List, [], ◌∷◌, fold, get_or}
+use Rattle.std.specs.Prelude.{is_some, length, Some, take, IsSome, Result, Ok, Err}
 use Rattle.cedar_tree.specs.Queries.{Entry}
-use Rattle.cedar_tree.specs.State.{State, erased}
+use Rattle.cedar_tree.specs.State.{State, after_erase}
 use Rattle.cedar_tree.specs.Tree.{number_at}
 use Rattle.cedar_model.specs.Edit.NodeEdits.{IsAt}
 use Rattle.cedar_model.specs.Meaning.Marks.{MarksCut}
@@ -25,7 +26,7 @@ pub record StopsAt (layout : LayoutKind) (slots : ℕ) (before after : Dictionar
       × IsUpdate layout slots between after (pair_at entries refusal.index).0 (pair_at entries refusal.index).1 (Err refusal.error)
 
 -- the pairs are stored by updates one after another, each of the dictionary that the one before it left; one that is refused is
--- the last, and its place is told
+-- the last, and its index is returned
 abbrev pub IsUpdates : LayoutKind → ℕ → Dictionary → Dictionary → List Entry → Result (Unit {0}) RefusedPair → Type 0
 IsUpdates layout slots before after entries (Ok x) = IsBuild layout slots before entries (Ok tt) after
 IsUpdates layout slots before after entries (Err refusal) = StopsAt layout slots before after entries refusal
@@ -33,11 +34,12 @@ IsUpdates layout slots before after entries (Err refusal) = StopsAt layout slots
 -- a key is erased, which was held or not
 pub record IsErasure (before after : Dictionary) (key : List ℕ) (held : Bool) : Type 0 where
   pub answer : IsTrue held ↔ IsSome (number_at before.state.tree key)
-  pub state : after.state ≡ erased before.state key
+  pub state : after.state ≡ after_erase before.state key
   pub marks : MarksCut before.marked after.marked key
   pub marked : IsMarked after
   pub size : (after.size ≡ before.size) × (after.capacity ≡ before.capacity)
   pub max_trial : after.max_trial ≡ before.max_trial
+  pub search_limit : after.search_limit ≡ before.search_limit
 
 -- a key is held, and this is its node
 pub record IsFound (d : Dictionary) (key : List ℕ) (found : Found) : Type 0 where
@@ -53,9 +55,9 @@ IsErasures before after (key ∷ keys) answers =
 
 -- the state after some keys were erased one after another
 abbrev pub keys_erased : State → List (List ℕ) → State
-keys_erased s keys = fold erased s keys
+keys_erased s keys = fold after_erase s keys
 
 -- whether each of some keys is held once those before it are erased
 abbrev pub held_in_turn : State → List (List ℕ) → List Bool
 held_in_turn s [] = []
-held_in_turn s (key ∷ keys) = is_some (number_at s.tree key) ∷ held_in_turn (erased s key) keys
+held_in_turn s (key ∷ keys) = is_some (number_at s.tree key) ∷ held_in_turn (after_erase s key) keys

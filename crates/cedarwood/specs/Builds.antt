@@ -1,7 +1,8 @@
--- What keeps pairs from being stored, and what a build of them answers and leaves.
-use Rattle.std.specs.Prelude.{◌≡◌, ◌<◌, ◌⊎◌, ℕ, zero, suc, List, [], ◌∷◌, fold, length, take, Option, None, Result, Ok, Err}
+-- What keeps pairs from being stored, and what a build of them returns and leaves.
+use Rattle.std.specs.Prelude.{◌≡◌, ◌<◌, ◌⊎◌, ℕ, zero, suc, List, [], ◌∷◌, fold, length}
+use Rattle.std.specs.Prelude.{take, Option, None, Result, Ok, Err}
 use Rattle.cedar_tree.specs.Queries.{Entry}
-use Rattle.cedar_tree.specs.State.{State, stored}
+use Rattle.cedar_tree.specs.State.{after_put, State}
 use Rattle.cedar_tree.specs.Tree.{number_at}
 use Rattle.cedarwood.specs.declared.error.CedarError.{CedarError}
 use Rattle.cedarwood.specs.declared.error.CedarError.TheVariants.{Memory, SlotLimit}
@@ -17,7 +18,7 @@ first_fault (e ∷ es) = or_else (fault e.0 e.1) (first_fault es)
 
 -- the state with the pairs put one after another
 abbrev pub all_stored : State → List Entry → State
-all_stored s entries = fold (λ t entry. stored t entry.0 entry.1) s entries
+all_stored s entries = fold (λ t entry. after_put t entry.0 entry.1) s entries
 
 -- the pairs are stored by updates one after another, each of the dictionary that the one before it left; one that is refused is
 -- the last
@@ -41,7 +42,7 @@ pub record IsRefusedBuild (slots : ℕ) (before after : Dictionary) (entries : L
   pub memory : refusal ≡ Memory → (after.size ≡ after.capacity) × (after.capacity < slots)
   pub limit : refusal ≡ SlotLimit → after.size ≡ slots
 
--- whether a call succeeded, without its answer
+-- whether a call succeeded, without its result
 abbrev pub outcome : {X : Type 0} → Result X CedarError → Result (Unit {0}) CedarError
 outcome (Ok x) = Ok tt
 outcome (Err e) = Err e

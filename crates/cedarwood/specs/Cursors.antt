@@ -1,5 +1,6 @@
--- Where cursors over the entries of a range stand in a table, and what a caller sees of them.
-use Rattle.std.specs.Prelude.{◌≡◌, ℕ, ℤ, List, [], ◌++◌, filter, map, MatchOption, None, Option, Some}
+-- How far cursors over the entries of a range are in a table, and what a caller sees of them.
+use Rattle.std.specs.Prelude.{◌≡◌, ℕ, ℤ, List, [], ◌++◌, filter, map}
+use Rattle.std.specs.Prelude.{MatchOption, None, Option, Some}
 use Rattle.std.specs.Coded.{Coded, code_by, coded×, coded_ℕ, coded_ℤ, coded_list}
 use Rattle.std.proofs.Common.{refl}
 use Rattle.cedar_tree.specs.Queries.{Entry}
@@ -10,7 +11,7 @@ use Rattle.cedar_walk.specs.Visits.{IsNumberedBelow, left_at, path_to}
 use Rattle.cedar_walk.specs.Ranges.{behind_path}
 use Rattle.cedarwood.specs.declared.queries.cursor.CursorPlace.{CursorPlace}
 use Rattle.cedarwood.specs.declared.queries.cursor.CursorPlace.TheVariants.{At, Before, End}
-use Rattle.cedarwood.specs.RangeWalks.{follows_end, IsRangePlace, precedes_end, ranged}
+use Rattle.cedarwood.specs.RangeWalks.{entries_left, follows_end, IsRangePlace, precedes_end}
 
 -- a cursor: the key that it holds, the entries that it has left, and how many bytes its buffer has room for
 pub record Cursor : Type 0 where
@@ -26,7 +27,7 @@ cursor_code =
     (λ p. record { key = p.0; left = p.1.0; room = p.1.1 })
     (λ _. refl)
 
--- where it stands before the node of its first entry, if there is one
+-- where it is before it comes to the node of its first entry, if there is one
 abbrev pub place_before : Option Numbered → CursorPlace
 place_before None = End
 place_before (Some next) = Before next
@@ -38,7 +39,7 @@ place_at (Some next) = At next.slot next.depth
 
 -- the entries that a walk below the path `start` has left at a place
 abbrev pub cursor_entries : Fields → List ℕ → CursorPlace → List Entry
-cursor_entries T start (Before next) = ranged T start (Some next)
+cursor_entries T start (Before next) = entries_left T start (Some next)
 cursor_entries T start (At slot depth) = map (behind_path start) (visited_entries (left_at T start depth slot))
 cursor_entries T start End = []
 
@@ -54,11 +55,11 @@ cursor_left T start to place = filter (λ e. precedes_end to e.0) (cursor_entrie
 
 -- the node where the cursor ends: that of the first entry behind the end
 abbrev pub IsCursorEnd : Fields → List ℕ → Option (List ℕ) → CursorPlace → Option Numbered → Type 0
-IsCursorEnd T start to place end = filter (λ e. follows_end to e.0) (cursor_entries T start place) ≡ ranged T start end
+IsCursorEnd T start to place end = filter (λ e. follows_end to e.0) (cursor_entries T start place) ≡ entries_left T start end
 
 -- from a place the walk comes to a node, that of the first of its entries, or nothing is left
 abbrev pub FindsNext : Fields → List ℕ → CursorPlace → Option Numbered → Type 0
-FindsNext T start place found = (cursor_entries T start place ≡ ranged T start found) × IsRangePlace T start found
+FindsNext T start place found = (cursor_entries T start place ≡ entries_left T start found) × IsRangePlace T start found
 
 -- and its key is written
 pub record WritesNextKey (T : Fields) (start : List ℕ) (place : CursorPlace) (key : List ℕ) (found : Option Numbered) : Type 0 where

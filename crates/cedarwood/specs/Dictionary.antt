@@ -1,33 +1,41 @@
 -- What a caller sees of a dictionary.
-use Rattle.std.specs.Prelude.{◌≡◌, ℕ, zero, suc, ◌+◌, ◌*◌, ◌^◌, ◌<◌, ◌≤◌, ◌==◌, Bool, true, cond, List, [], ◌∷◌, length, ℤ, None, is_some}
+use Rattle.std.specs.Prelude.{◌≡◌, ℕ, zero, suc, ◌+◌, ◌*◌, ◌^◌, ◌<◌, ◌≤◌, ◌==◌, Bool, true, cond}
+use Rattle.std.specs.Prelude.{List, [], ◌∷◌, length, ℤ, None, is_some}
 use Rattle.std.specs.Coded.{Coded, code_by, coded×, coded_ℕ, coded_ℤ}
 use Rattle.std.proofs.Common.{refl}
 use Rattle.cedar_tree.specs.Queries.{prefixes, walk}
 use Rattle.cedar_tree.specs.State.{State, state_code}
 use Rattle.cedar_tree.specs.Stored.{coded_tree}
-use Rattle.cedar_tree.specs.Tree.{AllNumbers, Forest, none, child, IsAscending, IsSound, number_at, Tree}
+use Rattle.cedar_tree.specs.Tree.{AllNumbers, Forest, none, child, IsAscending}
+use Rattle.cedar_tree.specs.Tree.{IsSound, number_at, Tree}
 use Rattle.cedar_model.specs.Meaning.StandsFor.{labels}
 use Rattle.cedar_model.specs.Table.TableFields.{Fields}
 use Rattle.cedarwood.specs.TableCode.{fields_code}
 use Rattle.cedarwood.specs.declared.figures.MemoryStats.{MemoryStats}
 use Rattle.cedar_model.specs.Meaning.WellFormed.{is_value}
 
--- the state that its answers come from, the tree with just those numbers that have slots of their own, how many failed searches
--- close a block, how many slots are in use and there are, and the table that it is kept in, which is what a file has of it
+-- the state that its results come from, the tree with just those numbers that have slots of their own, how many failed searches
+-- close a block, how many blocks one search tries at most, how many slots are in use and there are, and the table that it is kept in,
+-- which is what a file has of it
 pub record Dictionary : Type 0 where
   pub state : State
   pub marked : Tree
   pub max_trial : ℤ
+  pub search_limit : ℕ
   pub size : ℕ
   pub capacity : ℕ
   pub table : Fields
 
+-- the bound of a search that nothing bounds: 2^64 - 1 blocks, so all that there can be
+abbrev pub no_search_limit : ℕ
+no_search_limit = 18446744073709551615
+
 -- it serves `impl Model` alone
 abbrev pub dictionary_code : Coded Dictionary
 dictionary_code =
-    code_by ((((State × Tree) × ℤ) × (ℕ × ℕ)) × Fields) (coded× (coded× (coded× (coded× state_code coded_tree) coded_ℤ) (coded× coded_ℕ coded_ℕ)) fields_code)
-    (λ d. ((((d.state, d.marked), d.max_trial), (d.size, d.capacity)), d.table))
-    (λ p. record { state = p.0.0.0.0; marked = p.0.0.0.1; max_trial = p.0.0.1; size = p.0.1.0; capacity = p.0.1.1; table = p.1 })
+    code_by ((((State × Tree) × (ℤ × ℕ)) × (ℕ × ℕ)) × Fields) (coded× (coded× (coded× (coded× state_code coded_tree) (coded× coded_ℤ coded_ℕ)) (coded× coded_ℕ coded_ℕ)) fields_code)
+    (λ d. ((((d.state, d.marked), (d.max_trial, d.search_limit)), (d.size, d.capacity)), d.table))
+    (λ p. record { state = p.0.0.0.0; marked = p.0.0.0.1; max_trial = p.0.0.1.0; search_limit = p.0.0.1.1; size = p.0.1.0; capacity = p.0.1.1; table = p.1 })
     (λ _. refl)
 
 -- how many slots there are once n blocks more are in use: twice as many where all are in use
@@ -45,8 +53,8 @@ abbrev pub first_bytes : Tree → ℕ
 first_bytes t = length (labels t.children)
 
 -- the slots that are held: one for the root, one for each prefix, and one for each number that has a slot of its own
-abbrev pub used_slots : Dictionary → ℕ
-used_slots d = 1 + length (prefixes d.state.tree) + length (walk d.marked)
+abbrev pub held_slots : Dictionary → ℕ
+held_slots d = 1 + length (prefixes d.state.tree) + length (walk d.marked)
 
 -- siblings with just those of their numbers whose paths pass a test
 abbrev pub with_some : (List ℕ → Bool) → Forest → Forest

@@ -1,16 +1,17 @@
--- What an erasure of all keys that begin with a prefix answers, and what it leaves.
-use Rattle.std.specs.Prelude.{◌≡◌, ◌↔◌, ℕ, nat_eq, not, false, if◌then◌else◌, List, [], filter, fold, length, None}
+-- What an erasure of all keys that begin with a prefix returns, and what it leaves.
+use Rattle.std.specs.Prelude.{◌≡◌, ◌↔◌, ℕ, nat_eq, not, false, if◌then◌else◌, List}
+use Rattle.std.specs.Prelude.{[], filter, fold, length, None}
 use Rattle.std.specs.List.{starts_with}
 use Rattle.cedar_tree.specs.Tree.{Tree, empty_tree, number_at}
 use Rattle.cedar_tree.specs.Queries.{Entry, walk}
-use Rattle.cedar_tree.specs.State.{State, erased}
+use Rattle.cedar_tree.specs.State.{State, after_erase}
 use Rattle.cedar_model.specs.Meaning.Marks.{HasMark}
 use Rattle.cedar_walk.specs.Ranges.{entries_with}
 use Rattle.cedarwood.specs.Dictionary.{Dictionary, IsMarked}
 
 -- the state after the keys of some entries were erased one after another
 abbrev pub all_erased : State → List Entry → State
-all_erased s entries = fold (λ t entry. erased t entry.0) s entries
+all_erased s entries = fold (λ t entry. after_erase t entry.0) s entries
 
 -- the state without the keys that begin with q
 abbrev pub erased_under : State → List ℕ → State
@@ -37,6 +38,7 @@ pub record IsErasedUnder (before after : Dictionary) (q : List ℕ) (n : ℕ) : 
   pub marked : IsMarked after
   pub size : (after.size ≡ before.size) × (after.capacity ≡ before.capacity)
   pub max_trial : after.max_trial ≡ before.max_trial
+  pub search_limit : after.search_limit ≡ before.search_limit
 
 -- no key is held any more; the slots in use, those there are and the settings are as they were
 pub record IsCleared (before after : Dictionary) : Type 0 where
@@ -45,3 +47,4 @@ pub record IsCleared (before after : Dictionary) : Type 0 where
   pub ordered : after.state.ordered ≡ before.state.ordered
   pub size : (after.size ≡ before.size) × (after.capacity ≡ before.capacity)
   pub max_trial : after.max_trial ≡ before.max_trial
+  pub search_limit : after.search_limit ≡ before.search_limit

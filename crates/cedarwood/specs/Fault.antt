@@ -1,7 +1,9 @@
 -- What keeps a pair from being stored.
-use Rattle.std.specs.Prelude.{◌≡◌, ℕ, ◌&&◌, ◌==◌, pos, int_le, if◌then◌else◌, ℤ, List, [], ◌∷◌, Option, Some, None, position, option_map}
+use Rattle.std.specs.Prelude.{◌≡◌, ℕ, ◌&&◌, ◌==◌, pos, int_le, if◌then◌else◌, ℤ, List, [], ◌∷◌}
+use Rattle.std.specs.Prelude.{Option, Some, None, position, option_map}
 use Rattle.cedarwood.specs.declared.error.CedarError.{CedarError}
-use Rattle.cedarwood.specs.declared.error.CedarError.TheVariants.{EmptyKey, NulByte, InvalidValue, Memory, SlotLimit}
+use Rattle.cedarwood.specs.declared.error.CedarError.TheVariants.{EmptyKey, NulByte, InvalidValue}
+use Rattle.cedarwood.specs.declared.error.CedarError.TheVariants.{Memory, SlotLimit}
 
 -- the first 0 of a key
 abbrev pub key_fault : List ℕ → Option CedarError

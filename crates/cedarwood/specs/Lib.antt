@@ -1,3 +1,15 @@
+pub use Rattle.cedar_model.specs.Table.TableFields
+pub use Rattle.cedar_model.specs.Table.Layouts
+pub use Rattle.cedar_model.specs.Table.Cells
+pub use Rattle.cedar_model.specs.Meaning.WellFormed
+pub use Rattle.cedar_model.specs.Meaning.Marks
+pub use Rattle.cedar_format.specs.declared.header.Header
+pub use Rattle.cedar_format.specs.declared.error.CedarPersistenceError
+pub use Rattle.cedar_format.specs.Tables
+pub use Rattle.cedar_format.specs.Refusal
+pub use Rattle.cedar_format.specs.Reading
+pub use Rattle.cedar_format.specs.Format
+pub use Rattle.cedar_bulk.specs.Sorted
 pub use Rattle.cedar_tree.specs.Tree
 pub use Rattle.cedar_tree.specs.Queries
 pub use Rattle.cedar_tree.specs.State

@@ -1,4 +1,4 @@
--- What a load of a dictionary answers: of a table, as `cedar_file` says it, and what is a dictionary's own.
+-- What a load of a dictionary returns: of a table, as `cedar_file` says it, and what is a dictionary's own.
 use Rattle.std.specs.Prelude.{◌≡◌, ◌≤◌, ◌⊎◌, ℕ, Bool, List, None, Option, Result, Ok, IsErrAnd}
 use Rattle.std.specs.Result.{IsOkAnd}
 use Rattle.cedar_model.specs.Table.Layouts.{LayoutKind, layout_byte}

@@ -14,12 +14,13 @@ pub record IsOnTable (slots : ℕ) (d : Dictionary) : Type 0 where
   pub size : d.size ≡ size_of d.table
   pub capacity : d.capacity ≡ capacity_of d.table
 
--- the value of a dictionary over a table
-abbrev pub dictionary_of : Fields → Dictionary
-dictionary_of T = record {
+-- the value of a dictionary over a table, of which one search tries n blocks at most
+abbrev pub dictionary_of : ℕ → Fields → Dictionary
+dictionary_of n T = record {
   state = record { tree = tree_of T; ordered = T.ordered };
   marked = marks T;
   max_trial = T.places.blocks.max_trial;
+  search_limit = n;
   size = size_of T;
   capacity = capacity_of T;
   table = T;

@@ -1,5 +1,6 @@
--- Where walks over the entries of a range stand in a table.
-use Rattle.std.specs.Prelude.{◌≡◌, Bool, false, true, ℕ, List, [], ◌∷◌, ◌++◌, filter, map, MatchOption, None, Option, Some}
+-- How far walks over the entries of a range are in a table.
+use Rattle.std.specs.Prelude.{◌≡◌, Bool, false, true, ℕ, List, [], ◌∷◌, ◌++◌, filter, map}
+use Rattle.std.specs.Prelude.{MatchOption, None, Option, Some}
 use Rattle.std.specs.Cmp.Lexicographic.{slice_cmp}
 use Rattle.std.specs.Ordering.{is_ge, is_lt, nat_cmp}
 use Rattle.cedar_tree.specs.Tree.{Tree}
@@ -12,9 +13,9 @@ use Rattle.cedar_walk.specs.Visits.{IsNumberedBelow, left_at, path_to}
 use Rattle.cedar_walk.specs.Ranges.{behind_path, entries_since}
 
 -- the entries that a walk below the path `start` has left, whose first one is that of a node
-abbrev pub ranged : Fields → List ℕ → Option Numbered → List Entry
-ranged T start None = []
-ranged T start (Some next) =
+abbrev pub entries_left : Fields → List ℕ → Option Numbered → List Entry
+entries_left T start None = []
+entries_left T start (Some next) =
     (start ++ path_to T next.depth next.slot, next.number) ∷ map (behind_path start) (visited_entries (left_at T start next.depth next.slot))
 
 -- that node is there, and has a number
@@ -44,9 +45,9 @@ follows_end None w = false
 follows_end (Some to) w = is_ge (slice_cmp nat_cmp w to)
 
 -- what a walk below the path `start` has left that ends before the bound
-abbrev pub bounded : Fields → List ℕ → Option (List ℕ) → Option Numbered → List Entry
-bounded T start to next = filter (λ e. precedes_end to e.0) (ranged T start next)
+abbrev pub entries_left_before : Fields → List ℕ → Option (List ℕ) → Option Numbered → List Entry
+entries_left_before T start to next = filter (λ e. precedes_end to e.0) (entries_left T start next)
 
 -- the node where it ends: that of the first entry behind the end
 abbrev pub IsEnd : Fields → List ℕ → Option (List ℕ) → Option Numbered → Option Numbered → Type 0
-IsEnd T start to next end = filter (λ e. follows_end to e.0) (ranged T start next) ≡ ranged T start end
+IsEnd T start to next end = filter (λ e. follows_end to e.0) (entries_left T start next) ≡ entries_left T start end

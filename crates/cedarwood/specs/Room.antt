@@ -1,5 +1,5 @@
--- Why a dictionary has no room for more blocks.
-use Rattle.std.specs.Prelude.{ℕ, ◌+◌, ◌*◌, ◌<◌, ◌≤◌}
+-- Why a dictionary has no room for more blocks, and how many of them a search tries.
+use Rattle.std.specs.Prelude.{◌≡◌, ℕ, ◌+◌, ◌*◌, ◌<◌, ◌≤◌}
 use Rattle.cedarwood.specs.Dictionary.{Dictionary}
 use Rattle.cedarwood.specs.declared.error.CedarError.{CedarError}
 use Rattle.cedarwood.specs.declared.error.CedarError.TheVariants.{Memory, SlotLimit}
@@ -10,3 +10,7 @@ abbrev pub LacksRoom : ℕ → Dictionary → ℕ → CedarError → Type 0
 LacksRoom slots d n Memory = (d.capacity < d.size + 256 * n) × (d.size + 256 * n ≤ slots)
 LacksRoom slots d n SlotLimit = slots < d.size + 256 * n
 LacksRoom slots d n _ = ⊥
+
+-- one search tries n blocks at most, and all else is as before
+abbrev pub SetsSearchLimit : Dictionary → Dictionary → ℕ → Type 0
+SetsSearchLimit before after n = after ≡ record before { search_limit = n }

@@ -27,7 +27,7 @@ error_text (cedar.KeysNotSorted index) = codes "key at input index " ++ (decimal
 error_text cedar.Memory = codes "out of memory"
 error_text cedar.SlotLimit = codes "cedar trie has no slot left"
 
--- the place of a refused pair, and why it was refused
+-- the index of a refused pair, and why it was refused
 abbrev pub refused_pair_text : RefusedPair → List ℕ
 refused_pair_text refusal = codes "pair at input index " ++ (decimal refusal.index ++ (codes ": " ++ error_text refusal.error))
 

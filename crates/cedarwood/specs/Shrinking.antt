@@ -1,5 +1,7 @@
 -- A dictionary built anew of another one's entries, in as little room as these take.
-use Rattle.std.specs.Prelude.{◌≡◌, ◌≤◌, ◌<◌, ◌⊎◌, ◌+◌, ◌-◌, ◌*◌, ◌/◌, ℕ, ℤ, Bool, List, [], ◌∷◌, length, map, Option, Some, None, IfErr, IfSome, MatchResult, OnErr, OnOk, Result, Ok, Err}
+use Rattle.std.specs.Prelude.{◌≡◌, ◌≤◌, ◌<◌, ◌⊎◌, ◌+◌, ◌-◌, ◌*◌, ◌/◌, ℕ, ℤ, Bool, List, [], ◌∷◌}
+use Rattle.std.specs.Prelude.{length, map, Option, Some, None, IfErr, IfSome, MatchResult}
+use Rattle.std.specs.Prelude.{OnErr, OnOk, Result, Ok, Err}
 use Rattle.std.specs.List.{AllByRecursion}
 use Rattle.cedar_tree.specs.Tree.{Tree, empty_tree, put}
 use Rattle.cedar_tree.specs.Queries.{Entry, prefixes, walk}
@@ -31,7 +33,8 @@ pub record IsCompact (n : ℕ) (d : Dictionary) : Type 0 where
 pub record IsRebuilt (layout : LayoutKind) (before made : Dictionary) : Type 0 where
   pub state : made.state ≡ before.state
   pub max_trial : made.max_trial ≡ before.max_trial
-  -- where a number may stand in its node's own slot, just those of keys that begin longer ones have slots of their own; by default
+  pub search_limit : made.search_limit ≡ before.search_limit
+  -- where a number may be kept in its node's own slot, just those of keys that begin longer ones have slots of their own; by default
   -- all have
   pub marks : SortedMarks layout before.state.tree made.marked
   pub marked : IsMarked made
@@ -51,6 +54,7 @@ LacksPlaces slots entries e = (e ≡ Memory) ⊎ ((e ≡ SlotLimit) × (slots �
 pub record IsShrunk (layout : LayoutKind) (slots : ℕ) (before after : Dictionary) (result : Result (Unit {0}) CedarError) : Type 0 where
   pub state : after.state ≡ before.state
   pub max_trial : after.max_trial ≡ before.max_trial
+  pub search_limit : after.search_limit ≡ before.search_limit
   pub capacity : after.capacity ≤ before.capacity
   pub rebuilt : OnOk result ((made : Dictionary) × IsRebuilt layout before made × (made.capacity ≤ before.capacity → after ≡ made) × (before.capacity < made.capacity → after ≡ before))
   -- so there are no more slots than a rebuilt one of this tree may have
@@ -73,7 +77,7 @@ entry_of T place = (path_to T place.depth place.slot, place.number)
 abbrev pub IsEntryPlace : Fields → Numbered → Type 0
 IsEntryPlace T place = IsBelow (cells_in T) [] place.depth place.slot × (number_below T [] place.depth place.slot ≡ Some place.number)
 
--- some entries stand at these nodes
+-- some entries are at these nodes
 pub record ArePlaces (T : Fields) (entries : List Entry) (places : List Numbered) : Type 0 where
   pub same : entries ≡ map (entry_of T) places
   pub each : AllByRecursion (IsEntryPlace T) places
@@ -87,22 +91,23 @@ entries_after T None = []
 entries_after T (Some place) = entry_of T place ∷ visited_entries (left_at T [] place.depth place.slot)
 
 -- a dictionary with these settings into which some entries were put, from the last one to the first; it was empty, and of one block
-pub record IsPutBack (layout : LayoutKind) (order : Bool) (trials : ℤ) (entries : List Entry) (d : Dictionary) : Type 0 where
+pub record IsPutBack (layout : LayoutKind) (order : Bool) (trials : ℤ) (limit : ℕ) (entries : List Entry) (d : Dictionary) : Type 0 where
   pub state : d.state ≡ record { tree = put_back order empty_tree entries; ordered = order }
   pub max_trial : d.max_trial ≡ trials
+  pub search_limit : d.search_limit ≡ limit
   pub marks : SortedMarks layout d.state.tree d.marked
   pub marked : IsMarked d
   pub size : (n : ℕ) × (n ≤ key_bytes entries) × (d.size ≡ 256 + 256 * n) × (d.capacity ≡ capacity_after n 256 256)
   pub compact : IsCompact (length entries) d
 
 -- one with these settings is made of some entries, or lacks places for them
-abbrev pub IsMadeOf : LayoutKind → ℕ → Bool → ℤ → List Entry → Result Dictionary CedarError → Type 0
-IsMadeOf layout slots order trials entries made = MatchResult made (IsPutBack layout order trials entries) (LacksPlaces slots entries)
+abbrev pub IsMadeOf : LayoutKind → ℕ → Bool → ℤ → ℕ → List Entry → Result Dictionary CedarError → Type 0
+IsMadeOf layout slots order trials limit entries made = MatchResult made (IsPutBack layout order trials limit entries) (LacksPlaces slots entries)
 
 -- some entries are put into an empty one, or it lacks places for them
 abbrev pub PutsBack : LayoutKind → ℕ → Dictionary → Dictionary → List Entry → Result (Unit {0}) CedarError → Type 0
 PutsBack layout slots before after entries result =
-    MatchResult result (λ _. IsPutBack layout before.state.ordered before.max_trial entries after) (LacksPlaces slots entries)
+    MatchResult result (λ _. IsPutBack layout before.state.ordered before.max_trial before.search_limit entries after) (LacksPlaces slots entries)
 
 -- an entry is put by an update, or there was no memory for its key
 pub record PutsEntry (layout : LayoutKind) (slots : ℕ) (before after : Dictionary) (entry : Entry) (result : Result (Unit {0}) CedarError) : Type 0 where

@@ -1,5 +1,6 @@
--- Where walks that are under way stand in a table.
-use Rattle.std.specs.Prelude.{◌≡◌, ◌==◌, cond, ℕ, ◌<◌, ◌≤◌, ℤ, List, [], ◌∷◌, length, map, MatchOption, Option, Some}
+-- How far walks that are under way are in a table.
+use Rattle.std.specs.Prelude.{◌≡◌, ◌==◌, cond, ℕ, ◌<◌, ◌≤◌, ℤ, List, [], ◌∷◌, length}
+use Rattle.std.specs.Prelude.{map, MatchOption, Option, Some}
 use Rattle.cedar_tree.specs.Queries.{Entry, predict}
 use Rattle.cedar_tree.specs.Walks.{visited_entries}
 use Rattle.cedar_walk.specs.declared.pending.PendingSibling.{PendingSibling}
@@ -18,7 +19,7 @@ pub record IsPrefixPlace (slots : ℕ) (T : Fields) (query : List ℕ) (place s 
   pub within : place ≤ length query
   pub on : place < length query → IsOnQuery T query place s
 
--- the answers that a prediction gives for some entries below its query: their numbers, and how many bytes follow the query
+-- the items that a prediction gives for some entries below its query: their values, and how many bytes follow the query
 abbrev pub answers_of : List Entry → List (ℤ × ℕ)
 answers_of entries = map (λ entry. (entry.1, length entry.0)) entries
 
@@ -28,13 +29,13 @@ predicted_from T query Start = predict (tree_of T) query
 predicted_from T query (Node slot depth) = answers_of (visited_entries (left_at T query depth slot))
 predicted_from T query End = []
 
--- it stands at a node with a number below its query, and keeps siblings that are right for it
+-- it is at a node with a number below its query, and keeps siblings that are right for it
 abbrev pub IsPredictPlace : Fields → List ℕ → PredictPlace → List PendingSibling → Type 0
 IsPredictPlace T query Start siblings = Unit {0}
 IsPredictPlace T query (Node slot depth) siblings = IsNumberedBelow T query depth slot × IsPending T siblings depth slot
 IsPredictPlace T query End siblings = Unit {0}
 
--- from a place the walk comes to a node with a number: its answer is the first of those left
+-- from a place the walk comes to a node with a number: its item is the first of those left
 pub record GoesOnTo (T : Fields) (query : List ℕ) (place : PredictPlace) (siblings : List PendingSibling) (next : Numbered) : Type 0 where
   pub stands : IsPredictPlace T query (Node next.slot next.depth) siblings
   pub rest : predicted_from T query place ≡ (next.number, next.depth) ∷ predicted_from T query (Node next.slot next.depth)
@@ -44,7 +45,7 @@ pub record GoesOnTo (T : Fields) (query : List ℕ) (place : PredictPlace) (sibl
 abbrev pub entries_from : Fields → List ℕ → ℕ → ℕ → List Entry
 entries_from T key s left = cond (left == 0) [] (visited_entries (left_at T [] (length key) s))
 
--- it stands there as long as there are any: at the root, or at a node with a number
+-- it is there as long as there are any: at the root, or at a node with a number
 pub record IsEntriesPlace (T : Fields) (key : List ℕ) (s : ℕ) : Type 0 where
   pub below : IsBelow (cells_in T) [] (length key) s
   pub path : path_to T (length key) s ≡ key
@@ -60,7 +61,7 @@ abbrev pub GoesToEntry : Fields → ℕ → List ℕ → List ℕ → Option (�
 GoesToEntry T s before after next =
     MatchOption next (visited_entries (left_at T [] (length before) s) ≡ []) (ComesToEntry T (visited_entries (left_at T [] (length before) s)) after)
 
--- the same, with a copy of that key, whose bytes `bytes_of` tells
+-- the same, with a copy of that key, whose bytes `bytes_of` gives
 abbrev pub GoesToCopied : {X : Type 0} → (X → List ℕ) → Fields → ℕ → List ℕ → List ℕ → Option (ℕ × ℤ × X) → Type 0
 GoesToCopied bytes_of T s before after next =
     MatchOption next (visited_entries (left_at T [] (length before) s) ≡ [])

@@ -7,7 +7,7 @@ use Rattle.cedar_tree.specs.Queries.{Entry}
 use Rattle.cedarwood.specs.declared.queries.entries.EntryError.{EntryError}
 use Rattle.cedarwood.specs.declared.queries.entries.EntryError.TheVariants.{Memory, Utf8}
 
--- a prefix walk: the answers that it has left, how many bytes of its query it has still to look at, and how many the query has
+-- a prefix walk: the items that it has left, how many bytes of its query it has still to look at, and how many the query has
 pub record PrefixWalk : Type 0 where
   pub rest : List (ℤ × ℕ)
   pub left : ℕ
@@ -21,7 +21,7 @@ prefix_walk_code =
     (λ p. record { rest = p.0; left = p.1.0; query = p.1.1 })
     (λ _. refl)
 
--- a prefix walk with a count of its comparisons: the answers that it has left, the count, and how many bytes the query has
+-- a prefix walk with a count of its comparisons: the items that it has left, the count, and how many bytes the query has
 pub record CountedWalk : Type 0 where
   pub rest : List (ℤ × ℕ)
   pub ticks : ℕ

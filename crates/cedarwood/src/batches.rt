@@ -1,7 +1,8 @@
 //! Many keys changed in one call.
 
 ghost use Rattle.std.specs.Prelude.{◌++◌, ◌≡◌, drop, IfErr, length, OnOk, take};
-ghost use Rattle.cedarwood.specs.Words.{all_stored, entries_of, held_in_turn, IsErasures, IsUpdates, keys_erased, keys_of};
+ghost use Rattle.cedarwood.specs.Words.{all_stored, entries_of, held_in_turn, IsErasures};
+ghost use Rattle.cedarwood.specs.Words.{IsUpdates, keys_erased, keys_of};
 
 use crate::{CedarError, Layout, Trie};
 use std::alloc::Allocator;
@@ -47,8 +48,9 @@ impl<L: Layout, const SLOTS: usize, A: Allocator + Copy> Trie<L, SLOTS, A> {
         ensures stored { OnOk result (self.new.state ≡ all_stored self.old.state (entries_of pairs.now)) }
         ensures refused { IfErr result (λ refusal. self.new.state ≡ all_stored self.old.state (take refusal.index (entries_of pairs.now))) }
 
-        //= `max_trial` doesn't change.
+        //= `max_trial` and the search limit don't change. [with search_limit]
         ensures max_trial { self.new.max_trial ≡ self.old.max_trial }
+        ensures search_limit { self.new.search_limit ≡ self.old.search_limit }
     {
         for index in 0..pairs.len() {
             if index % LANES == 0 {
@@ -76,7 +78,7 @@ impl<L: Layout, const SLOTS: usize, A: Allocator + Copy> Trie<L, SLOTS, A> {
     }
 
     /// Removes some keys as [`Trie::erase_bytes`] does one after another: `answers[i]` becomes whether `keys[i]` was held then, for as many
-    /// keys as there are places. Keys without a place stay, and so do places after the last key. It allocates nothing.
+    /// keys as there are elements. Keys without an element aren't removed, and elements after the last key stay. It allocates nothing.
     ///
     /// If the table has more than [`CACHED_SLOTS`](crate::CACHED_SLOTS) slots, a few keys are looked up in step before they are removed, so
     /// that their waits for memory can overlap if the keys come in no order.
@@ -89,7 +91,7 @@ impl<L: Layout, const SLOTS: usize, A: Allocator + Copy> Trie<L, SLOTS, A> {
     /// assert_eq!(rt; answers, [true, false]);
     /// ```
     pub fn erase_batch(&mut self, keys: &[&[u8]], answers: &mut [bool])
-        //= `erase_batch` does as many erasures, one after another, for as many keys as there are places for results. [by IsErasures]
+        //= `erase_batch` does as many erasures, one after another, for as many keys as there are elements for results. [by IsErasures]
         ensures erasures { IsErasures self.old self.new (take (length answers.old) (keys_of keys.now)) (take (length keys.now) answers.new) }
 
         //= So each result is whether its key was held after the erasures before it. Places after the last key don't change. The tree is
@@ -97,9 +99,10 @@ impl<L: Layout, const SLOTS: usize, A: Allocator + Copy> Trie<L, SLOTS, A> {
         ensures answers { answers.new ≡ held_in_turn self.old.state (take (length answers.old) (keys_of keys.now)) ++ drop (length keys.now) answers.old }
         ensures after { self.new.state ≡ keys_erased self.old.state (take (length answers.old) (keys_of keys.now)) }
 
-        //= It doesn't change the slots in use, the slots that there are, and `max_trial`. [with max_trial]
+        //= It doesn't change the slots in use, the slots that there are, `max_trial`, and the search limit. [with max_trial, search_limit]
         ensures size { (self.new.size ≡ self.old.size) × (self.new.capacity ≡ self.old.capacity) }
         ensures max_trial { self.new.max_trial ≡ self.old.max_trial }
+        ensures search_limit { self.new.search_limit ≡ self.old.search_limit }
     {
         let count = keys.len().min(answers.len());
         // Nothing that an erasure does makes slots.

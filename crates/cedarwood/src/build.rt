@@ -1,7 +1,8 @@
 //! Many pairs stored at once.
 
 ghost use Rattle.std.specs.Prelude.{◌<◌, ◌≡◌, get_or, IfErr, IfSome, IsOk, IsSome, None, OnOk, ℕ};
-ghost use Rattle.cedarwood.specs.Words.{all_stored, AreBytes, entries_by, entries_of, fault, first_fault, IsBuild, IsRefusedBuild};
+ghost use Rattle.cedarwood.specs.Words.{all_stored, AreBytes, entries_by, entries_of, fault};
+ghost use Rattle.cedarwood.specs.Words.{first_fault, IsBuild, IsRefusedBuild};
 
 use crate::batches::LANES;
 use crate::pair::check_pair;
@@ -36,8 +37,9 @@ impl<L: Layout, const SLOTS: usize, A: Allocator + Copy> Trie<L, SLOTS, A> {
         ensures stored { OnOk result (self.new.state ≡ all_stored self.old.state (entries_of pairs.now)) }
         ensures refused { first_fault (entries_of pairs.now) ≡ None → IfErr result (IsRefusedBuild SLOTS self.old self.new (entries_of pairs.now)) }
 
-        //= `max_trial` doesn't change. [also build]
+        //= `max_trial` and the search limit don't change. [with search_limit; also build]
         ensures max_trial { self.new.max_trial ≡ self.old.max_trial }
+        ensures search_limit { self.new.search_limit ≡ self.old.search_limit }
     {
         self.store_all(pairs)
     }
@@ -58,6 +60,7 @@ impl<L: Layout, const SLOTS: usize, A: Allocator + Copy> Trie<L, SLOTS, A> {
         ensures stored { OnOk result (self.new.state ≡ all_stored self.old.state (entries_of pairs.now)) }
         ensures refused { first_fault (entries_of pairs.now) ≡ None → IfErr result (IsRefusedBuild SLOTS self.old self.new (entries_of pairs.now)) }
         ensures max_trial { self.new.max_trial ≡ self.old.max_trial }
+        ensures search_limit { self.new.search_limit ≡ self.old.search_limit }
     {
         self.store_all(pairs)
     }

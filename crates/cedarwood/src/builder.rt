@@ -8,8 +8,8 @@ use crate::sorted::check_sorted;
 use crate::trie::{Cedar, ReducedCedar, Trie};
 use std::alloc::Allocator;
 
-/// The settings with which a dictionary is made: whether the labels of each node ascend, and how many failed searches
-/// for a place close a block of slots.
+/// The settings with which a dictionary is made: whether the labels of each node ascend, how many failed searches for a place
+/// close a block of slots, and how many blocks one search tries at most.
 ///
 /// ```
 /// let builder = CedarBuilder::new().ordered(false).max_trial(3)?;
@@ -20,26 +20,31 @@ use std::alloc::Allocator;
 pub struct CedarBuilder {
     pub(crate) ordered: bool,
     pub(crate) max_trial: i32,
+    pub(crate) search_limit: usize,
     ghost tried: { pos 1 ≤ℤ max_trial },
 }
 
 impl CedarBuilder {
-    ghost use Rattle.cedarwood.specs.Words.{CedarFitsInMemory, default_layout, entries_of, IsNew, IsSortedBuild, most_slots, reduced_layout, ReducedFitsInMemory};
+    ghost use Rattle.cedarwood.specs.Words.{CedarFitsInMemory, default_layout, entries_of, IsNew};
+    ghost use Rattle.cedarwood.specs.Words.{IsSortedBuild, most_slots, no_search_limit};
+    ghost use Rattle.cedarwood.specs.Words.{reduced_layout, ReducedFitsInMemory};
 
-    /// Labels ascend, and one failed search closes a block.
+    /// Labels ascend, one failed search closes a block, and one search may try all blocks.
     ///
     /// ```
     /// let cedar = CedarBuilder::new().build(rt.alloc())?;
     /// ```
     pub fn new() -> Self
-        //= A builder has the settings that its calls name; by default labels ascend and one failed search closes a block. [with max_trial;
-        //  also ordered, max_trial, builder]
+        //= A builder has the settings that its calls name; by default labels ascend, one failed search closes a block, and one search may
+        //  try 2^64 - 1 blocks, so all. [with max_trial, search_limit; also ordered, max_trial, search_limit, builder]
         ensures ordered { result.ordered ≡ true }
         ensures max_trial { result.max_trial ≡ pos 1 }
+        ensures search_limit { result.search_limit ≡ no_search_limit }
     {
         CedarBuilder {
             ordered: true,
             max_trial: 1,
+            search_limit: usize::MAX,
         }
     }
 
@@ -53,10 +58,12 @@ impl CedarBuilder {
     pub fn ordered(self, ordered: bool) -> Self
         ensures ordered { result.ordered ≡ ordered }
         ensures max_trial { result.max_trial ≡ self.max_trial }
+        ensures search_limit { result.search_limit ≡ self.search_limit }
     {
         CedarBuilder {
             ordered,
             max_trial: self.max_trial,
+            search_limit: self.search_limit,
         }
     }
 
@@ -73,6 +80,7 @@ impl CedarBuilder {
     pub fn max_trial(self, max_trial: i32) -> Result<Self, CedarError>
         ensures ordered { IfOk result (λ builder. builder.ordered ≡ self.ordered) }
         ensures max_trial { IfOk result (λ builder. builder.max_trial ≡ max_trial) }
+        ensures search_limit { IfOk result (λ builder. builder.search_limit ≡ self.search_limit) }
 
         //= A `max_trial` is accepted exactly if it is 1 or more, and otherwise refused with an error that has it. [with tested]
         ensures refused { IfErr result (λ e. e ≡ CedarError.InvalidMaxTrial max_trial) }
@@ -84,7 +92,29 @@ impl CedarBuilder {
         Ok(CedarBuilder {
             ordered: self.ordered,
             max_trial,
+            search_limit: self.search_limit,
         })
+    }
+
+    /// Sets how many blocks one search for places tries at most, as [`Trie::set_search_limit`] does for a dictionary that exists. A build
+    /// from pairs isn't bounded by it, but what is stored later is.
+    ///
+    /// ```
+    /// let builder = CedarBuilder::new().search_limit(64);
+    /// let cedar = builder.build(rt.alloc())?;
+    /// assert_eq!(rt; cedar.search_limit(), 64);
+    /// ```
+    #[must_use]
+    pub fn search_limit(self, blocks: usize) -> Self
+        ensures ordered { result.ordered ≡ self.ordered }
+        ensures max_trial { result.max_trial ≡ self.max_trial }
+        ensures search_limit { result.search_limit ≡ blocks }
+    {
+        CedarBuilder {
+            ordered: self.ordered,
+            max_trial: self.max_trial,
+            search_limit: blocks,
+        }
     }
 
     /// An empty dictionary with these settings. It allocates from `alloc`.
@@ -99,7 +129,7 @@ impl CedarBuilder {
     /// `Memory` if an allocation was refused.
     pub fn build<A: Allocator + Copy>(self, alloc: A) -> Result<Cedar<A>, CedarError>
         //= A new dictionary is empty and unmarked, has these settings and 256 slots; making it fails only with `Memory`. [also with,
-        //  Trie::new, build_reduced; by IsNew, tree, unmarked, ordered, max_trial, size]
+        //  Trie::new, build_reduced; by IsNew, tree, unmarked, ordered, max_trial, search_limit, size]
         ensures made { IsNew self result }
 
         // For calls on it in a function that is generic in the allocator.
@@ -259,8 +289,10 @@ impl CedarBuilder {
 }
 
 impl Default for CedarBuilder {
+    ghost use Rattle.cedarwood.specs.Words.{no_search_limit};
+
     //= `default` returns the settings of `new`.
-    ghost is_default = { λ builder. (builder.ordered ≡ true) × (builder.max_trial ≡ pos 1) };
+    ghost is_default = { λ builder. (builder.ordered ≡ true) × (builder.max_trial ≡ pos 1) × (builder.search_limit ≡ no_search_limit) };
 
     fn default() -> Self {
         CedarBuilder::new()

@@ -20,6 +20,7 @@ impl<L: Layout, const SLOTS: usize, A: Allocator + Copy> Clone for Trie<L, SLOTS
     fn clone(&self) -> Result<Self, AllocError> {
         Ok(Trie {
             table: self.table.clone()?,
+            search_limit: self.search_limit,
         })
     }
 }

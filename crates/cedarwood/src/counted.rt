@@ -1,7 +1,9 @@
 //! Calls whose steps are counted, called with counts of their own that nothing reads.
 
-ghost use Rattle.std.specs.Prelude.{◌++◌, ◌≡◌, drop, IfSome, length, map, None, take, ℕ};
-ghost use Rattle.cedarwood.specs.Words.{exact, Fields, IsBlankOf, IsLimit, IsSound, keys_of, LayoutKind, LoadsBy, TellsBreaks, Tree, value_fault};
+ghost use Rattle.std.specs.Prelude.{◌++◌, ◌≡◌, drop, IfOk, IfSome, length, map, None, take, ℕ};
+ghost use Rattle.cedarwood.specs.Words.{exact, Fields, IsBlankOf, IsLimit, IsSound, keys_of};
+ghost use Rattle.cedarwood.specs.Words.{LayoutKind, LoadsBy, no_search_limit, TellsBreaks};
+ghost use Rattle.cedarwood.specs.Words.{Tree, value_fault};
 
 use crate::{CedarPersistenceError, Layout, Source, Ticks, Trie};
 use cedar_walk::exact_match_search_batch;
@@ -18,6 +20,8 @@ pub(crate) trait Counted<A: Allocator + Copy> {
     ghost tree: { Self → Tree };
 
     ghost table: { Self → Fields };
+
+    ghost search_limit: { Self → ℕ };
 
     /// The value at a key and the key's length.
     fn search<C: Ledger>(&self, key: &[u8], ticks: &mut Ticks<C>) -> Option<(i32, usize)>
@@ -44,7 +48,8 @@ pub(crate) trait Counted<A: Allocator + Copy> {
     ) -> Result<Self, CedarPersistenceError>
         requires { IsLimit slots }
         ensures loads { LoadsBy table kind slots memory_limit (S.remaining reader.old) (S.remaining reader.new) (S.failed reader.new) result }
-        ensures told { TellsBreaks (S.broken reader.old) (S.broken reader.new) result };
+        ensures told { TellsBreaks (S.broken reader.old) (S.broken reader.new) result }
+        ensures unbounded { IfOk result (λ loaded. search_limit loaded ≡ no_search_limit) };
 }
 
 impl<L: Layout, const SLOTS: usize, A: Allocator + Copy> Counted<A> for Trie<L, SLOTS, A> {
@@ -55,6 +60,8 @@ impl<L: Layout, const SLOTS: usize, A: Allocator + Copy> Counted<A> for Trie<L, 
     ghost tree = { λ trie. trie.state.tree };
 
     ghost table = { λ trie. trie.table };
+
+    ghost search_limit = { λ trie. trie.search_limit };
 
     fn search<C: Ledger>(&self, key: &[u8], ticks: &mut Ticks<C>) -> Option<(i32, usize)> {
         self.exact_match_search_counted(key, ticks)
@@ -120,6 +127,7 @@ pub(crate) fn load_uncounted<C: Ledger, D: Ledger, T: Counted<A>, A: Allocator +
     requires reads_blank { IsBlankOf D.name D.parts reads_blank }
     ensures loads { LoadsBy T.table T.kind T.slots memory_limit (S.remaining reader.old) (S.remaining reader.new) (S.failed reader.new) result }
     ensures told { TellsBreaks (S.broken reader.old) (S.broken reader.new) result }
+    ensures unbounded { IfOk result (λ loaded. T.search_limit loaded ≡ no_search_limit) }
 {
     let asked = &mut Ticks::<C>::new(asked_blank);
     let reads = &mut Ticks::<D>::new(reads_blank);

@@ -1,7 +1,8 @@
 //! Erasures of all keys that begin with a prefix, and of a key that was found.
 
-ghost use Rattle.std.specs.Prelude.{◌≡◌, false, MatchOption, None, true};
-ghost use Rattle.cedarwood.specs.Words.{dictionary_of, fields, IsCleared, IsErasedUnder, IsErasure, IsFound, IsWellFormed, number_at};
+ghost use Rattle.std.specs.Prelude.{◌≡◌, false, MatchOption, None, true, ℕ};
+ghost use Rattle.cedarwood.specs.Words.{dictionary_of, fields, IsCleared, IsErasedUnder, IsErasure};
+ghost use Rattle.cedarwood.specs.Words.{IsFound, IsWellFormed, number_at};
 
 use crate::{Layout, Trie};
 use cedar_edit::erase_at;
@@ -24,8 +25,8 @@ fn find_in<L: Layout, const SLOTS: usize, A: Allocator>(
     key: &[u8],
 ) -> Option<Found>
     requires { IsWellFormed SLOTS (fields table.now) }
-    ensures found { MatchOption result (number_at (dictionary_of (fields table.now)).state.tree key.now ≡ None) (IsFound (dictionary_of (fields table.now)) key.now) }
-    ensures absent { result ≡ None → IsErasure (dictionary_of (fields table.now)) (dictionary_of (fields table.now)) key.now false }
+    ensures found { (n : ℕ) → MatchOption result (number_at (dictionary_of n (fields table.now)).state.tree key.now ≡ None) (IsFound (dictionary_of n (fields table.now)) key.now) }
+    ensures absent { (n : ℕ) → result ≡ None → IsErasure (dictionary_of n (fields table.now)) (dictionary_of n (fields table.now)) key.now false }
 {
     let slot = table.node_of(key)?;
     match table.number_of(slot) {
@@ -41,9 +42,9 @@ fn erase_in<L: Layout, const SLOTS: usize, A: Allocator>(
     found: Found,
 )
     requires well_formed { IsWellFormed SLOTS (fields table.old) }
-    requires found { IsFound (dictionary_of (fields table.old)) key.now found }
+    requires found { IsFound (dictionary_of 0 (fields table.old)) key.now found }
     ensures well_formed { IsWellFormed SLOTS (fields table.new) }
-    ensures erased { IsErasure (dictionary_of (fields table.old)) (dictionary_of (fields table.new)) key.now true }
+    ensures erased { (n : ℕ) → IsErasure (dictionary_of n (fields table.old)) (dictionary_of n (fields table.new)) key.now true }
 {
     erase_at(table, found.slot);
 }
@@ -56,7 +57,7 @@ fn erase_under<L: Layout, const SLOTS: usize, A: Allocator>(
 ) -> usize
     requires { IsWellFormed SLOTS (fields table.old) }
     ensures well_formed { IsWellFormed SLOTS (fields table.new) }
-    ensures erased { IsErasedUnder (dictionary_of (fields table.old)) (dictionary_of (fields table.new)) prefix.now result }
+    ensures erased { (n : ℕ) → IsErasedUnder (dictionary_of n (fields table.old)) (dictionary_of n (fields table.new)) prefix.now result }
 {
     let before = table.entries();
     while let Some(found) = first_numbered(table, prefix) {
@@ -77,8 +78,8 @@ impl<L: Layout, const SLOTS: usize, A: Allocator> Trie<L, SLOTS, A> {
     pub fn erase_prefix_bytes(&mut self, prefix: &[u8]) -> usize
         //= `erase_prefix` returns how many entries begin with the prefix. State and walk are then those without these entries, and each
         //  other key holds what it held. [also erase_prefix; by count, state, others, gone, held]
-        //= It removes only the marks of their keys. It doesn't change the order, `max_trial`, the slots in use and the slots that there
-        //  are. [also erase_prefix; by ordered, marks, marked, size, max_trial]
+        //= It removes only the marks of their keys. It doesn't change the order, `max_trial`, the search limit, the slots in use and the
+        //  slots that there are. [also erase_prefix; by ordered, marks, marked, size, max_trial, search_limit]
         ensures erased { IsErasedUnder self.old self.new prefix.now result }
     {
         erase_under(&mut self.table, prefix)
@@ -106,8 +107,8 @@ impl<L: Layout, const SLOTS: usize, A: Allocator> Trie<L, SLOTS, A> {
     /// assert!(rt; cedar.is_empty());
     /// ```
     pub fn clear(&mut self)
-        //= `clear` leaves the empty tree without a mark. It doesn't change the order, `max_trial`, the slots in use and the slots that
-        //  there are. [by IsCleared]
+        //= `clear` leaves the empty tree without a mark. It doesn't change the order, `max_trial`, the search limit, the slots in use and the
+        //  slots that there are. [by IsCleared]
         ensures cleared { IsCleared self.old self.new }
     {
         erase_under(&mut self.table, &[]);

@@ -1,7 +1,7 @@
 //! Why a call on a dictionary is refused.
 
 ghost use Rattle.std.specs.Prelude.{◌≡◌};
-ghost use Rattle.cedarwood.specs.Words.{Memory, told};
+ghost use Rattle.cedarwood.specs.Words.{error_of_shortage, Memory};
 
 use cedar_slots::Shortage;
 use std::alloc::AllocError;
@@ -54,7 +54,7 @@ impl From<AllocError> for CedarError {
 
 impl From<Shortage> for CedarError {
     //= What a table lacked is reported as it is: memory as `Memory`, slots as `SlotLimit`.
-    ghost from_gives = { λ shortage error. error ≡ told shortage };
+    ghost from_gives = { λ shortage error. error ≡ error_of_shortage shortage };
 
     fn from(shortage: Shortage) -> CedarError {
         match shortage {

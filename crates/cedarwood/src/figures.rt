@@ -1,7 +1,7 @@
 //! The figures of a dictionary, and how it is printed.
 
 ghost use Rattle.std.specs.Prelude.{◌*◌, ◌+◌, ◌/◌, ◌≡◌, length, Some};
-ghost use Rattle.cedarwood.specs.Words.{default_layout, prefixes, shown_text, used, walk};
+ghost use Rattle.cedarwood.specs.Words.{default_layout, prefixes, shown_text, slots_of_tree, walk};
 
 use crate::{Layout, Trie};
 use std::alloc::Allocator;
@@ -49,7 +49,7 @@ impl<L: Layout, const SLOTS: usize, A: Allocator + Copy> Trie<L, SLOTS, A> {
         //= `memory_stats` returns these four figures. [with used, used_by_default, capacity, bytes]
         ensures entries { result.entries ≡ length (walk self.now.state.tree) }
         ensures used { result.used_node_slots ≡ 1 + length (prefixes self.now.state.tree) + length (walk self.now.marked) }
-        ensures used_by_default { L.kind ≡ default_layout → result.used_node_slots ≡ used self.now.state.tree }
+        ensures used_by_default { L.kind ≡ default_layout → result.used_node_slots ≡ slots_of_tree self.now.state.tree }
         ensures capacity { result.node_capacity ≡ self.now.capacity }
         ensures bytes { result.allocated_bytes ≡ 10 * self.now.capacity + 20 * (self.now.capacity / 256) + 514 }
     {

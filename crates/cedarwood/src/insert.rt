@@ -28,7 +28,7 @@ impl<L: Layout, const SLOTS: usize, A: Allocator + Copy> Trie<L, SLOTS, A> {
         ensures in_range { IfOk result (λ held. IfSome held (λ v. value_fault v ≡ None)) }
     {
         check_pair(key, value)?;
-        update(&mut self.table, key, value).map_err(CedarError::from)
+        update(&mut self.table, key, value, self.search_limit).map_err(CedarError::from)
     }
 
     /// `insert_bytes` for a text key.

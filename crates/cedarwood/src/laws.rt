@@ -1,7 +1,11 @@
 //! Laws of the dictionary's states and files.
 
-ghost use Rattle.std.specs.Prelude.{◌++◌, ◌-◌, ◌<◌, ◌↔◌, ◌≡◌, All, Contains, filter, IsTrue, length, List, map, nat_eq, true, ℕ};
-ghost use Rattle.cedarwood.specs.Words.{all_stored, AreSameFigures, asc, entries_since, entries_with, Entry, front, is_lt, IsAscending, LoadedFilesSaveAgain, nat_cmp, new_state, OwnFilesLoad, predict, slice_cmp, starts_with, Tree, walk};
+ghost use Rattle.std.specs.Prelude.{◌++◌, ◌-◌, ◌<◌, ◌↔◌, ◌≡◌, All, Contains, filter, IsTrue};
+ghost use Rattle.std.specs.Prelude.{length, List, map, nat_eq, true, ℕ};
+ghost use Rattle.cedarwood.specs.Words.{all_stored, AreSameFigures, asc, entries_since};
+ghost use Rattle.cedarwood.specs.Words.{entries_with, Entry, front, is_lt, IsAscending};
+ghost use Rattle.cedarwood.specs.Words.{LoadedFilesSaveAgain, nat_cmp, new_state, OwnFilesLoad};
+ghost use Rattle.cedarwood.specs.Words.{predict, slice_cmp, starts_with, Tree, walk};
 
 use crate::MemoryStats;
 

@@ -72,6 +72,9 @@ pub use trie::{Cedar, ReducedCedar, Trie};
 /// How many bytes a load may allocate, if no other limit is given.
 pub const DEFAULT_LOAD_MEMORY_LIMIT: usize = 536870912;
 
+/// The greatest limit of slots, 2^30, which is that of [`Cedar`] and [`ReducedCedar`].
+pub const MOST_SLOTS: usize = 1073741824;
+
 /// The least value that can be stored.
 pub const MIN_VALUE: i32 = 0;
 

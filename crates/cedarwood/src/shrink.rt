@@ -1,6 +1,9 @@
 //! A dictionary in as little room as its entries take.
 
-ghost use Rattle.cedarwood.specs.Words.{[], ArePlaces, entry_of, IfOk, IsEntryPlace, IsMadeOf, IsPutBack, IsRebuilt, IsShrunk, IsSlotLimit, IsWellFormed, LacksPlaces, map, MatchResult, PutsBack, PutsEntry, tree_of, walk};
+ghost use Rattle.cedarwood.specs.Words.{[], ArePlaces, entry_of, IfOk, IsEntryPlace, IsMadeOf};
+ghost use Rattle.cedarwood.specs.Words.{IsPutBack, IsRebuilt, IsShrunk, IsSlotLimit, IsWellFormed};
+ghost use Rattle.cedarwood.specs.Words.{LacksPlaces, map, MatchResult, PutsBack, PutsEntry};
+ghost use Rattle.cedarwood.specs.Words.{tree_of, walk};
 
 use crate::builder::CedarBuilder;
 use crate::queries::ranged::write_key;
@@ -58,12 +61,12 @@ impl<L: Layout, const SLOTS: usize, A: Allocator + Copy> Trie<L, SLOTS, A> {
     /// `Memory` if an allocation was refused, and `SlotLimit` if the limit of slots allows no further block of the new table. After an
     /// error nothing has changed.
     pub fn shrink_to_fit(&mut self) -> Result<(), CedarError>
-        //= `shrink_to_fit` doesn't change tree, order and `max_trial`, and never leaves more slots than there were. [by IsShrunk, state,
-        //  max_trial, capacity]
+        //= `shrink_to_fit` doesn't change tree, order, `max_trial` and the search limit, and never leaves more slots than there were. [by
+        //  IsShrunk, state, max_trial, search_limit, capacity]
         //= It replaces the present dictionary by a rebuilt one, unless that has more slots. A rebuilt one has at most one block for each
         //  byte of a key, beside the first one. [by rebuilt, IsRebuilt, size]
         //= Of a rebuilt one at most 255 slots outside the first block are free, and 256 others for each entry, but for one of those with
-        //  each first byte. So there are no more slots afterwards than so few blocks need, which the tree tells. [by slots, bounded,
+        //  each first byte. So there are no more slots afterwards than so few blocks need, which the tree decides. [by slots, bounded,
         //  most_capacity]
         //= In a rebuilt one of the reduced layout exactly the numbers of keys that begin longer ones have slots of their own. [by marks,
         //  SortedMarks]
@@ -71,7 +74,7 @@ impl<L: Layout, const SLOTS: usize, A: Allocator + Copy> Trie<L, SLOTS, A> {
         //  changed. [by refused, unchanged, LacksPlaces]
         ensures { IsShrunk L.kind SLOTS self.old self.new result }
     {
-        let made = self.rebuilt()?;
+        let made = self.rebuild()?;
         if self.node_capacity() < made.node_capacity() {
             return Ok(());
         }
@@ -80,7 +83,7 @@ impl<L: Layout, const SLOTS: usize, A: Allocator + Copy> Trie<L, SLOTS, A> {
     }
 
     /// The same dictionary in a new table, into which each entry was put.
-    fn rebuilt(&self) -> Result<Self, CedarError>
+    fn rebuild(&self) -> Result<Self, CedarError>
         ensures { MatchResult result (IsRebuilt L.kind self.now) (LacksPlaces SLOTS (walk self.now.state.tree)) }
     {
         let alloc = self.table.allocator();
@@ -88,6 +91,7 @@ impl<L: Layout, const SLOTS: usize, A: Allocator + Copy> Trie<L, SLOTS, A> {
         let builder = CedarBuilder {
             ordered: self.table.ordered(),
             max_trial: self.table.max_trial(),
+            search_limit: self.search_limit,
         };
         with_entries(alloc, builder, self, &places)
     }
@@ -102,7 +106,7 @@ impl<L: Layout, const SLOTS: usize, A: Allocator + Copy> Trie<L, SLOTS, A> {
     ) -> Result<(), CedarError>
         requires well_formed { IsWellFormed T.slots (T.shown from.now) }
         requires places { ArePlaces (T.shown from.now) (walk (tree_of (T.shown from.now))) places.now }
-        requires empty { IsPutBack L.kind self.old.state.ordered self.old.max_trial [] self.old }
+        requires empty { IsPutBack L.kind self.old.state.ordered self.old.max_trial self.old.search_limit [] self.old }
         ensures { PutsBack L.kind SLOTS self.old self.new (map (entry_of (T.shown from.now)) places.now) result }
     {
         let mut left = places.len();
@@ -124,7 +128,7 @@ fn with_entries<T: Walked, L: Layout, const SLOTS: usize, A: Allocator + Copy>(
     requires limit { IsSlotLimit SLOTS }
     requires well_formed { IsWellFormed T.slots (T.shown from.now) }
     requires places { ArePlaces (T.shown from.now) (walk (tree_of (T.shown from.now))) places.now }
-    ensures { IsMadeOf L.kind SLOTS builder.ordered builder.max_trial (walk (tree_of (T.shown from.now))) result }
+    ensures { IsMadeOf L.kind SLOTS builder.ordered builder.max_trial builder.search_limit (walk (tree_of (T.shown from.now))) result }
 {
     let mut made = Trie::with(alloc, builder)?;
     let mut key = Vec::new(alloc);

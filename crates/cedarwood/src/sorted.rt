@@ -1,7 +1,11 @@
 //! The test of a sorted input, and a dictionary made of one.
 
-ghost use Rattle.std.specs.Prelude.{◌<◌, ◌≡◌, ◌≢◌, ◌≤◌, [], get_or, IfSome, IsOk, IsTrue, length, None, OnOk, ℕ};
-ghost use Rattle.cedarwood.specs.Words.{AreBytes, entries_by, fault_behind, fault_from, fault_of_order, HasNoNul, IsInRange, IsLimit, IsSharedFront, IsSortedBuild, key_at, Less, nat_cmp, slice_cmp};
+ghost use Rattle.std.specs.Prelude.{◌<◌, ◌≡◌, ◌≢◌, ◌≤◌, [], get_or, IfSome, IsOk};
+ghost use Rattle.std.specs.Prelude.{IsTrue, length, None, OnOk, ℕ};
+ghost use Rattle.cedarwood.specs.Words.{AreBytes, entries_by, fault_behind, fault_from};
+ghost use Rattle.cedarwood.specs.Words.{fault_of_order, HasNoNul, IsInRange, IsLimit};
+ghost use Rattle.cedarwood.specs.Words.{IsSharedFront, IsSortedBuild, key_at, Less, nat_cmp};
+ghost use Rattle.cedarwood.specs.Words.{slice_cmp};
 
 use crate::builder::CedarBuilder;
 use crate::pair::check_pair;
@@ -82,7 +86,7 @@ fn shared_front(before: &[u8], key: &[u8]) -> usize
     shared
 }
 
-/// Whether no byte of a key is 0 from a place on. Mostly a few bytes are left, which are read without a loop.
+/// Whether no byte of a key is 0 from a position on. Mostly a few bytes are left, which are read without a loop.
 fn has_no_nul_from(key: &[u8], start: usize) -> bool
     requires { start < length key.now }
     ensures { IsTrue result → (i : ℕ) → start ≤ i → i < length key.now → get_or key.now i 0 ≢ 0 }
@@ -137,6 +141,7 @@ impl<L: Layout, const SLOTS: usize, A: Allocator + Copy> Trie<L, SLOTS, A> {
         check_sorted(pairs)?;
         Ok(Trie {
             table: build_sorted(alloc, builder.ordered, builder.max_trial, pairs)?,
+            search_limit: builder.search_limit,
         })
     }
 }

@@ -1,11 +1,17 @@
 //! The dictionary and its calls.
 
-ghost use Rattle.std.specs.Prelude.{◌+◌, ◌-◌, ◌/◌, ◌↔◌, ◌≡◌, ◌≤◌, [], IfOk, IfSome, IsSome, IsTrue, length, None, pos, true};
-ghost use Rattle.cedarwood.specs.Words.{CedarFitsInMemory, default_layout, default_settings, entries_of, erased, exact, IsLimit, IsMarked, IsNew, IsOnTable, IsRenewed, IsSortedBuild, IsSound, IsUpdate, IsValid, marks, MarksCut, most_slots, number_at, prefixes, reduced_layout, ReducedFitsInMemory, used, value_fault, walk};
+ghost use Rattle.std.specs.Prelude.{◌+◌, ◌-◌, ◌/◌, ◌↔◌, ◌≡◌, ◌≤◌, [], IfOk, IfSome, IsSome};
+ghost use Rattle.std.specs.Prelude.{IsTrue, length, None, pos, true};
+ghost use Rattle.cedarwood.specs.Words.{after_erase, CedarFitsInMemory, default_layout};
+ghost use Rattle.cedarwood.specs.Words.{default_settings, entries_of, exact, IsLimit, IsMarked};
+ghost use Rattle.cedarwood.specs.Words.{IsNew, IsOnTable, IsRenewed, IsSortedBuild, IsSound};
+ghost use Rattle.cedarwood.specs.Words.{IsUpdate, IsValid, marks, MarksCut, most_slots};
+ghost use Rattle.cedarwood.specs.Words.{no_search_limit, number_at, prefixes, reduced_layout};
+ghost use Rattle.cedarwood.specs.Words.{ReducedFitsInMemory, slots_of_tree, value_fault, walk};
 
 use crate::builder::CedarBuilder;
 use crate::counted::search_uncounted;
-use crate::{CedarError, DefaultLayout, Layout, ReducedLayout, Ticks};
+use crate::{CedarError, DefaultLayout, Layout, MOST_SLOTS, ReducedLayout, Ticks};
 use cedar_edit::erase;
 use cedar_table::Table;
 use std::alloc::Allocator;
@@ -16,22 +22,25 @@ use std::sync::ledger::{Blank, Ledger};
 /// power of two from 256 to 2^30).
 ///
 /// A contract sees its state, the labelled tree that its results come from and whether the labels of each node ascend; the tree with only
-/// those numbers that have slots of their own; how many failed searches close a block; how many slots are in use, and how many there are;
-/// and the table, which is what a file has of it.
+/// those numbers that have slots of their own; how many failed searches close a block, and how many blocks one search tries at most; how
+/// many slots are in use, and how many there are; and the table, which is what a file has of it.
 #[derive(Drop)]
 pub struct Trie<L: Layout, const SLOTS: usize, A: Allocator> {
     pub(crate) table: Table<L, SLOTS, A>,
+    /// How many open blocks one search for places tries at most. It isn't saved.
+    pub(crate) search_limit: usize,
 }
 
 /// The default dictionary: a value takes a slot of its own, and there may be 2^30 slots.
-pub type Cedar<A> = Trie<DefaultLayout, 1073741824, A>;
+pub type Cedar<A> = Trie<DefaultLayout, MOST_SLOTS, A>;
 
 /// The dictionary of the reduced layout: the value of a key is kept in its node's own slot, until a longer key goes through that node.
-pub type ReducedCedar<A> = Trie<ReducedLayout, 1073741824, A>;
+pub type ReducedCedar<A> = Trie<ReducedLayout, MOST_SLOTS, A>;
 
 impl<L: Layout, const SLOTS: usize, A: Allocator> Model for Trie<L, SLOTS, A> {
     // `Words` names the struct.
-    ghost use Rattle.cedar_table.specs.Words.{capacity_of, fields, IsWellFormed, marks, size_of, tree_of};
+    ghost use Rattle.cedar_table.specs.Words.{capacity_of, fields, IsWellFormed, marks};
+    ghost use Rattle.cedar_table.specs.Words.{size_of, tree_of};
     ghost use Rattle.cedarwood.specs.Dictionary.{Dictionary, dictionary_code};
 
     ghost Value = { Dictionary };
@@ -42,6 +51,7 @@ impl<L: Layout, const SLOTS: usize, A: Allocator> Model for Trie<L, SLOTS, A> {
       state = record { tree = tree_of (fields t.table); ordered = (fields t.table).ordered };
       marked = marks (fields t.table);
       max_trial = (fields t.table).places.blocks.max_trial;
+      search_limit = t.search_limit;
       size = size_of (fields t.table);
       capacity = capacity_of (fields t.table);
       table = fields t.table;
@@ -50,7 +60,7 @@ impl<L: Layout, const SLOTS: usize, A: Allocator> Model for Trie<L, SLOTS, A> {
     ghost invariant = { λ t. IsWellFormed SLOTS (fields t.table) };
 }
 
-impl<A: Allocator + Copy> Trie<DefaultLayout, 1073741824, A> {
+impl<A: Allocator + Copy> Trie<DefaultLayout, MOST_SLOTS, A> {
     /// An empty dictionary, whose labels ascend. It allocates from `alloc`.
     ///
     /// ```
@@ -92,7 +102,7 @@ impl<A: Allocator + Copy> Trie<DefaultLayout, 1073741824, A> {
         //  CedarBuilder::from_sorted_bytes_reduced, CedarBuilder::from_sorted_reduced; by tree, asc]
         //= Its settings are the builder's. It makes at most one block for each distinct nonempty prefix, beside the first. [also
         //  from_sorted, from_sorted_bytes_with, from_sorted_with, CedarBuilder::from_sorted_bytes, CedarBuilder::from_sorted,
-        //  CedarBuilder::from_sorted_bytes_reduced, CedarBuilder::from_sorted_reduced; by ordered, max_trial, size]
+        //  CedarBuilder::from_sorted_bytes_reduced, CedarBuilder::from_sorted_reduced; by ordered, max_trial, search_limit, size]
         //= At most 255 slots outside the first block are free, and 256 others for each node below the root that takes several slots: for
         //  several labels, or for a number and a label. [also
         //  from_sorted, from_sorted_bytes_with, from_sorted_with, CedarBuilder::from_sorted_bytes, CedarBuilder::from_sorted,
@@ -133,12 +143,13 @@ impl<A: Allocator + Copy> Trie<DefaultLayout, 1073741824, A> {
     pub fn builder() -> CedarBuilder
         ensures ordered { result.ordered ≡ true }
         ensures max_trial { result.max_trial ≡ pos 1 }
+        ensures search_limit { result.search_limit ≡ no_search_limit }
     {
         CedarBuilder::new()
     }
 }
 
-impl<A: Allocator + Copy> Trie<ReducedLayout, 1073741824, A> {
+impl<A: Allocator + Copy> Trie<ReducedLayout, MOST_SLOTS, A> {
     /// An empty dictionary of the reduced layout, whose labels ascend. It allocates from `alloc`.
     ///
     /// ```
@@ -196,6 +207,7 @@ impl<A: Allocator + Copy> Trie<ReducedLayout, 1073741824, A> {
     pub fn builder() -> CedarBuilder
         ensures ordered { result.ordered ≡ true }
         ensures max_trial { result.max_trial ≡ pos 1 }
+        ensures search_limit { result.search_limit ≡ no_search_limit }
     {
         CedarBuilder::default()
     }
@@ -217,6 +229,7 @@ impl<L: Layout, const SLOTS: usize, A: Allocator + Copy> Trie<L, SLOTS, A> {
     {
         Ok(Trie {
             table: Table::new(alloc, builder.ordered, builder.max_trial)?,
+            search_limit: builder.search_limit,
         })
     }
 
@@ -316,10 +329,11 @@ impl<L: Layout, const SLOTS: usize, A: Allocator + Copy> Trie<L, SLOTS, A> {
         //= One slot alone is taken wherever one is free outside the first block. So an update makes at most one block if another key has
         //  the first byte, and none otherwise; unless at most 255 slots outside the first block are free then, or none was before. [also
         //  update; by packs, PacksUpdate]
-        //= `max_trial` doesn't change. [also update, erase_bytes.max_trial, erase.max_trial; by max_trial]
+        //= `max_trial` and the search limit don't change. [also update, erase_bytes.max_trial.search_limit, erase.max_trial.search_limit; by
+        //  max_trial, search_limit]
         //= In the reduced layout an update of a new key marks its held proper prefixes, and the key if it is a prefix of a held one. What
         //  was marked stays marked. An update of a held key doesn't change the marks. [also update; by marks, MarksPut]
-        //= A refused update doesn't change the marks, and so not the used slots. [also update; by marks_stay, err]
+        //= A refused update doesn't change the marks, and so not the held slots. [also update; by marks_stay, err]
         ensures updated { IsUpdate L.kind SLOTS self.old self.new key.now value result }
     {
         match self.insert_bytes(key, value) {
@@ -351,7 +365,7 @@ impl<L: Layout, const SLOTS: usize, A: Allocator + Copy> Trie<L, SLOTS, A> {
     pub fn erase_bytes(&mut self, key: &[u8]) -> bool
         //= `erase_bytes` and `erase` return whether the key was held. The tree is then `cut` of the old one. [with after; also erase]
         ensures answer { IsTrue result ↔ IsSome (number_at self.old.state.tree key.now) }
-        ensures after { self.new.state ≡ erased self.old.state key.now }
+        ensures after { self.new.state ≡ after_erase self.old.state key.now }
 
         //= `erase_bytes` and `erase` don't change the slots in use and the slots that there are. They remove only the key's mark. [with
         //  size; also erase]
@@ -359,6 +373,7 @@ impl<L: Layout, const SLOTS: usize, A: Allocator + Copy> Trie<L, SLOTS, A> {
         ensures marked { IsMarked self.new }
         ensures size { (self.new.size ≡ self.old.size) × (self.new.capacity ≡ self.old.capacity) }
         ensures max_trial { self.new.max_trial ≡ self.old.max_trial }
+        ensures search_limit { self.new.search_limit ≡ self.old.search_limit }
     {
         erase(&mut self.table, key)
     }
@@ -372,11 +387,12 @@ impl<L: Layout, const SLOTS: usize, A: Allocator + Copy> Trie<L, SLOTS, A> {
     /// ```
     pub fn erase(&mut self, key: &str) -> bool
         ensures answer { IsTrue result ↔ IsSome (number_at self.old.state.tree key.now) }
-        ensures after { self.new.state ≡ erased self.old.state key.now }
+        ensures after { self.new.state ≡ after_erase self.old.state key.now }
         ensures marks { MarksCut self.old.marked self.new.marked key.now }
         ensures marked { IsMarked self.new }
         ensures size { (self.new.size ≡ self.old.size) × (self.new.capacity ≡ self.old.capacity) }
         ensures max_trial { self.new.max_trial ≡ self.old.max_trial }
+        ensures search_limit { self.new.search_limit ≡ self.old.search_limit }
     {
         self.erase_bytes(key.as_bytes())
     }
@@ -481,12 +497,12 @@ impl<L: Layout, const SLOTS: usize, A: Allocator + Copy> Trie<L, SLOTS, A> {
     /// ```
     #[must_use]
     pub fn used_node_slots(&self) -> usize
-        //= The used slots follow from tree and marks.
+        //= Tree and marks decide how many slots are held.
         //= `used_node_slots` returns one, plus the distinct nonempty prefixes of keys, plus the numbers that have slots of their own.
         ensures marked { result ≡ 1 + length (prefixes self.now.state.tree) + length (walk self.now.marked) }
 
         //= In the default layout it is one, plus the prefixes, plus the entries.
-        ensures by_default { L.kind ≡ default_layout → result ≡ used self.now.state.tree }
+        ensures by_default { L.kind ≡ default_layout → result ≡ slots_of_tree self.now.state.tree }
 
         //= In the default layout all numbers are marked. [also update_bytes.updated]
         ensures all_marked { L.kind ≡ default_layout → self.now.marked ≡ self.now.state.tree }
@@ -518,6 +534,21 @@ impl<L: Layout, const SLOTS: usize, A: Allocator + Copy> Trie<L, SLOTS, A> {
         ensures { result ≡ (self.now.capacity - self.now.size) / 256 }
     {
         self.table.spare_blocks()
+    }
+
+    /// Returns how many blocks of slots one search for places tries at most.
+    ///
+    /// ```
+    /// assert_eq!(rt; cedar.search_limit(), usize::MAX);
+    /// cedar.set_search_limit(64);
+    /// assert_eq!(rt; cedar.search_limit(), 64);
+    /// ```
+    #[must_use]
+    pub fn search_limit(&self) -> usize
+        //= `search_limit` returns how many blocks one search tries at most: what was set last.
+        ensures { result ≡ self.now.search_limit }
+    {
+        self.search_limit
     }
 
     /// Says that its table is well-formed, and that the state, the marks, the settings and the sizes that a contract sees of it are

@@ -1,11 +1,11 @@
 -- The register of a sum of two is the sum of their registers: so a byte may be taken at once.
-use Rattle.std.proofs.Common.{◌≡◌, inl, inr, ℕ, zero, suc, ◌+◌, ◌*◌, ◌/◌, ◌%◌, ◌^◌, ◌<◌, Bool, true, false, ◌&&◌, List, get_or, nat_eq, refl, sym, ◌∙◌, ap, arith}
+use Rattle.std.proofs.Common.{◌≡◌, inl, inr, ℕ, zero, suc, ◌*◌, ◌/◌, ◌%◌, ◌^◌, ◌<◌, Bool, true, ◌&&◌, nat_eq, refl, sym, ◌∙◌, ap, arith}
 use Rattle.std.specs.Prelude.{bit_xor, ◌==◌, cond}
 use Rattle.std.proofs.Math.Nat.{mul_assoc, pow-suc}
-use Rattle.std.specs.Int.Bits.{xor_assoc, xor_shifted, xor_zero_l, xor_zero_r}
+use Rattle.std.specs.Int.Bits.{xor_assoc, xor_shifted, xor_zero_r}
 use Rattle.std.proofs.lemmas.Nat.{xor_comm, xor_mod, xor_shr}
 use Rattle.std.proofs.lemmas.Bool.{and_parts, cases_eq, eqb-true}
-use Rattle.crc32c.specs.Sums.{after_bit, after_bits, after_byte, carried, generator}
+use Rattle.crc32c.specs.Sums.{after_bit, after_bits, after_byte, feedback, generator}
 
 -- ---- two registers at once
 
@@ -29,15 +29,15 @@ by_bits (suc (suc a)) b low high = absurd (omega (arith, low))
 by_bits zero (suc (suc b)) low high = absurd (omega (arith, high))
 by_bits (suc zero) (suc (suc b)) low high = absurd (omega (arith, high))
 
-carried_both : (a b : ℕ) → carried (bit_xor a b) ≡ bit_xor (carried a) (carried b)
-unfolding carried
+carried_both : (a b : ℕ) → feedback (bit_xor a b) ≡ bit_xor (feedback a) (feedback b)
+unfolding feedback
 carried_both a b = ap by_bit (xor_mod a b 1) ∙ by_bits (a % 2) (b % 2) (omega arith) (omega arith)
 
 bit_of_both : (a b : ℕ) → after_bit (bit_xor a b) ≡ bit_xor (after_bit a) (after_bit b)
 unfolding after_bit
 bit_of_both a b =
     (λ i. bit_xor (xor_shr a b 1 i) (carried_both a b i))
-    ∙ swapped (a / 2) (b / 2) (carried a) (carried b)
+    ∙ swapped (a / 2) (b / 2) (feedback a) (feedback b)
 
 pub bits_of_both : (n a b : ℕ) → after_bits n (bit_xor a b) ≡ bit_xor (after_bits n a) (after_bits n b)
 unfolding after_bits
@@ -47,7 +47,7 @@ bits_of_both (suc n) a b = ap (after_bits n) (bit_of_both a b) ∙ bits_of_both 
 -- ---- what has left nothing yet
 
 even_bit : (m : ℕ) → after_bit (m * 2) ≡ m
-unfolding after_bit carried
+unfolding after_bit feedback
 even_bit m =
     let half : m * 2 / 2 ≡ m = omega arith in
     let even : m * 2 % 2 ≡ 0 = omega arith in

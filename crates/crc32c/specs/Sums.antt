@@ -7,12 +7,12 @@ abbrev pub generator : ℕ
 generator = 0x82f63b78
 
 -- what is added where the bit that leaves the register is set
-unfoldable pub carried : ℕ → ℕ
-carried register = cond (register % 2 == 1) generator 0
+unfoldable pub feedback : ℕ → ℕ
+feedback register = cond (register % 2 == 1) generator 0
 
 -- the register after one bit more
 unfoldable pub after_bit : ℕ → ℕ
-after_bit register = bit_xor (register / 2) (carried register)
+after_bit register = bit_xor (register / 2) (feedback register)
 
 -- and after n bits
 unfoldable pub after_bits : ℕ → ℕ → ℕ

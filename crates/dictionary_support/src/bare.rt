@@ -3,13 +3,13 @@
 ghost use Rattle.cedarwood.specs.Words.{IsSlotLimit};
 
 use cedar_words::LongestPrefix;
-use cedarwood::{CedarBuilder, CedarError, CedarPersistenceError, Layout, Trie};
+use cedarwood::{CedarBuilder, CedarError, CedarPersistenceError, Layout, MOST_SLOTS, Trie};
 use plain_tree::PlainTree;
 use std::alloc::{AllocError, Allocator, Global};
 use std::rt::Files;
 
 /// A dictionary of 2^30 slots at most, over an allocator that refuses or not.
-pub type Full<L, A> = Trie<L, 1073741824, A>;
+pub type Full<L, A> = Trie<L, MOST_SLOTS, A>;
 
 /// Makes a dictionary without a key.
 pub fn make<L: Layout, const SLOTS: usize, A: Allocator + Copy>(
@@ -98,7 +98,7 @@ pub fn find<L: Layout, const SLOTS: usize, A: Allocator + Copy>(
     trie.exact_match_search_bytes(key)
 }
 
-/// Returns how many keys are held, and how many slots used.
+/// Returns how many keys are held, and how many slots.
 pub fn counts<L: Layout, const SLOTS: usize, A: Allocator + Copy>(
     trie: &Trie<L, SLOTS, A>,
 ) -> (usize, usize) {

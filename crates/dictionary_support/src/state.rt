@@ -4,7 +4,7 @@ ghost use Rattle.cedarwood.specs.Words.{IsSlotLimit};
 use cedarwood::{CedarPersistenceError, Layout, Source, Trie, Watched};
 use std::alloc::{AllocError, Allocator, Global};
 
-/// The keys' values in the order of the walk, each with its key's length, and how many slots are used. The values are
+/// The keys' values in the order of the walk, each with its key's length, and how many slots are held. The values are
 /// distinct in each test, so they show which keys are held.
 #[derive(Debug, PartialEq, Eq, Drop)]
 pub struct State {

@@ -143,7 +143,7 @@ fn agree<L: Layout>(alloc: Global, both: &Beside<L>) -> Result<bool, AllocError>
 // Returns whether each number has a slot of its own, or in the reduced layout so many as its nodes leave open.
 fn fits<L: Layout>(alloc: Global, both: &Beside<L>) -> Result<bool, AllocError> {
     let used = both.trie.used_node_slots();
-    let most = both.tree.used(alloc)?;
+    let most = both.tree.slot_count(alloc)?;
     if !L::keeps_numbers() {
         return Ok(used == most);
     }
@@ -204,7 +204,10 @@ fn erase_all<L: Layout>(
 }
 
 #[tactic(auto, using(cedarwood::proofs::DictionaryLemmas::default_limit))]
-fn built<L: Layout>(alloc: Global, builder: CedarBuilder) -> Result<Full<L, Global>, CedarError> {
+fn build_new<L: Layout>(
+    alloc: Global,
+    builder: CedarBuilder,
+) -> Result<Full<L, Global>, CedarError> {
     Trie::with(alloc, builder)
 }
 
@@ -213,7 +216,7 @@ fn begin<L: Layout>(alloc: Global, plan: Plan) -> Result<Beside<L>, Fail> {
         .ordered(plan.ordered)
         .max_trial(plan.max_trial)?;
     Ok(Beside {
-        trie: built(alloc, builder)?,
+        trie: build_new(alloc, builder)?,
         tree: PlainTree::new(alloc),
         seed: 7,
     })

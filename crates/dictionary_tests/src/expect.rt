@@ -4,7 +4,7 @@ use cedarwood::{Layout, Trie};
 use std::alloc::Allocator;
 use std::process::Abort;
 
-/// Expects this many keys to be held, and this many slots used.
+/// Expects this many keys and this many slots to be held.
 pub(crate) fn expect_counts<L: Layout, const SLOTS: usize, A: Allocator + Copy>(
     rt: &impl Abort,
     trie: &Trie<L, SLOTS, A>,

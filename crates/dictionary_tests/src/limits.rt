@@ -151,7 +151,7 @@ fn call<L: Layout, const SLOTS: usize>(
 }
 
 // Returns how many slots the keys take: one for the root, one for each node, and those of the numbers.
-fn used_slots<L: Layout, const SLOTS: usize>(
+fn held_slots<L: Layout, const SLOTS: usize>(
     alloc: Global,
     both: &Beside<L, SLOTS>,
     keys: usize,
@@ -172,7 +172,7 @@ fn hold_same<L: Layout, const SLOTS: usize>(
 ) -> Result<bool, AllocError> {
     let state = state_of(alloc, &both.trie)?;
     let held = both.tree.predict(alloc, b"")?;
-    let used = used_slots(alloc, both, state.len)?;
+    let used = held_slots(alloc, both, state.len)?;
     Ok(state.len == held.len() && state.used == used && state.held == held)
 }
 
@@ -247,6 +247,6 @@ fn by_default(rt: HostRuntime) -> Result<(), Fail> {
 }
 
 #[test]
-fn reduced(rt: HostRuntime) -> Result<(), Fail> {
+fn reduced_layout(rt: HostRuntime) -> Result<(), Fail> {
     run_each::<ReducedLayout>(&rt, rt.alloc())
 }

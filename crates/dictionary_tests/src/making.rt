@@ -1,7 +1,7 @@
 //! Dictionaries that are made, new ones and from sorted pairs, each allocation refused in turn.
 ghost use Rattle.cedarwood.specs.Words.{IsSlotLimit};
 
-use cedarwood::{CedarError, DefaultLayout, Layout, ReducedLayout, Trie};
+use cedarwood::{CedarError, DefaultLayout, Layout, MOST_SLOTS, ReducedLayout, Trie};
 use dictionary_support::bare::{Full, counts, make, of_sorted, of_sorted_texts};
 use dictionary_support::state::loads_again;
 use std::alloc::{Allocator, Global};
@@ -63,7 +63,7 @@ fn is_refused<L: Layout>(
 ) -> Result<bool, Fail> {
     let memory = Refusing::new(alloc);
     memory.refuse(request, request);
-    let outcome = count_made(begin::<L, 1073741824, &Refusing<Global>>(&memory, what, ordered));
+    let outcome = count_made(begin::<L, MOST_SLOTS, &Refusing<Global>>(&memory, what, ordered));
     let is_refused = memory.requests() >= request;
     memory.refuse_none();
     let trie: Full<L, &Refusing<Global>> = begin(&memory, what, ordered)?;

@@ -1,6 +1,8 @@
 //! Loads that lack memory, by readers that give a byte a read and that fail.
 
-use cedarwood::{CedarPersistenceError, DefaultLayout, Layout, ReducedLayout, Trie, Watched};
+use cedarwood::{
+    CedarPersistenceError, DefaultLayout, Layout, MOST_SLOTS, ReducedLayout, Trie, Watched,
+};
 use dictionary_support::bare::{build, empty};
 use dictionary_support::state::{load_bytes, save_bytes, saves};
 use dictionary_support::verdict::{Answer, LOADS, Verdict, refusal};
@@ -49,7 +51,7 @@ fn load<L: Layout>(
     let memory = Refusing::new(alloc);
     memory.refuse(request, request);
     let mut reader = Watched::new(FailingReader::new(file, comes, 1, ending));
-    let answer: Loading<'_, L, 1073741824> = load_bytes(&memory, &mut reader);
+    let answer: Loading<'_, L, MOST_SLOTS> = load_bytes(&memory, &mut reader);
     let requests = memory.requests();
     compare(alloc, file, answer, requests)
 }

@@ -276,7 +276,7 @@ fn expect_short_save(rt: &impl Abort, alloc: Global, minor: u8) -> Result<(), Fa
     Ok(())
 }
 
-// Without memory a fault is told that comes before the buffer, and not one that would come after it.
+// Without memory a fault is reported that comes before the buffer, and not one that would come after it.
 fn expect_first(rt: &impl Abort, alloc: Global) -> Result<(), Fail> {
     for plan in [CLOSED, HIDDEN] {
         let (answer, _) = save(alloc, 1, plan, 1)?;

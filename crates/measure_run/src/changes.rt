@@ -1,6 +1,6 @@
 //! Updates, erasures and builds.
 
-use crate::filled;
+use crate::fill;
 use crate::plan::{Answered, Plan};
 use crate::workload::Workload;
 use anyhow::Result;
@@ -37,7 +37,7 @@ fn put(
 fn erase(rt: &HostRuntime, alloc: Global, plan: &Plan, work: &Workload<'_>) -> Result<()> {
     let operations = work.erasures.len();
     for _ in 0..plan.passes_of("erase") {
-        let mut cedar = filled(alloc, &work.shuffled)?;
+        let mut cedar = fill(alloc, &work.shuffled)?;
         let watch = plan.start(rt)?;
         let sum = measured_erasures(&mut cedar, &work.erasures);
         watch.print(rt, "erase", Answered { operations, sum })?;
@@ -66,7 +66,7 @@ fn erase_together(rt: &HostRuntime, alloc: Global, plan: &Plan, work: &Workload<
     let operations = work.erasures.len();
     let mut answers = vec![in alloc; false; operations]?;
     for _ in 0..plan.passes_of("erase_all") {
-        let mut cedar = filled(alloc, &work.shuffled)?;
+        let mut cedar = fill(alloc, &work.shuffled)?;
         let watch = plan.start(rt)?;
         let sum = measured_erasure_of_all(&mut cedar, &work.erasures, &mut answers);
         watch.print(rt, "erase_all", Answered { operations, sum })?;

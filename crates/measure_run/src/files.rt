@@ -1,6 +1,6 @@
 //! Files, and sizes of files and of memory.
 
-use crate::filled;
+use crate::fill;
 use crate::plan::{Answered, Plan, print_amount};
 use crate::workload::Workload;
 use anyhow::{Context, Result};
@@ -11,7 +11,7 @@ use std::fs;
 /// How many bytes a page of memory has.
 const PAGE: u64 = 4096;
 
-/// Measures saves and loads that are wanted, and tells the file's size.
+/// Measures saves and loads that are wanted, and prints the file's size.
 pub(crate) fn all(
     rt: &HostRuntime,
     alloc: Global,
@@ -46,7 +46,7 @@ pub(crate) fn all(
 /// Tells by how much the process grows that stores the keys, in sorted order.
 pub(crate) fn resident(rt: &HostRuntime, alloc: Global, work: &Workload<'_>) -> Result<()> {
     let before = resident_bytes(rt)?;
-    let _cedar = filled(alloc, &work.sorted)?;
+    let _cedar = fill(alloc, &work.sorted)?;
     let grown = resident_bytes(rt)?.saturating_sub(before);
     print_amount(rt, "resident", grown, work.sorted.len())
 }

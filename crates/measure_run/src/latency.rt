@@ -7,7 +7,7 @@ use cedarwood::Cedar;
 use std::alloc::Global;
 use std::time::{CpuClock, Duration, Instant};
 
-/// Which times are told: so many of a million updates take longer.
+/// Which times are printed: so many of a million updates take longer.
 const LEVELS: [(&str, usize); 6] = [
     ("latency_50", 500_000),
     ("latency_90", 100_000),
@@ -17,7 +17,7 @@ const LEVELS: [(&str, usize); 6] = [
     ("latency_most", 0),
 ];
 
-/// Times each update by itself, and tells which times so many updates exceed. A level that less than one update lies above isn't told.
+/// Times each update by itself, and prints which times so many updates exceed. A level that less than one update lies above isn't printed.
 pub(crate) fn all(rt: &HostRuntime, alloc: Global, work: &Workload<'_>) -> Result<()> {
     let mut times = times_of(rt, alloc, &work.shuffled)?;
     times.sort_unstable();

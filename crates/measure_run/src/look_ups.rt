@@ -1,6 +1,6 @@
 //! Exact look-ups, one by one and many in a call.
 
-use crate::plan::{Answered, Plan, counted};
+use crate::plan::{Answered, Plan, count_of};
 use crate::workload::Workload;
 use anyhow::{Result, ensure};
 use cedarwood::Cedar;
@@ -9,7 +9,7 @@ use std::alloc::Global;
 /// How many keys a call of many look-ups has.
 const TOGETHER: usize = 256;
 
-/// Measures the look-ups that are wanted. Each is made once before, one by one, and has to answer the same again.
+/// Measures the look-ups that are wanted. Each is made once before, one by one, and has to return the same again.
 pub(crate) fn all(
     rt: &HostRuntime,
     alloc: Global,
@@ -76,7 +76,7 @@ fn measured_look_ups(cedar: &Cedar<Global>, keys: &[&[u8]]) -> u64 {
     look_up(cedar, keys)
 }
 
-/// Looks keys up. A found one adds its place in the list, from 1, times one more than its value.
+/// Looks keys up. A found one adds its number in the list, from 1, times one more than its value.
 #[inline]
 fn look_up(cedar: &Cedar<Global>, keys: &[&[u8]]) -> u64 {
     let mut sum: u64 = 0;
@@ -84,7 +84,7 @@ fn look_up(cedar: &Cedar<Global>, keys: &[&[u8]]) -> u64 {
     for key in keys {
         line = line.wrapping_add(1);
         if let Some((value, _)) = cedar.exact_match_search_bytes(key) {
-            sum = sum.wrapping_add(line.wrapping_mul(counted(value)));
+            sum = sum.wrapping_add(line.wrapping_mul(count_of(value)));
         }
     }
     sum
@@ -104,7 +104,7 @@ fn measured_batches(
         for (_, answer) in part.iter().zip(answers.iter()) {
             line = line.wrapping_add(1);
             if let Some((value, _)) = answer {
-                sum = sum.wrapping_add(line.wrapping_mul(counted(*value)));
+                sum = sum.wrapping_add(line.wrapping_mul(count_of(*value)));
             }
         }
     }

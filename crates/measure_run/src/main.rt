@@ -3,7 +3,7 @@
 //! each measure a line `measure TAB nanoseconds TAB operations TAB sum`. With 0 passes each measure is made once and no clock is read: its
 //! nanoseconds are 0.
 //!
-//! What is timed stands in a function whose name begins with `measured`, and nothing else does: callgrind counts these functions alone.
+//! What is timed is in a function whose name begins with `measured`, and nothing else is: callgrind counts these functions alone.
 #![tactic(auto)]
 
 mod changes;
@@ -40,7 +40,7 @@ fn run(rt: &HostRuntime, plan: &Plan, work: &Workload<'_>) -> Result<()> {
     if plan.wants("resident") {
         files::resident(rt, alloc, work)?;
     }
-    let cedar = filled(alloc, &work.sorted)?;
+    let cedar = fill(alloc, &work.sorted)?;
     look_ups::all(rt, alloc, plan, &cedar, work)?;
     walks::all(rt, plan, &cedar, work)?;
     changes::all(rt, alloc, plan, work)?;
@@ -52,7 +52,7 @@ fn run(rt: &HostRuntime, plan: &Plan, work: &Workload<'_>) -> Result<()> {
 }
 
 /// Returns a dictionary in which pairs were stored one after another.
-fn filled(alloc: Global, pairs: &[(&[u8], i32)]) -> Result<Cedar<Global>> {
+fn fill(alloc: Global, pairs: &[(&[u8], i32)]) -> Result<Cedar<Global>> {
     let mut cedar = Cedar::new(alloc)?;
     for (key, value) in pairs {
         cedar.update_bytes(key, *value)?;

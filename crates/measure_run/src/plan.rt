@@ -1,4 +1,4 @@
-//! What is measured, how often, and how it is timed and told.
+//! What is measured, how often, and how it is timed and printed.
 
 use anyhow::Result;
 use std::time::{CpuClock, Duration};
@@ -47,7 +47,7 @@ pub(crate) struct Watch {
     begun: Option<Duration>,
 }
 
-/// What a measure has answered: of how many operations, and the sum.
+/// What a measure has returned: of how many operations, and the sum.
 #[derive(Clone, Copy)]
 pub(crate) struct Answered {
     pub(crate) operations: usize,
@@ -85,6 +85,6 @@ pub(crate) fn print_amount(
 }
 
 /// Returns one more than a value, as a number that sums are made of.
-pub(crate) fn counted(value: i32) -> u64 {
+pub(crate) fn count_of(value: i32) -> u64 {
     u64::from(value.cast_unsigned()).wrapping_add(1)
 }

@@ -1,6 +1,6 @@
 //! Walks over what a dictionary holds, and over texts.
 
-use crate::plan::{Answered, Plan, counted};
+use crate::plan::{Answered, Plan, count_of};
 use crate::workload::Workload;
 use anyhow::Result;
 use cedar_words::{matches, segment};
@@ -76,7 +76,7 @@ fn measured_prefixes(cedar: &Cedar<Global>, text: &[u8]) -> Answered {
             };
             let length = (last as u64).wrapping_add(1);
             sum = sum.wrapping_add(
-                counted(value)
+                count_of(value)
                     .wrapping_mul(length)
                     .wrapping_add(place as u64),
             );
@@ -85,7 +85,7 @@ fn measured_prefixes(cedar: &Cedar<Global>, text: &[u8]) -> Answered {
     Answered { operations, sum }
 }
 
-/// All keys that begin with each of some prefixes. A result is told with how many bytes it has behind the prefix.
+/// All keys that begin with each of some prefixes. A result comes with how many bytes it has behind the prefix.
 #[inline(never)]
 fn measured_predictions(cedar: &Cedar<Global>, prefixes: &[&[u8]]) -> Answered {
     let mut sum: u64 = 0;
@@ -96,7 +96,7 @@ fn measured_predictions(cedar: &Cedar<Global>, prefixes: &[&[u8]]) -> Answered {
         for (value, behind) in cedar.common_prefix_predict_iter_bytes(prefix) {
             operations = operations.wrapping_add(1);
             let length = (prefix.len() as u64).wrapping_add(behind as u64);
-            sum = sum.wrapping_add(counted(value).wrapping_mul(length).wrapping_add(line));
+            sum = sum.wrapping_add(count_of(value).wrapping_mul(length).wrapping_add(line));
         }
     }
     Answered { operations, sum }
@@ -133,7 +133,7 @@ fn measured_cursor(cedar: &Cedar<Global>) -> Result<Answered, CedarError> {
 #[inline(always)]
 fn of_entry(key: &[u8], value: i32) -> u64 {
     let last = key.last().copied().unwrap_or(0);
-    counted(value)
+    count_of(value)
         .wrapping_mul(key.len() as u64)
         .wrapping_add(u64::from(last))
 }
@@ -142,7 +142,7 @@ fn of_entry(key: &[u8], value: i32) -> u64 {
 fn measured_matches(cedar: &Cedar<Global>, text: &[u8]) -> u64 {
     let mut sum: u64 = 0;
     for (start, length, value) in matches(cedar, text) {
-        let found = counted(value).wrapping_mul(length as u64);
+        let found = count_of(value).wrapping_mul(length as u64);
         sum = sum.wrapping_add(found.wrapping_add(start as u64));
     }
     sum
@@ -153,7 +153,7 @@ fn measured_tokens(cedar: &Cedar<Global>, text: &[u8]) -> u64 {
     let mut sum: u64 = 0;
     for (start, length, value) in segment(cedar, text) {
         let found = match value {
-            Some(value) => counted(value).wrapping_mul(length as u64),
+            Some(value) => count_of(value).wrapping_mul(length as u64),
             None => 0,
         };
         sum = sum.wrapping_add(found.wrapping_add(start as u64));

@@ -100,7 +100,7 @@ fn keys_of(alloc: Global, file: &[u8]) -> Result<Vec<&[u8]>> {
     Ok(keys)
 }
 
-/// Returns keys with their places as values.
+/// Returns keys with their indexes as values.
 fn sorted_pairs<'a>(alloc: Global, keys: &[&'a [u8]]) -> Result<Vec<(&'a [u8], i32)>> {
     let mut pairs = Vec::with_capacity(alloc, keys.len())?;
     let mut value: i32 = 0;

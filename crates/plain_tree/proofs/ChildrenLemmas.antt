@@ -9,7 +9,7 @@ use Rattle.cedar_tree.specs.Tree.{Forest, none, child, Tree, empty_tree, has_lab
 use Rattle.plain_tree.specs.Children.{forest_of, place_of}
 use Rattle.cedar_tree.proofs.GeneralLemmas.{position-None}
 
--- the first child with this label stands at this place
+-- the first child with this label is at this place
 abbrev pub IsPlace : List (ℕ × Tree) → ℕ → ℕ → Type 0
 IsPlace [] i l = ⊥
 IsPlace (c ∷ cs) zero l = (c.0 == l) ≡ true
@@ -42,7 +42,7 @@ place_lt [] i l p = absurd p
 place_lt (c ∷ cs) zero l p = omega arith
 place_lt (c ∷ cs) (suc i) l p = let h = place_lt cs i l p.1 in omega arith
 
--- the label that stands there
+-- the label that is there
 pub label_at : (cs : List (ℕ × Tree)) (i l : ℕ) (d : ℕ × Tree) → IsPlace cs i l → (get_or cs i d).0 ≡ l
 label_at [] i l d p = absurd p
 label_at (c ∷ cs) zero l d p = eqb-true c.0 l p
@@ -178,7 +178,7 @@ pub branch-end : (m : ℕ) (n : Option ℤ) (cs : List (ℕ × Tree)) (l : ℕ) 
     → (path : List ℕ) → path ≡ [] → (v : ℤ) → ◌≡◌ {A = ℕ × Tree} (m, record { number = Some v; children = forest_of cs }) (l, put empty_tree true path v)
 branch-end m n cs l seen path e v = rw e (ap (numbered v) seen)
 
--- what a call of position answers of a node's items, which were passed as a slice
+-- what a call of position returns for a node's items, which were passed as a slice
 pub position_in : (l : ℕ) {slice cs : List (ℕ × Tree)} {r o : Option ℕ} → slice ≡ cs → r ≡ position (λ c. c.0 == l) slice → r ≡ o → position (λ c. c.0 == l) cs ≡ o
 position_in l whole call is = ap (position (λ (c : ℕ × Tree). c.0 == l)) (sym whole) ∙ sym call ∙ is
 

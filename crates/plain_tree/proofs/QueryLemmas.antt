@@ -39,7 +39,7 @@ front_not_held t q n before none so_far =
 abbrev pub told : List ℕ → Entry → ℤ × ℕ
 told q e = (e.1, length e.0 - length q)
 
--- what is told of those entries whose path begins with q
+-- what a prediction gives of those entries whose path begins with q
 abbrev pub told_of : List ℕ → List Entry → List (ℤ × ℕ)
 told_of q es = map (told q) (filter (λ e. starts_with nat_eq e.0 q) es)
 

@@ -6,10 +6,10 @@ use Rattle.cedar_tree.specs.Queries.{Entry}
 abbrev pub beneath : List ℕ → Entry → Entry
 beneath path entry = (path ++ entry.0, entry.1)
 
--- the entries whose paths stand in vectors
+-- the entries whose paths are in vectors
 abbrev pub vector_entries : {Z : Type 0} → List (Vec ℕ Z × ℤ) → List Entry
 vector_entries entries = map (λ e. (e.0.items, e.1)) entries
 
--- the paths that stand in vectors
+-- the paths that are in vectors
 abbrev pub paths_of : {Z : Type 0} → List (Vec ℕ Z) → List (List ℕ)
 paths_of paths = map (λ p. p.items) paths

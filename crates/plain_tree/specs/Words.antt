@@ -1,5 +1,5 @@
 -- The words that the contracts of this crate cite, from one place.
-pub use Rattle.cedar_tree.specs.Queries.{exact, front, predict, prefixes, used, walk}
+pub use Rattle.cedar_tree.specs.Queries.{exact, front, predict, prefixes, slots_of_tree, walk}
 pub use Rattle.cedar_tree.specs.Stored.{coded_tree}
 pub use Rattle.cedar_tree.specs.Tree.{cut, empty_tree, is_bare, number_at, put, Tree}
 pub use Rattle.plain_tree.specs.Children.{forest_of, most_le-node_count, node_count, place_of}

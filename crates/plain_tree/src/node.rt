@@ -1,6 +1,10 @@
 //! The nodes of a plain tree, which own their children. A node is seen as its label and the tree below it.
-ghost use Rattle.std.specs.Prelude.{◌++◌, ◌==◌, ◌∷◌, ◌≡◌, [], IfOk, is_some, IsOk, IsSome, map, nat_lt, OnErr, OnOk, position, true, ℕ};
-ghost use Rattle.plain_tree.specs.Words.{arith, beneath, coded_tree, coded_ℕ, coded×, cut, empty_tree, forest_of, is_bare, most_le-node_count, node_count, number_at, paths_of, place_of, prefixes, put, Tree, vector_entries, walk};
+ghost use Rattle.std.specs.Prelude.{◌++◌, ◌==◌, ◌∷◌, ◌≡◌, [], IfOk, is_some, IsOk, IsSome, map};
+ghost use Rattle.std.specs.Prelude.{nat_lt, OnErr, OnOk, position, true, ℕ};
+ghost use Rattle.plain_tree.specs.Words.{arith, beneath, coded_tree, coded_ℕ, coded×, cut};
+ghost use Rattle.plain_tree.specs.Words.{empty_tree, forest_of, is_bare, most_le-node_count};
+ghost use Rattle.plain_tree.specs.Words.{node_count, number_at, paths_of, place_of, prefixes, put};
+ghost use Rattle.plain_tree.specs.Words.{Tree, vector_entries, walk};
 
 use std::alloc::{AllocError, Allocator};
 use std::marker::Model;

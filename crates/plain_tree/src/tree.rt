@@ -1,13 +1,15 @@
 //! The plain tree.
 ghost use Rattle.std.specs.Prelude.{◌≡◌, IfOk, is_some, IsOk, IsSome, length, OnErr, OnOk};
-ghost use Rattle.plain_tree.specs.Words.{coded_tree, cut, empty_tree, exact, front, number_at, paths_of, predict, prefixes, put, Tree, used, vector_entries, walk};
+ghost use Rattle.plain_tree.specs.Words.{coded_tree, cut, empty_tree, exact, front, number_at};
+ghost use Rattle.plain_tree.specs.Words.{paths_of, predict, prefixes, put, slots_of_tree, Tree};
+ghost use Rattle.plain_tree.specs.Words.{vector_entries, walk};
 
 use crate::node;
 use crate::node::Node;
 use std::alloc::{AllocError, Allocator};
 use std::marker::Model;
 
-/// A labelled tree, each node of which owns its children. A caller sees the tree that it stands for.
+/// A labelled tree, each node of which owns its children. A caller sees the tree that it represents.
 #[derive(Drop)]
 pub struct PlainTree<A: Allocator> {
     root: Node<A>,
@@ -69,8 +71,8 @@ impl<A: Allocator + Copy> PlainTree<A> {
 
     /// Returns each path that has a number, with it: a node's before its children's, children in their order.
     pub fn walk(&self, alloc: A) -> Result<Vec<(Vec<u8, A>, i32), A>, AllocError>
-        //= `walk`, `len`, `front`, `predict`, `prefixes` and `used` return what the definitions say, unless memory is lacking. [also len,
-        //  front, predict, prefixes, used]
+        //= `walk`, `len`, `front`, `predict`, `prefixes` and `slot_count` return what the definitions say, unless memory is lacking. [also len,
+        //  front, predict, prefixes, slot_count]
         ensures { IfOk result (λ entries. vector_entries entries.items ≡ walk self.now) }
     {
         let mut entries = Vec::new(alloc);
@@ -93,7 +95,7 @@ impl<A: Allocator + Copy> PlainTree<A> {
         Some((number, query.len()))
     }
 
-    /// Returns the number at each nonempty prefix of a query that has one, and the place of that prefix's last byte.
+    /// Returns the number at each nonempty prefix of a query that has one, and the position of that prefix's last byte.
     pub fn front(&self, alloc: A, query: &[u8]) -> Result<Vec<(i32, usize), A>, AllocError>
         ensures { IfOk result (λ found. found.items ≡ front self.now query.now) }
     {
@@ -130,8 +132,8 @@ impl<A: Allocator + Copy> PlainTree<A> {
     }
 
     /// Returns how many slots the tree takes: one for the root, one for each prefix and one for each number.
-    pub fn used(&self, alloc: A) -> Result<usize, AllocError>
-        ensures { IfOk result (λ count. count ≡ used self.now) }
+    pub fn slot_count(&self, alloc: A) -> Result<usize, AllocError>
+        ensures { IfOk result (λ count. count ≡ slots_of_tree self.now) }
     {
         let prefixes = self.prefixes(alloc)?.len();
         let entries = self.walk(alloc)?.len();

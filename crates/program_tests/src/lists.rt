@@ -2,7 +2,7 @@
 ghost use Rattle.cedarwood.specs.Words.{IsSlotLimit};
 
 use cedar_calls::{Answer, Call, Change, Question, reserve_for_calls, run_calls};
-use cedarwood::{CedarBuilder, CedarError, Layout, Trie};
+use cedarwood::{CedarBuilder, CedarError, Layout, MOST_SLOTS, Trie};
 use std::alloc::{AllocError, Allocator};
 
 /// Returns a change of one of the dictionaries.
@@ -32,10 +32,10 @@ pub(crate) fn run<L: Layout, const SLOTS: usize, A: Allocator + Copy>(
 }
 
 /// A dictionary of 2^30 slots at most, over an allocator that refuses or not.
-pub(crate) type Full<L, A> = Trie<L, 1073741824, A>;
+pub(crate) type Full<L, A> = Trie<L, MOST_SLOTS, A>;
 
 /// Makes one with these settings, of at most some number of slots.
-pub(crate) fn built<L: Layout, const SLOTS: usize, A: Allocator + Copy>(
+pub(crate) fn build_new<L: Layout, const SLOTS: usize, A: Allocator + Copy>(
     alloc: A,
     builder: CedarBuilder,
 ) -> Result<Trie<L, SLOTS, A>, CedarError>
@@ -50,5 +50,5 @@ pub(crate) fn empty<L: Layout, const SLOTS: usize, A: Allocator + Copy>(
 ) -> Result<Trie<L, SLOTS, A>, CedarError>
     requires { IsSlotLimit SLOTS }
 {
-    built(alloc, CedarBuilder::new())
+    build_new(alloc, CedarBuilder::new())
 }

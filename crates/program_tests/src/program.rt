@@ -2,7 +2,7 @@
 ghost use Rattle.cedarwood.specs.Words.{IsSlotLimit};
 
 use cedar_cli::{DONE, FAULT, REFUSED, USAGE, run_program, run_program_with};
-use cedarwood::Watched;
+use cedarwood::{MOST_SLOTS, Watched};
 use std::alloc::{AllocError, Global};
 use std::process::Abort;
 use std::test::Fail;
@@ -134,7 +134,7 @@ fn run(
     faults: Faults,
     errors_room: usize,
 ) -> Result<Left, AllocError> {
-    run_within::<1073741824>(rt, arguments, faults, errors_room)
+    run_within::<MOST_SLOTS>(rt, arguments, faults, errors_room)
 }
 
 // Expects a run to end with this status, and to have written and reported this.

@@ -1,7 +1,7 @@
 //! Scripts on dictionaries of few slots, in which a line finds none.
 ghost use Rattle.cedarwood.specs.Words.{IsSlotLimit};
 
-use crate::lists::built;
+use crate::lists::build_new;
 use crate::runs::{ALL, Holdings, expect_ended, run};
 use cedar_cli::ScriptError;
 use cedarwood::{CedarBuilder, DefaultLayout, Layout, ReducedLayout, Trie};
@@ -9,7 +9,7 @@ use std::alloc::{AllocError, Global};
 use std::process::Abort;
 use std::test::Fail;
 
-// What is left if a line finds no slot: the answers of the lines before it, how many keys and used slots there are,
+// What is left if a line finds no slot: the answers of the lines before it, how many keys and held slots there are,
 // and what is held.
 #[derive(Clone, Copy)]
 struct Left {
@@ -27,7 +27,7 @@ fn expect_left<L: Layout, const SLOTS: usize>(
 ) -> Result<(), Fail>
     requires { IsSlotLimit SLOTS }
 {
-    let mut trie: Trie<L, SLOTS, Global> = built(alloc, CedarBuilder::new())?;
+    let mut trie: Trie<L, SLOTS, Global> = build_new(alloc, CedarBuilder::new())?;
     let ended = run(alloc, alloc, &mut trie, script, ALL)?;
     expect_ended(
         rt,

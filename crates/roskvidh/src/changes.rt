@@ -9,7 +9,7 @@ use crate::input;
 use crate::input::Source;
 use crate::meter::Meter;
 use crate::request::{Change, Dictionary, How, List};
-use crate::run::found;
+use crate::run::true_if_done;
 use cedar_disk::LockFile;
 use cedarwood::{DefaultLayout, Layout, ReducedLayout, Trie, Watched};
 use std::alloc::Global;
@@ -81,9 +81,9 @@ pub(crate) fn change_words<'m, L: Layout, F: Files, R: Read + Drop, M: Meter + D
     errors: &mut Watched<E>,
 ) -> Result<bool, Fault<'m>> {
     match how {
-        How::Add(list) => found(add(alloc, files, trie, list, source, errors)),
+        How::Add(list) => true_if_done(add(alloc, files, trie, list, source, errors)),
         How::Remove(path) => remove(alloc, files, trie, path, source),
-        How::Merge(other) => found(merge(alloc, files, trie, other)),
+        How::Merge(other) => true_if_done(merge(alloc, files, trie, other)),
         How::Convert(_) => Ok(true),
     }
 }
@@ -151,7 +151,7 @@ fn convert<'m, L: Layout, F: Files>(
     reduced: bool,
     asked: Change<'m>,
 ) -> Result<bool, Fault<'m>> {
-    found(if reduced {
+    true_if_done(if reduced {
         convert_to::<ReducedLayout, L, F>(alloc, files, trie, asked)
     } else {
         convert_to::<DefaultLayout, L, F>(alloc, files, trie, asked)

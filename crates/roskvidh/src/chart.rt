@@ -6,7 +6,7 @@ use cedarwood::{Layout, Trie, Watched};
 use std::alloc::Global;
 use std::io::Write;
 
-/// The lengths that have a bar each; the last one stands for all that are longer too.
+/// The lengths that have a bar each; the last one counts for all that are longer too.
 const LENGTHS: usize = 32;
 
 /// How many signs the longest bar has.

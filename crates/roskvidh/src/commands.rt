@@ -50,7 +50,7 @@ pub(crate) const COMMANDS: [Name; 17] = [
 pub(crate) struct Said {
     pub name: &'static str,
     pub about: &'static str,
-    /// What stands behind its options.
+    /// What follows its options.
     pub notes: &'static str,
 }
 
@@ -202,7 +202,7 @@ const CUT_TAKES: [Argument; 7] = [
 ];
 
 const CUT_NOTES: &str = "\
-Each line is cut by itself: at each place into the longest word that begins there, or else one character.
+Each line is cut by itself: at each position into the longest word that begins there, or else one character.
 
 Example:
   echo networks | roskvidh cut words.cedar -s '|'";

@@ -5,14 +5,16 @@ use crate::input::read_all;
 use crate::request::Dictionary;
 use cedar_journal::{PLAIN_HEADER, SUMMED_HEADER};
 use cedar_store::read_store;
-use cedarwood::{CedarPersistenceError, DefaultLayout, Layout, ReducedLayout, Trie, Watched};
+use cedarwood::{
+    CedarPersistenceError, DefaultLayout, Layout, MOST_SLOTS, ReducedLayout, Trie, Watched,
+};
 use std::alloc::Global;
 use std::fs::File;
 use std::io::{BufRead, BufReader, Read};
 use std::rt::Files;
 
 /// How many slots a dictionary may have.
-pub(crate) const SLOTS: usize = 1073741824;
+pub(crate) const SLOTS: usize = MOST_SLOTS;
 
 /// Where a file has the byte of its layout.
 const LAYOUT_PLACE: usize = 13;
@@ -96,7 +98,8 @@ fn load_layout<'m, L: Layout, R: Read + Drop>(
     }
 }
 
-/// Makes the dictionary that a store's file stands for. The file isn't locked and doesn't change, so another program may change it meanwhile.
+/// Makes the dictionary that a store's file represents. The file isn't locked and doesn't change, so another program may change it
+/// meanwhile.
 fn load_store<'m, R: Read + Drop>(
     alloc: Global,
     path: &'m str,

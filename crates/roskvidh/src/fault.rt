@@ -11,16 +11,16 @@ use word_lists::{ListError, StoreError};
 /// The name of standard input in messages.
 const STANDARD_INPUT: &str = "standard input";
 
-/// What is told where a line of a list ends it.
+/// What is reported where a line of a list ends it.
 const STRICT: &str = "with --strict no such line may stand in a list";
 
-/// What is told of a dictionary that isn't in the order of bytes.
+/// What is reported of a dictionary that isn't in the order of bytes.
 const UNORDERED: &str = "it was built --unordered, so no word is the next one";
 
-/// What is told of a store that is locked.
+/// What is reported of a store that is locked.
 const LOCKED: &str = "another program has the store open";
 
-/// What is told of a store whose file has more behind its records than a crash leaves.
+/// What is reported of a store whose file has more behind its records than a crash leaves.
 const UNKEPT: &str =
     "what stands behind its end may have whole records, and can't be kept in a file beside it";
 

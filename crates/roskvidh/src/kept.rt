@@ -12,7 +12,7 @@ use std::alloc::Global;
 use std::io::Write;
 use std::rt::Files;
 
-/// Keeps what the opening of the store on a device would cut off its file, if whole records may be in it, and tells where.
+/// Keeps what the opening of the store on a device would cut off its file, if whole records may be in it, and returns where.
 pub(crate) fn keep_and_tell<'m, D: Device, F: Files + Copy + Drop, E: Write>(
     alloc: Global,
     files: &F,

@@ -4,7 +4,7 @@ use crate::chart::write_chart;
 use crate::dictionary::{Kind, SLOTS};
 use crate::fault::Fault;
 use crate::request::{Dictionary, Query};
-use crate::run::found;
+use crate::run::true_if_done;
 use cedarwood::{Layout, Trie, Watched};
 use std::alloc::Global;
 use std::io::Write;
@@ -27,8 +27,8 @@ pub(crate) fn answer<'m, L: Layout, W: Write>(
         Query::Get(words) => get(trie, words, &mut word, writer),
         Query::Prefixes(_) => prefixes(trie, &word, writer),
         Query::Complete(_, most) => complete(alloc, trie, &word, most, writer),
-        Query::Check => found(check(trie, dictionary, kind, writer)),
-        Query::Stats(chart) => found(stats(alloc, trie, chart, writer)),
+        Query::Check => true_if_done(check(trie, dictionary, kind, writer)),
+        Query::Stats(chart) => true_if_done(stats(alloc, trie, chart, writer)),
         Query::Show(_, is_drawing) => show(alloc, trie, &word, is_drawing, writer),
         Query::List | Query::ListUnder(_) => list(alloc, trie, &word, writer),
         Query::ListFrom(_) => list_from(alloc, trie, dictionary, &word, writer),

@@ -15,7 +15,7 @@ use std::fs::{self, File};
 use std::io::{ErrorKind, Write};
 use std::rt::Files;
 
-/// What is told of a file whose records have no sums.
+/// What is reported of a file whose records have no sums.
 const SUMLESS: &str =
     "its records are of version 1 and have no sums, so only those in front of the first bad one are taken";
 
@@ -28,7 +28,7 @@ struct Taken {
     bytes: usize,
 }
 
-/// Makes a new store of what is whole in a damaged one, and tells what that is.
+/// Makes a new store of what is whole in a damaged one, and says what that is.
 pub(crate) fn recover<'m, F: Files + Copy + Drop, W: Write, E: Write>(
     alloc: Global,
     files: &F,

@@ -374,7 +374,7 @@ fn scan_of<'m>(asked: &ArgMatches<'_>) -> Task<'m> {
     }
 }
 
-/// The path of a file; None for standard input, which `-` stands for.
+/// The path of a file; None for standard input, which `-` means.
 fn path_of(path: Option<&str>) -> Option<&str> {
     match path {
         Some("-") => None,

@@ -118,7 +118,7 @@ where
     F::File: LockFile,
 {
     match request {
-        Request::Build(asked) => found(build(alloc, files, asked, source, errors)),
+        Request::Build(asked) => true_if_done(build(alloc, files, asked, source, errors)),
         Request::Query(dictionary, query) => ask(alloc, files, dictionary, query, writer),
         Request::Text(dictionary, reading) => {
             read(alloc, files, dictionary, reading, source, writer)
@@ -127,13 +127,15 @@ where
             change(alloc, files, dictionary, asked, source, errors)
         }
         Request::Diff(first, second) => diff(alloc, files, first, second, writer),
-        Request::Replace(asked) => found(replace(alloc, files, asked, source, writer, errors)),
-        Request::Recover(asked) => found(recover(alloc, files, asked, writer, errors)),
+        Request::Replace(asked) => true_if_done(replace(
+            alloc, files, asked, source, writer, errors,
+        )),
+        Request::Recover(asked) => true_if_done(recover(alloc, files, asked, writer, errors)),
     }
 }
 
 /// The result of a command that looks for nothing.
-pub(crate) fn found<'m>(done: Result<(), Fault<'m>>) -> Result<bool, Fault<'m>> {
+pub(crate) fn true_if_done<'m>(done: Result<(), Fault<'m>>) -> Result<bool, Fault<'m>> {
     match done {
         Ok(()) => Ok(true),
         Err(fault) => Err(fault),

@@ -2,9 +2,9 @@
 use Rattle.std.proofs.Common.{IsTrue, is_some, sym, ◌∙◌, Bool, ltb, ◌≡◌, ℕ, suc, not, ◌+◌, ◌<◌, ◌≤◌, true, false, cond, ◌==◌, List, [], ◌∷◌, length, get_or, Option, Some, None, position, refl, arith}
 use Rattle.std.proofs.lemmas.Bool.{eqb-false, ltb-false}
 use Rattle.std.specs.List.{position_or_len}
-use Rattle.cedar_tree.specs.Tree.{IsPath, IsKey}
-use Rattle.cedar_tree.proofs.GeneralLemmas.{position-None}
-use Rattle.cedar_tree.proofs.EntryLemmas.Keys.{path_without_nul}
+use Rattle.cedar_model.specs.Tree.{IsPath, IsKey}
+use Rattle.cedar_model.proofs.GeneralLemmas.{position-None}
+use Rattle.cedar_model.proofs.EntryLemmas.Keys.{path_without_nul}
 
 true_or_false : true ≡ false → ⊥
 true_or_false h = cc

@@ -4,5 +4,5 @@ pub use Rattle.cedar_model.specs.Table.Layouts.{default_layout}
 pub use Rattle.cedar_slots.specs.Places.{IsTable}
 pub use Rattle.cedar_table.specs.Table.Parts.{parts_fields}
 pub use Rattle.cedar_table.specs.Table.Views.{fields}
-pub use Rattle.cedar_tree.specs.Tree.{IsKey}
+pub use Rattle.cedar_model.specs.Tree.{IsKey}
 pub use Rattle.table_tests.specs.Fitting.{IsFitting}

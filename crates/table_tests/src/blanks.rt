@@ -38,7 +38,7 @@ fn blanks_are_written_when_they_are_wanted(rt: HostRuntime) -> Result<(), Fail> 
         nodes.set(3, NodeRecord { base: 5, check: 6 });
     }
     base_is(&rt, &nodes, 3, 5);
-    let copy = nodes.copied()?;
+    let copy = nodes.try_copy()?;
     sizes_are(&rt, &copy, 8, 4);
     base_is(&rt, &copy, 3, 5);
     Ok(())

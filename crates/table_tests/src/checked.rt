@@ -1,4 +1,4 @@
-//! Tables that stand for a tree, and tables that don't.
+//! Tables that represent a tree, and tables that don't.
 
 ghost use Rattle.std.specs.Prelude.{◌<◌, ◌≡◌, IfOk};
 ghost use Rattle.table_tests.specs.Words.{fields, IsTable, IsWellFormed};
@@ -15,7 +15,7 @@ use std::test::Fail;
 
 type Small = Table<DefaultLayout, 1024, Global>;
 
-/// Returns the part of the table, the place and the reason of a fault, or none for a table that stands for a tree.
+/// Returns the part of the table, the place and the reason of a fault, or none for a table that represents a tree.
 fn fault<C: Ledger>(
     table: &Small,
     ticks: &mut Ticks<C>,

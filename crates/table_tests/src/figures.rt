@@ -71,7 +71,7 @@ fn finds<const SLOTS: usize>(
     requires few { length labels.now ≤ 256 }
     ensures { IsTable SLOTS (fields table.new).places }
 {
-    assert!(rt; table.find_places(labels) == Ok(base));
+    assert!(rt; table.find_places(labels, usize::MAX) == Ok(base));
 }
 
 fn each_list<C: Ledger>(rt: &impl Abort, alloc: Global, blank: Blank) -> Result<(), Fail>

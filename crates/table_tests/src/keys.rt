@@ -32,7 +32,7 @@ pub fn put<const SLOTS: usize>(
     ensures { IsWellFormed SLOTS (fields table.new) }
 {
     if is_key(key) {
-        update(table, key, i32::from(value))?;
+        update(table, key, i32::from(value), usize::MAX)?;
     }
     Ok(())
 }

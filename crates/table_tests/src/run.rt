@@ -50,7 +50,7 @@ fn place_two<C: Ledger>(
     requires { IsTable 4096 (fields table.old).places }
     ensures { IsTable 4096 (fields table.new).places }
 {
-    match table.find_places(&[first, second]) {
+    match table.find_places(&[first, second], usize::MAX) {
         Ok(base) => {
             let one = base ^ usize::from(first);
             let two = base ^ usize::from(second);

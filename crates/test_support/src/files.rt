@@ -107,7 +107,7 @@ pub struct FakeFile<'a> {
 #[derive(Drop)]
 pub struct NoNames;
 
-fn unsupported<T>() -> io::Result<T> {
+fn err_unsupported<T>() -> io::Result<T> {
     Err(io::Error::from(ErrorKind::Unsupported))
 }
 
@@ -155,10 +155,10 @@ impl<'a> FakeFiles<'a> {
         if !self.plan.opens_folder {
             return Err(io::Error::from(ErrorKind::PermissionDenied));
         }
-        Ok(self.opened(true))
+        Ok(self.open_fake(true))
     }
 
-    fn opened(&self, is_folder: bool) -> FakeFile<'a> {
+    fn open_fake(&self, is_folder: bool) -> FakeFile<'a> {
         let ending = if self.plan.room < self.bytes.len() {
             Ending::Fault
         } else {
@@ -188,11 +188,11 @@ impl<'a> Files for FakeFiles<'a> {
         if !self.plan.opens {
             return Err(io::Error::from(ErrorKind::NotFound));
         }
-        Ok(self.opened(false))
+        Ok(self.open_fake(false))
     }
 
     fn open_dir(&self, _path: &str) -> io::Result<NoNames> {
-        unsupported()
+        err_unsupported()
     }
 
     fn metadata(&self, _path: &str) -> io::Result<Metadata> {
@@ -200,11 +200,11 @@ impl<'a> Files for FakeFiles<'a> {
     }
 
     fn symlink_metadata(&self, _path: &str) -> io::Result<Metadata> {
-        unsupported()
+        err_unsupported()
     }
 
     fn copy(&self, _from: &str, _to: &str) -> io::Result<u64> {
-        unsupported()
+        err_unsupported()
     }
 
     fn rename(&self, _from: &str, _to: &str) -> io::Result<()> {
@@ -222,15 +222,15 @@ impl<'a> Files for FakeFiles<'a> {
     }
 
     fn create_dir(&self, _path: &str) -> io::Result<()> {
-        unsupported()
+        err_unsupported()
     }
 
     fn remove_dir(&self, _path: &str) -> io::Result<()> {
-        unsupported()
+        err_unsupported()
     }
 
     fn remove_dir_all<B: Allocator>(&self, _alloc: B, _path: &str) -> io::Result<()> {
-        unsupported()
+        err_unsupported()
     }
 }
 
@@ -265,17 +265,17 @@ impl Write for FakeFile<'_> {
 
 impl Seek for FakeFile<'_> {
     fn seek(&mut self, _to: SeekFrom) -> io::Result<u64> {
-        unsupported()
+        err_unsupported()
     }
 }
 
 impl OpenFile for FakeFile<'_> {
     fn metadata(&self) -> io::Result<Metadata> {
-        unsupported()
+        err_unsupported()
     }
 
     fn set_len(&self, _size: u64) -> io::Result<()> {
-        unsupported()
+        err_unsupported()
     }
 
     fn sync_all(&self) -> io::Result<()> {
@@ -291,7 +291,7 @@ impl OpenFile for FakeFile<'_> {
     }
 
     fn sync_data(&self) -> io::Result<()> {
-        unsupported()
+        err_unsupported()
     }
 }
 

@@ -1,6 +1,6 @@
 -- Digits of numbers in figures, and calls that read them.
-use Rattle.std.proofs.Common.{◌≡◌, ℕ, List, [], ◌∷◌, Some, None, Bool, true, false, cond, ◌&&◌, Bor, refl, ap, ◌∙◌, arith, zero, suc, drop, length, ◌<◌}
-use Rattle.std.proofs.lemmas.Bool.{eqb-true, false≢true}
+use Rattle.std.proofs.Common.{◌≡◌, ℕ, List, [], ◌∷◌, Some, None, Bool, true, false, cond, Bor, refl, ap, ◌∙◌, arith, drop, length, ◌<◌}
+use Rattle.std.proofs.lemmas.Bool.{eqb-true, false≢true, and_parts}
 use Rattle.std.proofs.lemmas.Grind.{common_steps}
 use Rattle.std.proofs.lemmas.Fmt.{IsAscii-from_digits}
 use Rattle.std.proofs.lemmas.Str.{digit_value_digit}
@@ -13,6 +13,7 @@ use Rattle.std.specs.Char.{digit_value}
 use Rattle.std.specs.Str.{IsAscii}
 use Rattle.std.specs.Str.Parse.{AllDigits, without_leading_sign}
 use Rattle.text_lines.specs.Lines.{is_digit, is_filled}
+use Rattle.std.proofs.lemmas.Str.Ascii.{IsAscii-cons}
 
 -- where an element passes first
 pub at_first : (p : ℕ → Bool) (xs : List ℕ) (i : ℕ) → position p xs ≡ Some i → position_or_len p xs ≡ i
@@ -37,33 +38,24 @@ pub filled_tested : (ds : List ℕ) → is_filled ds ≡ true → 0 < length ds
 filled_tested [] h = absurd (false≢true h)
 filled_tested (c ∷ ds) h = omega arith
 
--- the parts of a test that passed
-pub both : (a b : Bool) → (a && b) ≡ true → (a ≡ true) × (b ≡ true)
-both true b h = (refl, h)
-both false b h = absurd (false≢true h)
-
 pub tested_digits : (ds : List ℕ) → list_all is_digit ds ≡ true → AllDigits 10 ds
 tested_digits [] h = tt
-tested_digits (c ∷ ds) h = let p = both (is_digit c) (list_all is_digit ds) h in (digit_tested c p.0, tested_digits ds p.1)
-
-pub ascii_after : (b : ℕ) (bs : List ℕ) → b < 128 → IsAscii bs → IsAscii (b ∷ bs)
-ascii_after b bs p h zero = p
-ascii_after b bs p h (suc i) = h i
+tested_digits (c ∷ ds) h = let p = and_parts (is_digit c) (list_all is_digit ds) h in (digit_tested c p.0, tested_digits ds p.1)
 
 -- digits are ASCII, and so is a sign before them
 pub signed_ascii : (text : List ℕ) → AllDigits 10 (without_leading_sign text) → IsAscii text
 signed_ascii [] h = IsAscii-from_digits [] h
 signed_ascii (b ∷ bs) h =
     (elim (b == 45) as (λ minus. (b == 45) ≡ minus → AllDigits 10 (cond minus bs (drop (cond (b == 43) 1 0) (b ∷ bs))) → IsAscii (b ∷ bs)) [
-      | true ↦ λ e k. ascii_after b bs (let same : b ≡ 45 = eqb-true b 45 e in omega arith) (IsAscii-from_digits bs k)
+      | true ↦ λ e k. IsAscii-cons b bs (let same : b ≡ 45 = eqb-true b 45 e in omega arith) (IsAscii-from_digits bs k)
       | false ↦ λ _ k.
           (elim (b == 43) as (λ plus. (b == 43) ≡ plus → AllDigits 10 (drop (cond plus 1 0) (b ∷ bs)) → IsAscii (b ∷ bs)) [
-            | true ↦ λ e m. ascii_after b bs (let same : b ≡ 43 = eqb-true b 43 e in omega arith) (IsAscii-from_digits bs m)
+            | true ↦ λ e m. IsAscii-cons b bs (let same : b ≡ 43 = eqb-true b 43 e in omega arith) (IsAscii-from_digits bs m)
             | false ↦ λ _ m. IsAscii-from_digits (b ∷ bs) m
           ]) refl k
     ]) refl h
 
--- a call that answered no value failed
+-- a call that returned no value failed
 pub failed : {T E : Type 0} (P : T → Type 0) (N : Type 0) (Q : E → Type 0) (r : Result T E) → MatchResult r P (λ e. N × Q e) → None ≡ result_ok r → N
 failed P N Q (Ok x) m e = absurd (cc)
 failed P N Q (Err x) m e = m.0

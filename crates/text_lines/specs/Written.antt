@@ -1,10 +1,11 @@
--- What is said of a watched writer that bytes are written to, by what its own trait tells of the device inside.
-use Rattle.std.specs.Prelude.{◌≡◌, ℕ, ◌<◌, ◌++◌, Bool, true, List, length, Option, Result, Err, OnOk, OnErr}
+-- What is said of a watched writer that bytes are written to, by what its own trait reports of the device inside.
+use Rattle.std.specs.Prelude.{◌≡◌, ℕ, ◌<◌, ◌++◌, Bool, true, List, length, Option}
+use Rattle.std.specs.Prelude.{Result, Err, OnOk, OnErr}
 use Rattle.std.specs.Io.KnownBytes.{Appends}
 use Rattle.cedar_format.specs.WatchedDevice.{device_of}
 use Rattle.cedar_format.specs.declared.watched.Watched.{Watched}
 
--- What a device holds is known or not: `Some` bytes, or `None` where it doesn't tell. Below, `held` is what the
+-- What a device holds is known or not: `Some` bytes, or `None` where it doesn't report it. Below, `held` is what the
 -- writer held at first, and `holds` what it holds in the end.
 
 -- of some bytes a first part was written, and not all: nothing, or more, but never the last byte
@@ -27,8 +28,8 @@ BreaksOff contents before after bytes = WritesFront (contents (device_of before)
 abbrev pub WritesUpTo : {D : Type 0} → (D → Option (List ℕ)) → Watched D → Watched D → List ℕ → Type 0
 WritesUpTo contents before after bytes = AppendsFront (contents (device_of before)) (contents (device_of after)) bytes
 
--- Whether a writer has failed is a test before a call and one after it. Some bytes were written without a fault, or the writer failed, which
--- is told by this error and no other.
+-- Whether a writer has failed is a test before a call and one after it. Some bytes were written without a fault, or the writer failed,
+-- which is reported by this error and no other.
 pub record WritesOrFails {X E : Type 0} (fault : E) (before after : Bool) (result : Result X E) : Type 0 where
   pub unfailed : OnOk result (after ≡ before)
   pub cause : OnErr result ((result ≡ Err fault) × (after ≡ true))

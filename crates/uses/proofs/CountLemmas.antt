@@ -35,7 +35,7 @@ counted_more t ordered words i d here so_far w =
 pub nothing_counted : (t : Tree) (w : List ℕ) → t ≡ empty_tree → ◌≡◌ {A = Option ℤ} (number_at t w) None
 nothing_counted t w empty = ap (λ x. number_at x w) empty ∙ number_at-empty w
 
--- what a search tells of a word's count
+-- what a search says of a word's count
 pub found_count : (t : Tree) (w : List ℕ) → option_map (λ (found : ℤ × ℕ). found.0) (exact t w) ≡ number_at t w
 found_count t w = of (number_at t w)
   where

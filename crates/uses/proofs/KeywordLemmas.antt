@@ -3,7 +3,6 @@ use Rattle.std.proofs.Common.{◌≡◌, ℕ, ◌+◌, ◌-◌, ◌<◌, ◌≤�
 use Rattle.std.specs.List.{Contains}
 use Rattle.std.specs.Prelude.{ℤ}
 use Rattle.std.proofs.lemmas.Bool.{false≢true, true≢false}
-use Rattle.std.proofs.lemmas.List.{take_all}
 use borrow.Author.Count.{below_more}
 use Rattle.std.proofs.Math.ListN.{length-drop}
 use Rattle.cedarwood.specs.Tree.{Tree, number_at}
@@ -41,10 +40,6 @@ none_begins t text none h =
     let left : n < length rest = omega (arith, length-drop place text) in
     in_none (v.0, n) (subst (λ xs. Contains xs (v.0, n)) (none place (omega arith)) (front_from_held t rest v.0 n left held))
 
--- what is left from a place on
-pub left_from : (text : List ℕ) (place : ℕ) → take (length text - place) (drop place text) ≡ drop place text
-left_from text place = take_all (length text - place) (drop place text) (omega (arith, length-drop place text))
-
 -- what a walk gave first is the first of what it had
 pub has_first : (has later : List (ℤ × ℕ)) (given : Option (ℤ × ℕ)) → is_some given ≡ true → MatchOption given ((has ≡ []) × (later ≡ [])) (λ x. has ≡ x ∷ later) → (x : ℤ × ℕ) × (has ≡ x ∷ later)
 has_first has later None some h = absurd (false≢true some)
@@ -54,6 +49,6 @@ pub has_none : (has later : List (ℤ × ℕ)) (given : Option (ℤ × ℕ)) →
 has_none has later None none h = h.0
 has_none has later (Some x) none h = absurd (true≢false none)
 
--- no key begins before the next place
+-- no key begins before the next position
 pub none_before : (t : Tree) (text : List ℕ) (place : ℕ) → ((k : ℕ) → k < place → front t (drop k text) ≡ []) → front t (drop place text) ≡ [] → (k : ℕ) → k < place + 1 → front t (drop k text) ≡ []
 none_before t text place before here = below_more (λ k. front t (drop k text) ≡ []) place before here

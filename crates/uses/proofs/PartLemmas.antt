@@ -18,6 +18,6 @@ pub all_parts : {X Y Z : Type 0} (f : X → Y) (g : Z → Y) (found : List X) (l
 all_parts {X} {Y} {Z} f g found left wanted so_far none =
     sym (append-nil (map f found)) ∙ ap (λ (zs : List Z). map f found ++ map g zs) (sym none) ∙ so_far
 
--- so many bytes from a place on, as a slice of a text
+-- so many bytes from a position on, as a slice of a text
 pub part_is : (text : List ℕ) (start len : ℕ) → take (start + len - start) (drop start text) ≡ take len (drop start text)
 part_is text start len = let bytes : start + len - start ≡ len = omega arith in ap (λ n. take n (drop start text)) bytes

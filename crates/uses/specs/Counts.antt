@@ -1,5 +1,6 @@
 -- How often a word comes.
-use Rattle.std.specs.Prelude.{ℕ, zero, suc, ℤ, pos, ◌+ℤ◌, int_lt, if◌then◌else◌, List, Option, None, Some}
+use Rattle.std.specs.Prelude.{ℕ, zero, suc, ℤ, pos, ◌+ℤ◌, int_lt, if◌then◌else◌}
+use Rattle.std.specs.Prelude.{List, Option, None, Some}
 use Rattle.std.specs.Borrow.{Bor}
 use Rattle.std.specs.List.{count_by}
 use Rattle.std.specs.Str.{bytes_eq}

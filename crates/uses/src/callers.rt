@@ -1,7 +1,7 @@
 //! What a caller has to say more, over any allocator and any limit of slots.
 
 ghost use Rattle.std.specs.Prelude.{◌↔◌, ◌≡◌, ◌≤◌, IsSome, IsTrue, OnOk, pos};
-ghost use Rattle.uses.specs.Words.{CedarFitsInMemory, IsSlotLimit, number_at, stored};
+ghost use Rattle.uses.specs.Words.{after_put, CedarFitsInMemory, IsSlotLimit, number_at};
 
 use cedarwood::{Cedar, CedarBuilder, CedarError, DefaultLayout, Layout, Trie};
 use std::alloc::Allocator;
@@ -9,7 +9,7 @@ use std::alloc::Allocator;
 /// Over any allocator, a `Cedar` that is handed in has to fit in memory.
 fn store<A: Allocator + Copy>(cedar: &mut Cedar<A>, word: &str) -> Result<(), CedarError>
     requires { CedarFitsInMemory A.row A.Allocator }
-    ensures { OnOk result (cedar.new.state ≡ stored cedar.old.state word.now (pos 1)) }
+    ensures { OnOk result (cedar.new.state ≡ after_put cedar.old.state word.now (pos 1)) }
 {
     cedar.update(word, 1)
 }

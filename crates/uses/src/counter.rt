@@ -1,7 +1,7 @@
 //! How often each word occurs.
 
 ghost use Rattle.std.specs.Prelude.{◌≡◌, IfOk, List, OnOk, option_map, ℕ};
-ghost use Rattle.uses.specs.Words.{count_of, number_at, one_more, stored};
+ghost use Rattle.uses.specs.Words.{after_put, count_of, number_at, one_more};
 
 use cedarwood::{Cedar, CedarError, Layout, MAX_VALUE, Trie};
 use std::alloc::{Allocator, Global};
@@ -26,7 +26,7 @@ fn add<L: Layout, const SLOTS: usize, A: Allocator + Copy>(
     counts: &mut Trie<L, SLOTS, A>,
     word: &str,
 ) -> Result<(), CedarError>
-    ensures { OnOk result (counts.new.state ≡ stored counts.old.state word.now (one_more (number_at counts.old.state.tree word.now))) }
+    ensures { OnOk result (counts.new.state ≡ after_put counts.old.state word.now (one_more (number_at counts.old.state.tree word.now))) }
 {
     let count = next_count(counts.exact_match_search(word));
     counts.update(word, count)

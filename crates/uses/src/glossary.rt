@@ -1,14 +1,15 @@
 //! A glossary, whose terms are found in texts.
 
 ghost use Rattle.std.specs.Prelude.{◌≡◌, IfOk, map, OnErr, OnOk};
-ghost use Rattle.uses.specs.Words.{empty_tree, HasUtf8Keys, keywords_in, State, state_code, stored, term_of};
+ghost use Rattle.uses.specs.Words.{after_put, empty_tree, HasUtf8Keys, keywords_in};
+ghost use Rattle.uses.specs.Words.{State, state_code, term_of};
 
 use cedar_words::leftmost_longest;
 use cedarwood::{Cedar, CedarError};
 use std::alloc::{AllocError, Global};
 use std::marker::Model;
 
-/// Terms, each with the number of what explains it. They are texts: so where one stands in a text, it is a part of that text.
+/// Terms, each with the number of what explains it. They are texts: so where one is in a text, it is a part of that text.
 ///
 /// A contract sees the state of its dictionary.
 #[derive(Drop)]
@@ -45,7 +46,7 @@ impl Glossary {
     /// Those of an update: a term may be empty or have a byte 0, and memory or slots may run out.
     pub fn add(&mut self, term: &str, number: i32) -> Result<(), CedarError>
         //= A term that is added has its number, and after an error the glossary is as it was. [with none]
-        ensures added { OnOk result (self.new ≡ stored self.old term.now number) }
+        ensures added { OnOk result (self.new ≡ after_put self.old term.now number) }
         ensures none { OnErr result (self.new ≡ self.old) }
     {
         self.terms.update(term, number)

@@ -1,7 +1,8 @@
 //! Texts cut into words by a dictionary that was saved.
 
 ghost use Rattle.std.specs.Prelude.{◌<◌, ◌^◌, ◌≡◌, IfOk, length, map};
-ghost use Rattle.uses.specs.Words.{device_of, IsAheadCapped, IsCheapest, IsCut, IsLeastCapped, piece_of, ReadsTable, segments};
+ghost use Rattle.uses.specs.Words.{device_of, IsAheadCapped, IsCheapest, IsCut, IsLeastCapped};
+ghost use Rattle.uses.specs.Words.{piece_of, ReadsTable, segments};
 
 use cedar_words::{cheapest, segment};
 use cedarwood::{Cedar, CedarPersistenceError, Layout, Trie, Watched};

@@ -1,15 +1,10 @@
--- What a call answered: the same said in fewer or other words, and a writer's faults as those of lines.
+-- What a call returned: the same said in fewer or other words, and a writer's faults as those of lines.
 use Rattle.std.proofs.Common.{◌≡◌, ◌∙◌, Bool, true, ap, sym, subst}
 use Rattle.std.specs.Prelude.{IsErrAnd, Result, Ok, Err, OnOk, OnErr}
 use Rattle.word_lists.specs.Devices.{LinesOrFails}
 use Rattle.text_lines.specs.Written.{WritesOrFails}
 use Rattle.word_lists.specs.declared.write.ListError.{ListError}
 use Rattle.word_lists.specs.declared.write.ListError.TheVariants.{Write, Memory}
-
--- an answer says what follows from what it says
-pub ok_then : {X E P Q : Type 0} (r : Result X E) → (P → Q) → OnOk r P → OnOk r Q
-ok_then (Ok x) f p = f p
-ok_then (Err e) f p = tt
 
 pub of_err : {X E P : Type 0} (r : Result X E) (e : E) → r ≡ Err e → OnErr r P → P
 of_err (Ok x) e is p = absurd (cc)
@@ -32,7 +27,7 @@ as_lines before after r w = record {
   starved = λ is. absurd (no_memory before after r w is);
 }
 
--- what lines say of their faults, by what they answer: want of memory, a fault of the writer, or none
+-- what lines say of their faults, by what they return: want of memory, a fault of the writer, or none
 pub starved_lines : {X : Type 0} (before after : Bool) (r : Result X ListError) → r ≡ Err Memory → after ≡ before → LinesOrFails before after r
 starved_lines before after r is same = record {
   unfailed = subst (λ x. OnOk x (after ≡ before)) (sym is) tt;

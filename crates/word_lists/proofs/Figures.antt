@@ -1,6 +1,6 @@
--- Numbers in figures, and what stands before and behind a line's first tab.
+-- Numbers in figures, and what comes before and behind a line's first tab.
 use Rattle.std.proofs.Common.{◌≡◌, ℕ, ℤ, pos, negsuc, w32, List, [], ◌∷◌, Option, Some, None, true, false, cond, ◌&&◌, refl, sym, ap, ◌∙◌, arith, length, ◌≤◌, ◌<◌, nat_eq, of_z, to_z}
-use Rattle.std.proofs.lemmas.Bool.{eqb-true, false≢true, leb-true, le-leb}
+use Rattle.std.proofs.lemmas.Bool.{eqb-true, false≢true, leb-true, le-leb, and_parts}
 use Rattle.std.proofs.lemmas.Int.{ints, to_z-of_z}
 use Rattle.std.specs.Ordering.{int_eq}
 use Rattle.std.proofs.lemmas.Grind.{common_steps}
@@ -16,7 +16,7 @@ use Rattle.std.specs.Str.Parse.{IsNumeral, ParsesSigned, without_leading_sign, s
 use Rattle.memchr.specs.Find.{IsFirstByte, is_byte}
 use Rattle.word_lists.specs.Stored.{figures_number, fits_number, is_tab}
 use Rattle.text_lines.specs.Lines.{is_digit, is_filled}
-use Rattle.text_lines.proofs.Figures.{digits_test, filled_test, filled_tested, both, tested_digits, signed_ascii, not_true}
+use Rattle.text_lines.proofs.Figures.{digits_test, filled_test, filled_tested, tested_digits, signed_ascii, not_true}
 
 -- a text that isn't empty has a byte
 pub filled_unless : (text : List ℕ) → false ≡ (length text == 0) → is_filled text ≡ true
@@ -42,8 +42,8 @@ no_value text never =
     let v = signed_digits_value 10 text in
     (elim (is_filled ds && list_all is_digit ds && fits_number v) as (λ b. (is_filled ds && list_all is_digit ds && fits_number v) ≡ b → None ≡ cond b (Some v) None) [
       | true ↦ λ e.
-          let p = both (is_filled ds && list_all is_digit ds) (fits_number v) e in
-          let q = both (is_filled ds) (list_all is_digit ds) p.0 in
+          let p = and_parts (is_filled ds && list_all is_digit ds) (fits_number v) e in
+          let q = and_parts (is_filled ds) (list_all is_digit ds) p.0 in
           absurd (never ((filled_tested ds q.0, tested_digits ds q.1), fits_tested v p.1))
       | false ↦ λ e. refl
     ]) refl
@@ -59,7 +59,7 @@ parsed text (Err e) h = no_value text h
 pub not_text : (text : List ℕ) → (IsUtf8 text → ⊥) → None ≡ figures_number text
 not_text text h = no_value text (λ p. h (IsUtf8-from_ascii text (signed_ascii text p.0.1)))
 
--- the first place of a byte, as a search answers it
+-- the first position of a byte, as a search returns it
 pub first_byte : (b : ℕ) (text : List ℕ) (found : Option ℕ) → IsFirstByte (is_byte b) text found → found ≡ position (is_byte b) text
 first_byte b text None none = sym (rw at_end (grind (arith, common_steps))) where
   at_end : position_or_len (is_byte b) text ≡ length text
@@ -71,7 +71,7 @@ first_byte b text (Some at) first = sym (rw at_first (grind (arith, common_steps
   at_first : position_or_len (is_byte b) text ≡ at
   at_first = position_or_len_is (is_byte b) text at 0 (omega arith) (λ k low. not_true (first.0.before k (omega arith) low)) (λ _. first.1)
 
--- where a tab is found, it stands within the line
+-- where a tab is found, it is within the line
 pub tab_within : (line : List ℕ) (found : Option ℕ) → found ≡ position is_tab line → IfSome found (λ at. at < length line)
 tab_within line None e = tt
 tab_within line (Some at) e = (position-Some is_tab line at 0 (sym e)).0

@@ -1,8 +1,8 @@
--- What one line stores, and what is told of it.
+-- What one line stores, and what is reported of it.
 use Rattle.std.proofs.Common.{◌≡◌, ◌∙◌, ℕ, ℤ, List, Bool, true, cond, is_some, Option, Some, None, refl, sym, ap}
 use Rattle.std.specs.List.{before_first}
-use Rattle.cedar_tree.specs.State.{State}
-use Rattle.cedar_tree.specs.Tree.{number_at}
+use Rattle.cedarwood.specs.State.{State}
+use Rattle.cedarwood.specs.Tree.{number_at}
 use Rattle.cedarwood.specs.Fault.{fault}
 use Rattle.word_lists.specs.Reading.{read_as}
 use Rattle.word_lists.specs.Stored.{is_tab, line_stored, line_told, number_of_line, stored_by, stored_with, told_by, told_with, word_of}
@@ -23,7 +23,7 @@ told_as s number line text word v filled is reads numbered = sym (
     ap (λ (f : Bool). cond f (told_with (number_of_line number line) s (word_of line)) None) filled ∙ ap (λ o. told_with o s (word_of line)) numbered
     ∙ ap (λ x. told_by (fault x v) (is_some (number_at s.tree x))) (sym (reads ∙ ap read_as is)))
 
--- one that has none stores nothing, and is told
+-- one that has none stores nothing, and is reported
 pub unnumbered_stored : (s : State) (number : ℕ) (line : List ℕ) → is_filled line ≡ true → number_of_line number line ≡ None → s ≡ line_stored s number line
 unnumbered_stored s number line filled lacks =
     sym (ap (λ f. cond f (stored_with (number_of_line number line) s (word_of line)) s) filled ∙ ap (λ o. stored_with o s (word_of line)) lacks)

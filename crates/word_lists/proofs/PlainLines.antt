@@ -1,25 +1,25 @@
 -- The lines of a list without faults, and the pairs that they store.
-use Rattle.std.proofs.Common.{◌≡◌, ◌<◌, ◌+◌, ◌-◌, zero, suc, take, drop, ℕ, List, [], ◌∷◌, ◌++◌, true, false, ◌&&◌, ◌==◌, Option, Some, None, IfSome, cond, refl, sym, ap, ◌∙◌, arith, length, get_or}
-use Rattle.std.specs.Prelude.{Result, Ok, Err}
+use Rattle.std.proofs.Common.{◌≡◌, ◌<◌, ◌+◌, ◌-◌, zero, suc, take, drop, ℕ, List, [], ◌∷◌, ◌++◌, true, false, ◌&&◌, ◌==◌, None, cond, refl, sym, ap, ◌∙◌, arith, length, get_or}
+use Rattle.std.specs.Prelude.{Ok}
 use Rattle.std.specs.Io.BufRead.{drop_through, take_through}
 use Rattle.hex.specs.Hex.{decode_sized}
-use Rattle.cedar_tree.specs.Queries.{Entry, asc}
-use Rattle.cedar_tree.specs.State.{State, new_state, stored}
+use Rattle.cedarwood.specs.Queries.{Entry, asc}
+use Rattle.cedarwood.specs.State.{State, new_state, after_put}
 use Rattle.std.proofs.lemmas.List.{map-append}
 use Rattle.cedarwood.specs.Words.{entries_of, LayoutKind, Pair}
 use Rattle.cedarwood.specs.Builds.{all_stored}
 use Rattle.cedarwood.specs.Dictionary.{Dictionary}
-use Rattle.cedarwood.specs.Fault.{fault, or_else}
+use Rattle.cedarwood.specs.Fault.{fault}
 use Rattle.cedarwood.specs.Making.{IsSorted, IsSortedBuild}
 use Rattle.cedarwood.specs.SortedInput.{fault_behind, fault_from, fault_of_order}
 use Rattle.cedarwood.specs.declared.builder.CedarBuilder.{CedarBuilder}
-use Rattle.cedarwood.specs.declared.error.CedarError.{CedarError}
 use Rattle.std.specs.Cmp.Lexicographic.{slice_cmp}
 use Rattle.std.specs.Ordering.{nat_cmp}
 use Rattle.word_lists.specs.Reading.{bytes_behind, first_read, named_of, read_as}
 use Rattle.word_lists.specs.Stored.{line_stored, lines_stored, pairs_stored, stored_by}
 use Rattle.word_lists.specs.Texts.{body_of}
 use Rattle.word_lists.proofs.ListedLines.{stored_push}
+use Rattle.cedarwood.proofs.FaultLemmas.{fault_free, key_part}
 
 -- ---- a word without a backslash
 
@@ -29,7 +29,7 @@ first_plain b (x ∷ []) h = refl
 first_plain b (x ∷ (high ∷ [])) h = refl
 first_plain b (x ∷ (high ∷ (low ∷ rest))) h = ap (λ t. cond (t && (x == 120)) (named_of (decode_sized (high ∷ low ∷ []) 1)) (b, 1)) h
 
--- stands for itself
+-- represents itself
 pub read_plain : (text : List ℕ) → ((i : ℕ) → i < length text → (get_or text i 0 == 92) ≡ false) → read_as text ≡ text
 read_plain [] h = refl
 read_plain (b ∷ text) h =
@@ -63,21 +63,13 @@ pair_pushed s number line items after pair pushed stores =
 
 -- ---- a sorted build
 
-both_none : (a b : Option CedarError) → or_else a b ≡ None → (a ≡ None) × (b ≡ None)
-both_none None b h = (refl, h)
-both_none (Some e) b h = absurd (cc)
-
 -- pairs of which none has a fault are all stored
 stored_all : (s : State) (index : ℕ) (before : List ℕ) (es : List Entry) → fault_from index before es ≡ None → pairs_stored s es ≡ all_stored s es
 stored_all s index before [] h = refl
 stored_all s index before (e ∷ es) h =
-    let p = both_none (fault_behind index before e.0 e.1) (fault_from (index + 1) e.0 es) h in
-    let q = both_none (fault e.0 e.1) (fault_of_order index (slice_cmp nat_cmp before e.0)) p.0 in
-    ap (λ f. pairs_stored (stored_by f s e.0 e.1) es) q.0 ∙ stored_all (stored s e.0 e.1) (index + 1) e.0 es p.1
-
-not_faulty : {D : Type 0} (o : Option CedarError) (d : D) → IfSome o (λ e. ◌≡◌ {A = Result D CedarError} (Ok d) (Err e)) → o ≡ None
-not_faulty None d h = refl
-not_faulty (Some e) d h = absurd (cc)
+    let p = key_part (fault_behind index before e.0 e.1) (fault_from (index + 1) e.0 es) h in
+    let q = key_part (fault e.0 e.1) (fault_of_order index (slice_cmp nat_cmp before e.0)) p.0 in
+    ap (λ f. pairs_stored (stored_by f s e.0 e.1) es) q.0 ∙ stored_all (after_put s e.0 e.1) (index + 1) e.0 es p.1
 
 -- a sorted build of the pairs of some lines leaves what these store
 pub built_so : (layout : LayoutKind) (slots : ℕ) (settings : CedarBuilder) (pairs : List Entry) (d : Dictionary) (lines : List (List ℕ))
@@ -85,7 +77,7 @@ pub built_so : (layout : LayoutKind) (slots : ℕ) (settings : CedarBuilder) (pa
     → all_stored new_state pairs ≡ record { tree = asc pairs; ordered = true } → d.state ≡ lines_stored new_state 1 lines
 built_so layout slots settings pairs d lines built is same law =
     let sorted : IsSorted layout settings pairs d = built.sorted in
-    let fine = not_faulty (fault_from 0 [] pairs) d built.faulty in
+    let fine = fault_free (fault_from 0 [] pairs) d built.faulty in
     let state : d.state ≡ record { tree = asc pairs; ordered = true } = λ k. record { tree = sorted.tree k; ordered = (sorted.ordered ∙ is) k } in
     state ∙ sym law ∙ sym (stored_all new_state 0 [] pairs fine) ∙ sym (same new_state)
 

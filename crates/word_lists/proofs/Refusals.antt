@@ -2,8 +2,8 @@
 use Rattle.std.proofs.Common.{◌≡◌, ℤ, List, ℕ, Bool, true, false, cond, is_some, Option, Some, None, IfSome, refl, sym, ap, subst}
 use Rattle.std.proofs.lemmas.Bool.{false≢true}
 use Rattle.std.specs.Prelude.{IsSome, IsTrue, ◌↔◌, Result, Ok, Err, IfOk, OnOk}
-use Rattle.cedar_tree.specs.State.{State, erased, stored}
-use Rattle.cedar_tree.specs.Tree.{number_at}
+use Rattle.cedarwood.specs.State.{State, after_erase, after_put}
+use Rattle.cedarwood.specs.Tree.{number_at}
 use Rattle.cedarwood.specs.Fault.{IsShortage}
 use Rattle.cedarwood.specs.declared.error.CedarError.{CedarError}
 use Rattle.cedarwood.specs.declared.error.CedarError.TheVariants as errors
@@ -12,6 +12,7 @@ use Rattle.word_lists.specs.declared.lines.StoreError.{StoreError}
 use Rattle.word_lists.specs.declared.lines.StoreError.TheVariants.{SlotLimit}
 use Rattle.word_lists.specs.Stored.{absent_of, IsWant, line_absent, line_erased, line_held, line_refusal, stored_by, told_by, want_of, word_of}
 use Rattle.text_lines.specs.Lines.{is_filled}
+use Rattle.cedarwood.proofs.GeneralLemmas.{on_ok}
 
 -- a want of slots is that of the dictionary
 pub slots_wanted : (e : CedarError) → ◌≡◌ {A = StoreError} (want_of e) SlotLimit → e ≡ errors.SlotLimit
@@ -75,10 +76,6 @@ short_told P (errors.InvalidMaxTrial v) s = absurd s
 short_told P (errors.DuplicateKey i) s = absurd s
 short_told P (errors.KeysNotSorted i) s = absurd s
 
-on_ok : {X E P : Type 0} (r : Result X E) → P → OnOk r P
-on_ok (Ok x) p = p
-on_ok (Err e) p = tt
-
 fault_told : (held : Bool) (f : CedarError) → IfOk (line_refusal f) (λ told. told ≡ told_by (Some f) held)
 fault_told held errors.SlotLimit = tt
 fault_told held errors.Memory = tt
@@ -89,21 +86,21 @@ fault_told held (errors.InvalidMaxTrial v) = tt
 fault_told held (errors.DuplicateKey i) = tt
 fault_told held (errors.KeysNotSorted i) = tt
 
--- what a refused entry leaves, where it is told of
+-- what a refused entry leaves, where it is reported
 pub refused_state : (X : Type 0) (o : Option CedarError) (word : List ℕ) (v : ℤ) (s t : State) (e : CedarError)
     → IfSome o (λ f. ◌≡◌ {A = Result X CedarError} (Err e) (Err f)) → (o ≡ None → IsShortage e) → t ≡ s → OnOk (line_refusal e) (t ≡ stored_by o s word v)
-refused_state X None word v s t e fine short same = short_refused (t ≡ stored s word v) e (short refl)
+refused_state X None word v s t e fine short same = short_refused (t ≡ after_put s word v) e (short refl)
 refused_state X (Some f) word v s t e fine short same = on_ok (line_refusal e) same
 
--- and what is told
+-- and what is reported
 pub refused_told : (X : Type 0) (o : Option CedarError) (held : Bool) (e : CedarError)
     → IfSome o (λ f. ◌≡◌ {A = Result X CedarError} (Err e) (Err f)) → (o ≡ None → IsShortage e) → IfOk (line_refusal e) (λ told. told ≡ told_by o held)
 refused_told X None held e fine short = short_told (λ told. told ≡ told_by None held) e (short refl)
 refused_told X (Some f) held e fine short =
     subst (λ (x : CedarError). IfOk (line_refusal x) (λ told. told ≡ told_by (Some f) held)) (sym (same_error e f fine)) (fault_told held f)
 
--- what an entry that is stored leaves, and what is told of it
-pub stored_state : (o : Option CedarError) (word : List ℕ) (v : ℤ) (s t : State) → IfSome o (λ f. ◌≡◌ {A = Result (Unit {0}) CedarError} (Ok tt) (Err f)) → t ≡ stored s word v
+-- what an entry that is stored leaves, and what is reported of it
+pub stored_state : (o : Option CedarError) (word : List ℕ) (v : ℤ) (s t : State) → IfSome o (λ f. ◌≡◌ {A = Result (Unit {0}) CedarError} (Ok tt) (Err f)) → t ≡ after_put s word v
     → t ≡ stored_by o s word v
 stored_state None word v s t fine h = h
 stored_state (Some f) word v s t fine h = absurd (cc)
@@ -119,7 +116,7 @@ store_same e f h = cc
 pub update_err : {e f : CedarError} → e ≡ f → ◌≡◌ {A = Result (Unit {0}) CedarError} (Err e) (Err f)
 update_err h = ap (λ e. Err e) h
 
--- whether a word was held, as an erasure answers it
+-- whether a word was held, as an erasure returns it
 pub held_is : (held : Bool) (o : Option ℤ) → (IsTrue held ↔ IsSome o) → held ≡ is_some o
 held_is true (Some v) h = refl
 held_is false None h = refl
@@ -128,10 +125,10 @@ held_is false (Some v) h = absurd (false≢true (h.1 refl))
 
 -- an empty line takes nothing out, and a filled one its word
 pub erased_none : (s : State) (line : List ℕ) → is_filled line ≡ false → s ≡ line_erased s line
-erased_none s line unfilled = ap (λ f. cond f (erased s (word_of line)) s) (sym unfilled)
+erased_none s line unfilled = ap (λ f. cond f (after_erase s (word_of line)) s) (sym unfilled)
 
-pub erased_word : (s : State) (line : List ℕ) → is_filled line ≡ true → erased s (word_of line) ≡ line_erased s line
-erased_word s line filled = ap (λ f. cond f (erased s (word_of line)) s) (sym filled)
+pub erased_word : (s : State) (line : List ℕ) → is_filled line ≡ true → after_erase s (word_of line) ≡ line_erased s line
+erased_word s line filled = ap (λ f. cond f (after_erase s (word_of line)) s) (sym filled)
 
 pub absent_none : (s : State) (line : List ℕ) → is_filled line ≡ false → 0 ≡ line_absent s line
 absent_none s line unfilled = ap (λ f. absent_of (cond f (is_some (number_at s.tree (word_of line))) true)) (sym unfilled)

@@ -5,7 +5,7 @@ use Rattle.std.specs.Fmt.{signed_decimal}
 use Rattle.word_lists.specs.Lines.{entry_line, word_text}
 use Rattle.word_lists.specs.Texts.{tab_field}
 
--- the bytes from a place on, as a slice of an array has them
+-- the bytes from a position on, as a slice of an array has them
 pub all_from : (size : ℕ) (room bytes : List ℕ) (at : ℕ) → length room ≤ size → drop at room ≡ bytes → take (size - at) (drop at room) ≡ bytes
 all_from size room bytes at fits e = take_all (size - at) (drop at room) (omega (arith, length-drop at room)) ∙ e
 

@@ -5,7 +5,7 @@ use Rattle.std.proofs.lemmas.List.{drop-take, length-take, take-take}
 use Rattle.std.proofs.Common.{◌≡◌, ◌<◌, ◌≤◌, ◌+◌, ◌-◌, suc, ℕ, List, [], ◌∷◌, ◌++◌, Bool, true, false, ap₂, get_or, take-append-drop, Option, refl, sym, ap, subst, ◌∙◌, append_assoc, append-nil, length, length-append, take, drop, arith, if◌then◌else◌, cond, ◌^◌}
 use Rattle.std.specs.Prelude.{ltb}
 use Rattle.std.specs.Io.KnownBytes.{Appends}
-use Rattle.cedar_tree.specs.Tree.{Tree}
+use Rattle.cedarwood.specs.Tree.{Tree}
 use Rattle.cedar_words.specs.Words.{IsAheadCapped, IsCheapestBy, IsCut, IsLeastCapped, Spot, Token, character_price, keywords_in, segments}
 use Rattle.text_lines.specs.Written.{WritesFront}
 use Rattle.word_lists.specs.Texts.{IsCheapestCut, body_of, ending_of, marked_line, marked_token, characters, characters_begun, continues_character, spot_line, spot_lines, texts_of}
@@ -77,7 +77,7 @@ take_in_parts n m xs le = sym (take-append-drop n (take m xs)) ∙ ap₂ (λ a b
   back : drop n (take m xs) ≡ take (m - n) (drop n xs)
   back = ap (λ k. drop n (take k xs)) (sym whole) ∙ drop-take n (m - n) xs
 
--- those before a place, and those from there to another one
+-- those before a position, and those from there to another one
 pub characters_between : (text : List ℕ) (n m : ℕ) → n ≤ m → characters (take n text) + characters (take (m - n) (drop n text)) ≡ characters (take m text)
 characters_between text n m le = sym (ap characters (take_in_parts n m text le) ∙ characters-append (take n text) (take (m - n) (drop n text)))
 

@@ -2,32 +2,32 @@
 use Rattle.std.proofs.Common.{◌≡◌, ◌<◌, suc, ℕ, List, [], ◌∷◌, ◌++◌, Bool, true, cond, Option, refl, sym, ap, subst, ◌∙◌, append_assoc, append-nil, length, take, drop, get_or, ◌-◌, length-drop, arith, length-append}
 use Rattle.std.proofs.lemmas.List.{take_all}
 use Rattle.std.specs.Io.KnownBytes.{Appends}
-use Rattle.cedar_tree.specs.Queries.{Entry}
+use Rattle.cedarwood.specs.Queries.{Entry}
 use Rattle.text_lines.specs.Written.{WritesFront}
 use Rattle.hex.specs.Hex.{encode_lower}
-use Rattle.word_lists.specs.Lines.{byte_text, entry_line, entry_lines, escaped, is_plain, word_text}
+use Rattle.word_lists.specs.Lines.{byte_text, entry_line, entry_lines, escape, is_plain, word_text}
 use Rattle.std.specs.Fmt.{signed_decimal}
 use Rattle.text_lines.proofs.Bytes.{Appends-append, front_after, front_more}
 
-pub escaped-append : (t : Bool) (a b : List ℕ) → escaped t (a ++ b) ≡ escaped t a ++ escaped t b
+pub escaped-append : (t : Bool) (a b : List ℕ) → escape t (a ++ b) ≡ escape t a ++ escape t b
 escaped-append t [] b = refl
-escaped-append t (x ∷ a) b = ap (λ l. byte_text t x ++ l) (escaped-append t a b) ∙ sym (append_assoc (byte_text t x) (escaped t a) (escaped t b))
+escaped-append t (x ∷ a) b = ap (λ l. byte_text t x ++ l) (escaped-append t a b) ∙ sym (append_assoc (byte_text t x) (escape t a) (escape t b))
 
 -- some bytes were written, and a front of the next one
 pub bytes_stopped : (a b d : Option (List ℕ)) (t : Bool) (bytes done rest : List ℕ) (x : ℕ) → bytes ≡ done ++ rest → rest ≡ x ∷ drop 1 rest
-    → Appends a b (escaped t done) → WritesFront b d (byte_text t x) → WritesFront a d (escaped t bytes)
+    → Appends a b (escape t done) → WritesFront b d (byte_text t x) → WritesFront a d (escape t bytes)
 bytes_stopped a b d t bytes done rest x e first written front =
-    subst (WritesFront a d) (sym (ap (escaped t) (e ∙ ap (λ l. done ++ l) first) ∙ escaped-append t done (x ∷ drop 1 rest)))
-    (front_after a b d (escaped t done) (byte_text t x ++ escaped t (drop 1 rest)) written (front_more b d (byte_text t x) (escaped t (drop 1 rest)) front))
+    subst (WritesFront a d) (sym (ap (escape t) (e ∙ ap (λ l. done ++ l) first) ∙ escaped-append t done (x ∷ drop 1 rest)))
+    (front_after a b d (escape t done) (byte_text t x ++ escape t (drop 1 rest)) written (front_more b d (byte_text t x) (escape t (drop 1 rest)) front))
 
 -- and all of it
 pub bytes_more : (a b d : Option (List ℕ)) (t : Bool) (bytes done rest : List ℕ) (x : ℕ) → bytes ≡ done ++ rest → rest ≡ x ∷ drop 1 rest
-    → Appends a b (escaped t done) → Appends b d (byte_text t x) → (y : List ℕ) × (bytes ≡ y ++ take (length rest - 1) (drop 1 rest)) × Appends a d (escaped t y)
+    → Appends a b (escape t done) → Appends b d (byte_text t x) → (y : List ℕ) × (bytes ≡ y ++ take (length rest - 1) (drop 1 rest)) × Appends a d (escape t y)
 bytes_more a b d t bytes done rest x e first written more = (
   done ++ x ∷ [],
   e ∙ ap (λ l. done ++ l) first ∙ sym (append_assoc done (x ∷ []) (drop 1 rest)) ∙ ap (λ l. (done ++ x ∷ []) ++ l) (sym whole),
-  subst (Appends a d) (sym (escaped-append t done (x ∷ []) ∙ ap (λ l. escaped t done ++ l) (append-nil (byte_text t x))))
-      (Appends-append a b d (escaped t done) (byte_text t x) written more),
+  subst (Appends a d) (sym (escaped-append t done (x ∷ []) ∙ ap (λ l. escape t done ++ l) (append-nil (byte_text t x))))
+      (Appends-append a b d (escape t done) (byte_text t x) written more),
 ) where
   whole : take (length rest - 1) (drop 1 rest) ≡ drop 1 rest
   whole = take_all (length rest - 1) (drop 1 rest) (omega (arith, length-drop 1 rest))
@@ -67,19 +67,19 @@ lines_begun a b entries came (e ∷ later) whole some written = (
   written,
 )
 
--- some bytes stand as they are, and so does the next one
-pub plain_more : (t : Bool) (bytes done rest : List ℕ) (x : ℕ) → bytes ≡ done ++ rest → rest ≡ x ∷ drop 1 rest → escaped t done ≡ done → is_plain t x ≡ true
-    → (y : List ℕ) × (bytes ≡ y ++ take (length rest - 1) (drop 1 rest)) × (escaped t y ≡ y)
+-- some bytes are written as they are, and so is the next one
+pub plain_more : (t : Bool) (bytes done rest : List ℕ) (x : ℕ) → bytes ≡ done ++ rest → rest ≡ x ∷ drop 1 rest → escape t done ≡ done → is_plain t x ≡ true
+    → (y : List ℕ) × (bytes ≡ y ++ take (length rest - 1) (drop 1 rest)) × (escape t y ≡ y)
 plain_more t bytes done rest x e first same plain = (
   done ++ x ∷ [],
   e ∙ ap (λ l. done ++ l) first ∙ sym (append_assoc done (x ∷ []) (drop 1 rest)) ∙ ap (λ l. (done ++ x ∷ []) ++ l) (sym whole),
-  escaped-append t done (x ∷ []) ∙ ap (λ l. l ++ escaped t (x ∷ [])) same ∙ ap (λ l. done ++ l) (append-nil (byte_text t x) ∙ ap (λ p. cond p (x ∷ []) (92 ∷ (120 ∷ encode_lower (x ∷ [])))) plain),
+  escaped-append t done (x ∷ []) ∙ ap (λ l. l ++ escape t (x ∷ [])) same ∙ ap (λ l. done ++ l) (append-nil (byte_text t x) ∙ ap (λ p. cond p (x ∷ []) (92 ∷ (120 ∷ encode_lower (x ∷ [])))) plain),
 ) where
   whole : take (length rest - 1) (drop 1 rest) ≡ drop 1 rest
   whole = take_all (length rest - 1) (drop 1 rest) (omega (arith, length-drop 1 rest))
 
 -- all of them do
-pub plain_all : (t : Bool) (bytes done rest : List ℕ) → bytes ≡ done ++ rest → rest ≡ [] → escaped t done ≡ done → escaped t bytes ≡ bytes
+pub plain_all : (t : Bool) (bytes done rest : List ℕ) → bytes ≡ done ++ rest → rest ≡ [] → escape t done ≡ done → escape t bytes ≡ bytes
 plain_all t bytes done rest e none same =
     let whole : bytes ≡ done = e ∙ ap (λ l. done ++ l) none ∙ append-nil done in
-    ap (escaped t) whole ∙ same ∙ sym whole
+    ap (escape t) whole ∙ same ∙ sym whole

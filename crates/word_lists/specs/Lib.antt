@@ -1,4 +1,4 @@
-pub use Rattle.cedar_tree.specs.Tree
+pub use Rattle.cedarwood.specs.Tree
 pub use Rattle.cedarwood.specs.WatchedDevice
 pub mod Devices
 pub mod Lines

@@ -1,13 +1,14 @@
 -- The lines of words and their numbers.
-use Rattle.std.specs.Prelude.{ℕ, ℤ, ltb, Bool, false, ◌==◌, ◌&&◌, ◌||◌, not, if◌then◌else◌, List, [], ◌∷◌, ◌++◌, Option, Some, None}
+use Rattle.std.specs.Prelude.{ℕ, ℤ, ltb, Bool, false, ◌==◌, ◌&&◌, ◌||◌, not, if◌then◌else◌}
+use Rattle.std.specs.Prelude.{List, [], ◌∷◌, ◌++◌, Option, Some, None}
 use Rattle.std.specs.Ordering.{int_eq}
 use Rattle.std.specs.Str.{is_utf8}
 use Rattle.std.specs.Fmt.{signed_decimal}
 use Rattle.hex.specs.Hex.{encode_lower}
-use Rattle.cedar_tree.specs.Queries.{Entry}
-use Rattle.cedar_tree.specs.Tree.{Tree, number_at}
+use Rattle.cedarwood.specs.Queries.{Entry}
+use Rattle.cedarwood.specs.Tree.{Tree, number_at}
 
--- whether a byte of a word stands as it is: no tab, no byte 10, no backslash, and below 128 where the word isn't UTF-8
+-- whether a byte of a word is written as it is: no tab, no byte 10, no backslash, and below 128 where the word isn't UTF-8
 abbrev pub is_plain : Bool → ℕ → Bool
 is_plain text b = not (b == 9) && (not (b == 10) && (not (b == 92) && (text || ltb b 128)))
 
@@ -16,13 +17,13 @@ abbrev pub byte_text : Bool → ℕ → List ℕ
 byte_text text b = if is_plain text b then b ∷ [] else (92 ∷ (120 ∷ encode_lower (b ∷ [])))
 
 -- some bytes of a word, which is UTF-8 or not
-abbrev pub escaped : Bool → List ℕ → List ℕ
-escaped text [] = []
-escaped text (b ∷ bytes) = byte_text text b ++ escaped text bytes
+abbrev pub escape : Bool → List ℕ → List ℕ
+escape text [] = []
+escape text (b ∷ bytes) = byte_text text b ++ escape text bytes
 
 -- a word as it is written
 abbrev pub word_text : List ℕ → List ℕ
-word_text word = escaped (is_utf8 word) word
+word_text word = escape (is_utf8 word) word
 
 -- a word, a tab, its number and byte 10
 abbrev pub entry_line : Entry → List ℕ
@@ -56,6 +57,6 @@ abbrev pub holds_entry : Tree → Entry → Bool
 holds_entry tree entry = is_number (number_at tree entry.0) entry.1
 
 -- the entries that a tree doesn't hold with the same number
-abbrev pub lacking : Tree → List Entry → List Entry
-lacking tree [] = []
-lacking tree (entry ∷ entries) = if holds_entry tree entry then lacking tree entries else entry ∷ lacking tree entries
+abbrev pub entries_missing : Tree → List Entry → List Entry
+entries_missing tree [] = []
+entries_missing tree (entry ∷ entries) = if holds_entry tree entry then entries_missing tree entries else entry ∷ entries_missing tree entries

@@ -1,14 +1,17 @@
--- What the lines of a word list store in a dictionary, and what is told of them.
-use Rattle.std.specs.Prelude.{◌≡◌, ℕ, ◌+◌, ◌<◌, ◌^◌, Bool, true, false, ◌&&◌, ◌==◌, nat_le, int_le, if◌then◌else◌, ℤ, pos, negsuc, List, [], ◌∷◌, ◌++◌, length, Option, Some, None, IfSome, is_some, Result, Ok, Err}
+-- What the lines of a word list store in a dictionary, and what is reported of them.
+use Rattle.std.specs.Prelude.{◌≡◌, ℕ, ◌+◌, ◌<◌, ◌^◌, Bool, true, false, ◌&&◌, ◌==◌, nat_le, int_le}
+use Rattle.std.specs.Prelude.{if◌then◌else◌, ℤ, pos, negsuc, List, [], ◌∷◌, ◌++◌, length, Option}
+use Rattle.std.specs.Prelude.{Some, None, IfSome, is_some, Result, Ok, Err}
 use Rattle.std.specs.List.{before_first, after_first, list_all, position}
 use Rattle.std.specs.Str.Parse.{without_leading_sign, signed_digits_value}
-use Rattle.cedar_tree.specs.State.{State, erased, stored}
-use Rattle.cedar_tree.specs.Queries.{Entry}
-use Rattle.cedar_tree.specs.Tree.{number_at}
+use Rattle.cedarwood.specs.State.{State, after_erase, after_put}
+use Rattle.cedarwood.specs.Queries.{Entry}
+use Rattle.cedarwood.specs.Tree.{number_at}
 use Rattle.cedarwood.specs.Fault.{fault}
 use Rattle.cedarwood.specs.Builds.{all_stored}
 use Rattle.cedarwood.specs.declared.error.CedarError.{CedarError}
-use Rattle.cedarwood.specs.declared.error.CedarError.TheVariants.{EmptyKey, NulByte, InvalidValue, SlotLimit as OfSlots}
+use Rattle.cedarwood.specs.declared.error.CedarError.TheVariants.{EmptyKey, NulByte, InvalidValue}
+use Rattle.cedarwood.specs.declared.error.CedarError.TheVariants.{SlotLimit as OfSlots}
 use Rattle.text_lines.specs.Lines.{is_digit, is_filled, onto_first}
 use Rattle.word_lists.specs.Reading.{read_as}
 use Rattle.word_lists.specs.Texts.{body_of}
@@ -36,11 +39,11 @@ own_line_number number = if nat_le number 2147483647 then Some (pos number) else
 abbrev pub is_tab : ℕ → Bool
 is_tab b = b == 9
 
--- the word of a line: what its text before the first tab stands for
+-- the word of a line: what its text before the first tab represents
 abbrev pub word_of : List ℕ → List ℕ
 word_of line = read_as (before_first is_tab line)
 
--- what stands behind its first tab, if it has one
+-- what follows its first tab, if it has one
 abbrev pub figures_of : List ℕ → Option (List ℕ)
 figures_of line = if is_some (position is_tab line) then Some (after_first is_tab line) else None
 
@@ -68,7 +71,7 @@ want_of _ = Memory
 -- ---- what a line stores
 
 abbrev pub stored_by : Option CedarError → State → List ℕ → ℤ → State
-stored_by None s word v = stored s word v
+stored_by None s word v = after_put s word v
 stored_by (Some e) s word v = s
 
 abbrev pub stored_with : Option ℤ → State → List ℕ → State
@@ -90,11 +93,11 @@ abbrev pub told_with : Option ℤ → State → List ℕ → Option Fault
 told_with None s word = Some faults.Number
 told_with (Some v) s word = told_by (fault word v) (is_some (number_at s.tree word))
 
--- what is told of a line: that it has no number, the fault of its word and number, or that its word is held
+-- what is reported of a line: that it has no number, the fault of its word and number, or that its word is held
 abbrev pub line_told : State → ℕ → List ℕ → Option Fault
 line_told s number line = if is_filled line then told_with (number_of_line number line) s (word_of line) else None
 
--- a line that is told: its number, its bytes, and what is wrong with it
+-- a line that is reported: its number, its bytes, and what is wrong with it
 abbrev pub Told : Type 0
 Told = ℕ × List ℕ × Fault
 
@@ -130,19 +133,19 @@ abbrev pub lines_stored : State → ℕ → List (List ℕ) → State
 lines_stored s number [] = s
 lines_stored s number (line ∷ lines) = lines_stored (line_stored s number (body_of line)) (number + 1) lines
 
--- what is told of them
+-- what is reported of them
 abbrev pub lines_told : State → ℕ → List (List ℕ) → List Told
 lines_told s number [] = []
 lines_told s number (line ∷ lines) =
     told_one number (body_of line) (line_told s number (body_of line)) ++ lines_told (line_stored s number (body_of line)) (number + 1) lines
 
--- and what is told of a whole list
+-- and what is reported of a whole list
 abbrev pub list_told : State → List ℕ → List Told
 list_told s list = lines_told s 1 (lines_in list)
 
 -- the state without a line's word
 abbrev pub line_erased : State → List ℕ → State
-line_erased s line = if is_filled line then erased s (word_of line) else s
+line_erased s line = if is_filled line then after_erase s (word_of line) else s
 
 -- whether its word is held; that of an empty line is
 abbrev pub line_held : State → List ℕ → Bool
@@ -165,7 +168,7 @@ abbrev pub lines_absent : State → List (List ℕ) → ℕ
 lines_absent s [] = 0
 lines_absent s (line ∷ lines) = line_absent s (body_of line) + lines_absent (line_erased s (body_of line)) lines
 
--- ---- a reader and a teller, where it is known what they have left or were told
+-- ---- a reader and a reporter, where it is known what they have left or heard
 
 -- a list grows by some members, where it is known
 abbrev pub Adds : {T : Type 0} → Option (List T) → Option (List T) → List T → Type 0
@@ -191,7 +194,7 @@ TakesNext before after line false = IfSome before (λ input. input ≡ [])
 abbrev pub AreFirstLines : Option (List ℕ) → List (List ℕ) → Type 0
 AreFirstLines known came = IfSome known (λ input. (later : List (List ℕ)) × (lines_in input ≡ came ++ later))
 
--- the first lines of what a reader had left are stored and told, or all
+-- the first lines of what a reader had left are stored and reported, or all
 abbrev pub StoresFirstLines : Option (List ℕ) → State → State → Option (List Told) → Option (List Told) → Type 0
 StoresFirstLines known s t told tells =
     (came : List (List ℕ)) × AreFirstLines known came × (t ≡ lines_stored s 1 came) × Adds told tells (lines_told s 1 came)

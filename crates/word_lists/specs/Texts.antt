@@ -1,8 +1,12 @@
--- Texts by the words of a dictionary: the words that one begins with, the words that stand in it, and its cuts.
-use Rattle.std.specs.Prelude.{ℕ, ℤ, ◌+◌, ◌-◌, ◌^◌, ◌<◌, ltb, nat_le, Bool, ◌==◌, ◌&&◌, ◌||◌, not, if◌then◌else◌, Option, Some, None, List, [], ◌∷◌, ◌++◌, map, length, take, drop, get_or, is_some, decimal, codes, int_le, pos, unsigned_abs}
-use Rattle.cedar_tree.specs.Queries.{Entry, front}
-use Rattle.cedar_tree.specs.Tree.{Tree}
-use Rattle.cedar_words.specs.Words.{IsAheadCapped, IsCheapestBy, IsCut, IsLeastCapped, Spot, Token, character_price, keywords_in, segments, spots_from}
+-- Texts by the words of a dictionary: the words that one begins with, the words that are in it, and its cuts.
+use Rattle.std.specs.Prelude.{ℕ, ℤ, ◌+◌, ◌-◌, ◌^◌, ◌<◌, ltb, nat_le, Bool, ◌==◌, ◌&&◌, ◌||◌}
+use Rattle.std.specs.Prelude.{not, if◌then◌else◌, Option, Some, None, List, [], ◌∷◌, ◌++◌, map}
+use Rattle.std.specs.Prelude.{length, take, drop, get_or, is_some, decimal, codes, int_le, pos}
+use Rattle.std.specs.Prelude.{unsigned_abs}
+use Rattle.cedarwood.specs.Queries.{Entry, front}
+use Rattle.cedarwood.specs.Tree.{Tree}
+use Rattle.cedar_words.specs.Words.{IsAheadCapped, IsCheapestBy, IsCut, IsLeastCapped, Spot, Token}
+use Rattle.cedar_words.specs.Words.{character_price, keywords_in, segments, spots_from}
 use Rattle.std.specs.Borrow.{Bor}
 use Rattle.word_lists.specs.declared.cut.Style.{Style}
 use Rattle.word_lists.specs.declared.cut.Style.TheVariants.{Parted, Marked, Replaced}
@@ -16,7 +20,7 @@ front_entry text found = (take (found.1 + 1) text, found.0)
 abbrev pub fronts_of : Tree → List ℕ → List Entry
 fronts_of tree text = map (front_entry text) (front tree text)
 
--- so many bytes of a text from a place on, or as many as there are
+-- so many bytes of a text from a position on, or as many as there are
 abbrev pub text_part : List ℕ → ℕ → ℕ → List ℕ
 text_part text start len = take len (drop start text)
 
@@ -49,16 +53,16 @@ abbrev pub characters : List ℕ → ℕ
 characters [] = 0
 characters (b ∷ bytes) = characters_begun b + characters bytes
 
--- whether a sign stands before a token: none before the first one, and none before a byte without a number that goes on with a
+-- whether a sign comes before a token: none before the first one, and none before a byte without a number that goes on with a
 -- character
 abbrev pub is_parted : List ℕ → Token → Bool
 is_parted text t = ltb 0 t.0 && (is_some t.2 || not (continues_character (get_or text t.0 0)))
 
--- what stands before a token: the sign, or nothing
+-- what comes before a token: the sign, or nothing
 abbrev pub parting : List ℕ → List ℕ → Token → List ℕ
 parting sign text t = if is_parted text t then sign else []
 
--- a token, and what stands before it
+-- a token, and what comes before it
 abbrev pub parted_token : List ℕ → List ℕ → Token → List ℕ
 parted_token sign text t = parting sign text t ++ text_part text t.0 t.1
 
@@ -75,7 +79,7 @@ cut_text sign text tokens = texts_of (parted_token sign text) tokens
 abbrev pub line_cut : List ℕ → List ℕ → List Token → List ℕ
 line_cut sign line tokens = cut_text sign (body_of line) tokens ++ ending_of line
 
--- a line cut at each place into the longest key that begins there, or else one byte
+-- a line cut at each position into the longest key that begins there, or else one byte
 abbrev pub greedy_line : Tree → List ℕ → List ℕ → List ℕ
 greedy_line tree sign line = line_cut sign line (segments tree (body_of line))
 
@@ -99,7 +103,7 @@ abbrev pub marked_line : Tree → List ℕ → List ℕ
 marked_line tree line =
     if ltb 0 (length (keywords_in tree (body_of line))) then texts_of (marked_token (body_of line)) (segments tree (body_of line)) ++ ending_of line else []
 
--- the line at a place of a list, or else the word itself
+-- the line at a position of a list, or else the word itself
 abbrev pub line_at : List (Bor (List ℕ)) → ℕ → List ℕ → List ℕ
 line_at lines place own = get_or (map (λ line. line.now) lines) place own
 
@@ -150,7 +154,7 @@ OnCheapestLine tree unknown sign line P = (tokens : List Token) × IsCheapestCut
 abbrev pub tab_field : ℕ → List ℕ
 tab_field number = decimal number ++ 9 ∷ []
 
--- the line of a word that stands in a text: the number of the text's line, the column, the word and its number, with tabs between them.
+-- the line of a word that is in a text: the number of the text's line, the column, the word and its number, with tabs between them.
 -- A column is one more than how many characters begin before the word
 abbrev pub spot_line : ℕ → List ℕ → Spot → List ℕ
 spot_line number text s = tab_field number ++ (tab_field (1 + characters (take s.0 text)) ++ entry_line (text_part text s.0 s.1, s.2))
@@ -160,7 +164,7 @@ abbrev pub spot_lines : ℕ → List ℕ → List Spot → List ℕ
 spot_lines number text [] = []
 spot_lines number text (s ∷ spots) = spot_line number text s ++ spot_lines number text spots
 
--- those of all words that stand in a line, and those of its keywords
+-- those of all words that are in a line, and those of its keywords
 abbrev pub match_lines : Tree → ℕ → List ℕ → List ℕ
 match_lines tree number line = spot_lines number (body_of line) (spots_from tree 0 (body_of line))
 

@@ -1,7 +1,11 @@
 //! A text cut into tokens, with a sign between them.
 
-ghost use Rattle.std.specs.Prelude.{◌++◌, ◌∷◌, ◌≡◌, [], Err, get_or, List, MatchOption, OnErr, OnOk};
-ghost use Rattle.word_lists.specs.Words.{body_of, BreaksOff, ending_of, greedy_line, has_failed, is_parted, LinesOrFails, OnCheapestLine, parted_token, parting, style_text, styled_text, Token, Writes, WritesOrFails};
+ghost use Rattle.std.specs.Prelude.{◌++◌, ◌∷◌, ◌≡◌, [], Err, get_or, List};
+ghost use Rattle.std.specs.Prelude.{MatchOption, OnErr, OnOk};
+ghost use Rattle.word_lists.specs.Words.{body_of, BreaksOff, ending_of, greedy_line, has_failed};
+ghost use Rattle.word_lists.specs.Words.{is_parted, LinesOrFails, OnCheapestLine, parted_token};
+ghost use Rattle.word_lists.specs.Words.{parting, style_text, styled_text, Token, Writes};
+ghost use Rattle.word_lists.specs.Words.{WritesOrFails};
 
 use crate::marked::{write_marked_token, write_replaced_token};
 use crate::parts::{body, byte_at, ending, goes_on, part};
@@ -11,8 +15,8 @@ use cedarwood::{Layout, Trie, Watched};
 use std::alloc::Allocator;
 use std::io::Write;
 
-/// Writes a line with a sign between its tokens: at each place the longest key that begins there, or otherwise one byte. A byte without a
-/// number that continues a character of UTF-8 isn't parted from what is before it. The bytes that end the line, byte 10 and a byte 13
+/// Writes a line with a sign between its tokens: at each position the longest key that begins there, or otherwise one byte. A byte without
+/// a number that continues a character of UTF-8 isn't parted from what is before it. The bytes that end the line, byte 10 and a byte 13
 /// before it, are written after them. It allocates nothing.
 ///
 /// ```

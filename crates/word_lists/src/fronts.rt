@@ -1,7 +1,9 @@
 //! The words that a text begins with.
 
-ghost use Rattle.std.specs.Prelude.{◌∷◌, ◌≡◌, [], IfOk, length, List, ltb, map, MatchOption, OnErr, OnOk, ℕ, ℤ};
-ghost use Rattle.word_lists.specs.Words.{BreaksOff, entry_line, entry_lines, front_entry, fronts_of, has_failed, Writes, WritesOrFails};
+ghost use Rattle.std.specs.Prelude.{◌∷◌, ◌≡◌, [], IfOk, length, List, ltb, map};
+ghost use Rattle.std.specs.Prelude.{MatchOption, OnErr, OnOk, ℕ, ℤ};
+ghost use Rattle.word_lists.specs.Words.{BreaksOff, entry_line, entry_lines, front_entry};
+ghost use Rattle.word_lists.specs.Words.{fronts_of, has_failed, Writes, WritesOrFails};
 
 use crate::parts::through;
 use crate::word::write_entry;

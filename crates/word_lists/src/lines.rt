@@ -1,7 +1,14 @@
 //! The lines of a word list, stored in a dictionary.
 
-ghost use Rattle.std.specs.Prelude.{◌<◌, ◌∷◌, ◌≡◌, ◌≤◌, [], Err, IfErr, IfOk, IfSome, is_some, length, List, ltb, None, OnErr, OnOk, Option, option_map};
-ghost use Rattle.word_lists.specs.Words.{absent_of, Adds, before_first, ErasesFirstLines, fault, figures_number, figures_of, is_tab, line_absent, line_erased, line_refusal, line_stored, line_told, lines_absent, lines_erased, lines_in, lines_stored, list_told, Memory, number_at, number_with, OnKnown, own_line_number, position, stored_by, StoresFirstLines, TakesNext, Told, told_by, told_one, want_of};
+ghost use Rattle.std.specs.Prelude.{◌<◌, ◌∷◌, ◌≡◌, ◌≤◌, [], Err, IfErr, IfOk, IfSome, is_some};
+ghost use Rattle.std.specs.Prelude.{length, List, ltb, None, OnErr, OnOk, Option, option_map};
+ghost use Rattle.word_lists.specs.Words.{absent_of, Adds, before_first, ErasesFirstLines, fault};
+ghost use Rattle.word_lists.specs.Words.{figures_number, figures_of, is_tab, line_absent};
+ghost use Rattle.word_lists.specs.Words.{line_erased, line_refusal, line_stored, line_told};
+ghost use Rattle.word_lists.specs.Words.{lines_absent, lines_erased, lines_in, lines_stored};
+ghost use Rattle.word_lists.specs.Words.{list_told, Memory, number_at, number_with, OnKnown};
+ghost use Rattle.word_lists.specs.Words.{own_line_number, position, stored_by, StoresFirstLines};
+ghost use Rattle.word_lists.specs.Words.{TakesNext, Told, told_by, told_one, want_of};
 
 use crate::parts::body;
 use crate::read::read_word;
@@ -36,6 +43,7 @@ pub enum StoreError {
 }
 
 impl From<AllocError> for StoreError {
+    //= A failed allocation becomes `Memory`.
     ghost from_gives = { λ _ e. e ≡ Memory };
 
     fn from(_: AllocError) -> StoreError {
@@ -50,6 +58,7 @@ pub trait LineFaults {
 
     /// Hears of a line: its number, counted from 1, its bytes without those that end it, and what is wrong with it.
     fn tell(&mut self, number: u64, line: &[u8], fault: LineFault)
+        //= What a reporter heard, if it says so, has one line more then: its number, its bytes and its fault. [by Adds]
         ensures { Adds (told self.old) (told self.new) ((number, line.now, fault) ∷ []) };
 }
 

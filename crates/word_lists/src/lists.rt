@@ -1,6 +1,7 @@
 //! The lines of a dictionary's entries. They allocate nothing but what the walk does.
 
-ghost use Rattle.std.specs.Prelude.{◌<◌, ◌∷◌, ◌≡◌, [], drop, IfErr, IfOk, length, MatchOption, min, OnErr, OnOk, take};
+ghost use Rattle.std.specs.Prelude.{◌<◌, ◌∷◌, ◌≡◌, [], drop, IfErr, IfOk, length};
+ghost use Rattle.std.specs.Prelude.{MatchOption, min, OnErr, OnOk, take};
 ghost use Rattle.word_lists.specs.Words.{BreaksOff, entry_lines, has_failed, LinesOrFails, Writes};
 
 use crate::word::write_entry;

@@ -1,7 +1,8 @@
 //! The line of a word that is looked up.
 
 ghost use Rattle.std.specs.Prelude.{◌≡◌, IfOk, is_some, OnErr, OnOk};
-ghost use Rattle.word_lists.specs.Words.{BreaksOff, found_line, has_failed, number_at, Writes, WritesOrFails};
+ghost use Rattle.word_lists.specs.Words.{BreaksOff, found_line, has_failed, number_at};
+ghost use Rattle.word_lists.specs.Words.{Writes, WritesOrFails};
 
 use crate::word::write_entry;
 use crate::write::ListError;

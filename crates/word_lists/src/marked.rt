@@ -1,7 +1,9 @@
 //! A text with its keywords marked, or replaced.
 
 ghost use Rattle.std.specs.Prelude.{◌≡◌, IfOk, length, ltb, map, OnErr, OnOk};
-ghost use Rattle.word_lists.specs.Words.{body_of, BreaksOff, has_failed, keywords_in, line_at, mark_text, marked_line, marked_token, replaced_line, replaced_token, replacement, Writes, WritesOrFails};
+ghost use Rattle.word_lists.specs.Words.{body_of, BreaksOff, has_failed, keywords_in, line_at};
+ghost use Rattle.word_lists.specs.Words.{mark_text, marked_line, marked_token, replaced_line};
+ghost use Rattle.word_lists.specs.Words.{replaced_token, replacement, Writes, WritesOrFails};
 
 use crate::cut::{Style, write_line_tokens};
 use crate::parts::{body, part};
@@ -149,7 +151,7 @@ fn replacement<'a>(lines: &[&'a [u8]], number: i32, own: &'a [u8]) -> &'a [u8]
     line_at(lines, number as usize - 1, own)
 }
 
-/// The line at a place of a list, or otherwise the word itself.
+/// The line at a position of a list, or otherwise the word itself.
 fn line_at<'a>(lines: &[&'a [u8]], place: usize, own: &'a [u8]) -> &'a [u8]
     ensures { result.now ≡ line_at lines.now place own.now }
 {

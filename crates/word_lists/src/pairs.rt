@@ -1,7 +1,11 @@
 //! Two dictionaries: the entries of one stored in another, and those that another one lacks.
 
-ghost use Rattle.std.specs.Prelude.{◌<◌, ◌∷◌, ◌≡◌, [], Err, IfErr, IfOk, length, ltb, MatchOption, OnErr, OnOk};
-ghost use Rattle.word_lists.specs.Words.{all_stored, BreaksOff, has_failed, holds_entry, IsWant, lacking, LinesOrFails, signed_line, signed_lines, stored, StoresFirst, Writes, WritesOrFails, WritesUpTo};
+ghost use Rattle.std.specs.Prelude.{◌<◌, ◌∷◌, ◌≡◌, [], Err, IfErr, IfOk, length, ltb};
+ghost use Rattle.std.specs.Prelude.{MatchOption, OnErr, OnOk};
+ghost use Rattle.word_lists.specs.Words.{after_put, all_stored, BreaksOff, entries_missing};
+ghost use Rattle.word_lists.specs.Words.{has_failed, holds_entry, IsWant, LinesOrFails};
+ghost use Rattle.word_lists.specs.Words.{signed_line, signed_lines, StoresFirst, Writes};
+ghost use Rattle.word_lists.specs.Words.{WritesOrFails, WritesUpTo};
 
 use crate::lines::{StoreError, store_error};
 use crate::lists::next_entry;
@@ -60,7 +64,7 @@ fn store_pair<L: Layout, const SLOTS: usize, A: Allocator + Copy>(
     key: &[u8],
     value: i32,
 ) -> Result<(), StoreError>
-    ensures ok { OnOk result (trie.new.state ≡ stored trie.old.state key.now value) }
+    ensures ok { OnOk result (trie.new.state ≡ after_put trie.old.state key.now value) }
     ensures err { OnErr result (trie.new.state ≡ trie.old.state) }
     ensures want { IfErr result IsWant }
     ensures limit { result ≡ Err StoreError.SlotLimit → trie.new.size ≡ SLOTS }
@@ -119,14 +123,14 @@ pub fn write_lacking<
     //= A list of the entries that another dictionary lacks, if it returns `Ok`, wrote the line of each entry of the iteration that the
     //  other one doesn't hold with the same number, after the sign and in the iteration's order, and nothing else. [by lacking,
     //  signed_lines]
-    ensures ok { OnOk result (Writes W.contents writer.old writer.new (signed_lines sign.now (lacking other.now.state.tree entries.entry))) }
+    ensures ok { OnOk result (Writes W.contents writer.old writer.new (signed_lines sign.now (entries_missing other.now.state.tree entries.entry))) }
 
     //= It returns whether there is one.
-    ensures any { IfOk result (λ any. any ≡ ltb 0 (length (lacking other.now.state.tree entries.entry))) }
+    ensures any { IfOk result (λ any. any ≡ ltb 0 (length (entries_missing other.now.state.tree entries.entry))) }
 
     //= One that fails wrote a beginning of these lines, and not all if the writer failed. [with broken]
-    ensures err { OnErr result (WritesUpTo W.contents writer.old writer.new (signed_lines sign.now (lacking other.now.state.tree entries.entry))) }
-    ensures broken { result ≡ Err ListError.Write → BreaksOff W.contents writer.old writer.new (signed_lines sign.now (lacking other.now.state.tree entries.entry)) }
+    ensures err { OnErr result (WritesUpTo W.contents writer.old writer.new (signed_lines sign.now (entries_missing other.now.state.tree entries.entry))) }
+    ensures broken { result ≡ Err ListError.Write → BreaksOff W.contents writer.old writer.new (signed_lines sign.now (entries_missing other.now.state.tree entries.entry)) }
 
     //= It fails with `Write` only if a call of the writer failed. With `Memory`, and if it returns `Ok`, none did.
     ensures faults { LinesOrFails (has_failed writer.old) (has_failed writer.new) result }
@@ -146,9 +150,9 @@ fn write_unless_held<L: Layout, const SLOTS: usize, A: Allocator + Copy, W: Writ
     value: i32,
     other: &Trie<L, SLOTS, A>,
 ) -> Result<bool, ListError>
-    ensures ok { OnOk result (Writes W.contents writer.old writer.new (signed_lines sign.now (lacking other.now.state.tree ((key.now, value) ∷ [])))) }
-    ensures any { IfOk result (λ any. any ≡ ltb 0 (length (lacking other.now.state.tree ((key.now, value) ∷ [])))) }
-    ensures err { OnErr result (BreaksOff W.contents writer.old writer.new (signed_lines sign.now (lacking other.now.state.tree ((key.now, value) ∷ [])))) }
+    ensures ok { OnOk result (Writes W.contents writer.old writer.new (signed_lines sign.now (entries_missing other.now.state.tree ((key.now, value) ∷ [])))) }
+    ensures any { IfOk result (λ any. any ≡ ltb 0 (length (entries_missing other.now.state.tree ((key.now, value) ∷ [])))) }
+    ensures err { OnErr result (BreaksOff W.contents writer.old writer.new (signed_lines sign.now (entries_missing other.now.state.tree ((key.now, value) ∷ [])))) }
     ensures faults { WritesOrFails ListError.Write (has_failed writer.old) (has_failed writer.new) result }
 {
     if holds(other, key, value) {

@@ -1,12 +1,14 @@
 //! Parts of a text, and its lines.
 
 ghost use Rattle.std.specs.Prelude.{◌+◌, ◌≡◌, ◌≤◌, ◌<◌, drop, get_or, IfOk, length, map, take};
-ghost use Rattle.word_lists.specs.Words.{body_of, characters, characters_begun, continues_character, drop_through, ending_of, ends_with, lines_in, take_through, text_part, without_last};
+ghost use Rattle.word_lists.specs.Words.{body_of, characters, characters_begun};
+ghost use Rattle.word_lists.specs.Words.{continues_character, drop_through, ending_of, ends_with};
+ghost use Rattle.word_lists.specs.Words.{lines_in, take_through, text_part, without_last};
 
 use memchr::memchr;
 use std::alloc::{AllocError, Allocator};
 
-/// So many bytes of a text from a place on, or as many as there are.
+/// So many bytes of a text from a position on, or as many as there are.
 pub(crate) fn part(text: &[u8], start: usize, len: usize) -> &[u8]
     ensures { result.now ≡ text_part text.now start len }
 {
@@ -14,7 +16,7 @@ pub(crate) fn part(text: &[u8], start: usize, len: usize) -> &[u8]
     &rest[..len.min(rest.len())]
 }
 
-/// The bytes of a text up to the one at a place, or all of them.
+/// The bytes of a text up to the one at a position, or all of them.
 pub(crate) fn through(text: &[u8], place: usize) -> &[u8]
     ensures { result.now ≡ take (place + 1) text.now }
 {
@@ -70,7 +72,7 @@ pub(crate) fn goes_on(byte: u8) -> bool
     128 <= byte && byte < 192
 }
 
-/// How many characters begin before a place, if it is known how many begin before another one. From that on they are counted.
+/// How many characters begin before a position, if it is known how many begin before another one. From that on they are counted.
 pub(crate) fn characters_before(text: &[u8], known: (usize, usize), place: usize) -> usize
     requires { known.1 ≡ characters (take known.0 text.now) }
     ensures all { result ≡ characters (take place text.now) }
@@ -102,7 +104,7 @@ pub(crate) fn characters_begun(byte: u8) -> usize
     if goes_on(byte) { 0 } else { 1 }
 }
 
-/// The byte at a place, or 0 after the end.
+/// The byte at a position, or 0 after the end.
 pub(crate) fn byte_at(text: &[u8], place: usize) -> u8
     ensures { result ≡ get_or text.now place 0 }
 {

@@ -6,7 +6,7 @@ ghost use Rattle.word_lists.specs.Words.{decode_sized, first_read, named_of, rea
 use std::alloc::{AllocError, Allocator};
 
 /// Reads a word from a text into a buffer, instead of what that held: `\x` and two hexadecimal digits of either case are the byte that they
-/// name, and every other byte stands for itself. After a refused allocation the buffer may hold anything.
+/// name, and every other byte represents itself. After a refused allocation the buffer may hold anything.
 ///
 /// ```
 /// let mut word = Vec::new(rt.alloc());
@@ -17,7 +17,7 @@ use std::alloc::{AllocError, Allocator};
 /// # Errors
 /// If an allocation was refused.
 pub fn read_word<A: Allocator>(text: &[u8], word: &mut Vec<u8, A>) -> Result<(), AllocError>
-    //= A word is read as the bytes that its text stands for.
+    //= A word is read as the bytes that its text represents.
     ensures { IfOk result (λ _. word.new.items ≡ read_as text.now) }
 {
     word.clear();
@@ -30,7 +30,7 @@ pub fn read_word<A: Allocator>(text: &[u8], word: &mut Vec<u8, A>) -> Result<(),
     Ok(())
 }
 
-/// The first byte that some text stands for, and how many bytes of the text do.
+/// The first byte that some text represents, and how many bytes of the text do.
 fn first_byte(text: &[u8]) -> (u8, usize)
     requires some { 0 < length text.now }
     ensures first { result ≡ first_read text.now }

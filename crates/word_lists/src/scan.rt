@@ -1,7 +1,11 @@
 //! The words that occur in a text, a line each.
 
-ghost use Rattle.std.specs.Prelude.{◌++◌, ◌+◌, ◌∷◌, ◌≡◌, ◌≤◌, [], IfOk, length, List, ltb, MatchOption, OnErr, OnOk, take};
-ghost use Rattle.word_lists.specs.Words.{body_of, BreaksOff, characters, entry_line, has_failed, keyword_lines, keywords_in, match_lines, Spot, spot_line, spot_lines, spots_from, tab_field, word_text, Writes, WritesOrFails};
+ghost use Rattle.std.specs.Prelude.{◌++◌, ◌+◌, ◌∷◌, ◌≡◌, ◌≤◌, [], IfOk, length, List, ltb};
+ghost use Rattle.std.specs.Prelude.{MatchOption, OnErr, OnOk, take};
+ghost use Rattle.word_lists.specs.Words.{body_of, BreaksOff, characters, entry_line, has_failed};
+ghost use Rattle.word_lists.specs.Words.{keyword_lines, keywords_in, match_lines, Spot, spot_line};
+ghost use Rattle.word_lists.specs.Words.{spot_lines, spots_from, tab_field, word_text, Writes};
+ghost use Rattle.word_lists.specs.Words.{WritesOrFails};
 
 use crate::parts::{body, characters_before, part};
 use crate::word::{ROOM, finds_room, put_entry, put_field, write_entry};
@@ -57,8 +61,8 @@ pub fn write_matches<L: Layout, const SLOTS: usize, A: Allocator + Copy, W: Writ
     line: &[u8],
     number: u64,
 ) -> Result<bool, ListError>
-    //= A scan that returns `Ok` wrote a line for each key that occurs in the text's line, place after place and at each the shortest first,
-    //  and nothing else.
+    //= A scan that returns `Ok` wrote a line for each key that occurs in the text's line, position after position and at each the shortest
+    //  first, and nothing else.
     ensures ok { OnOk result (Writes W.contents writer.old writer.new (match_lines trie.now.state.tree number line.now)) }
 
     //= It returns whether there is one. [also write_keywords]

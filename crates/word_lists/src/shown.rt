@@ -103,7 +103,7 @@ fn shared_len(before: &[u8], word: &[u8]) -> usize {
     most
 }
 
-/// Where the character begins that has a place of a word.
+/// Where the character begins that has a position of a word.
 fn character_begin(word: &[u8], place: usize) -> usize {
     let mut begin = place;
     while 0 < begin && goes_on(byte_at(word, begin)) {

@@ -1,7 +1,9 @@
 //! A dictionary made at once of a list whose words ascend.
 
 ghost use Rattle.std.specs.Prelude.{◌<◌, ◌≡◌, IfOk, IfSome, IsTrue, length};
-ghost use Rattle.word_lists.specs.Words.{AddsLine, entries_of, fault, IsLimit, line_stored, lines_in, lines_stored, new_state, pairs_stored, read_as, State, stored_by};
+ghost use Rattle.word_lists.specs.Words.{AddsLine, entries_of, fault, IsLimit, line_stored};
+ghost use Rattle.word_lists.specs.Words.{lines_in, lines_stored, new_state, pairs_stored};
+ghost use Rattle.word_lists.specs.Words.{read_as, State, stored_by};
 
 use crate::lines::{StoreError, split_line, value_of};
 use crate::parts::{body, first_len};
@@ -93,7 +95,7 @@ fn plain_pair(line: &[u8], number: u64) -> Option<(&[u8], i32)>
     Some((word, value))
 }
 
-/// Whether a text stands for itself, since it has no backslash.
+/// Whether a text represents itself, since it has no backslash.
 fn is_literal(text: &[u8]) -> bool
     ensures { IsTrue result → read_as text.now ≡ text.now }
 {

@@ -1,10 +1,13 @@
 //! A word as a person reads it. It allocates nothing.
 //!
 //! A short word's line is put together before it is written, so that the writer is called once. Room is filled from its end: what is put is
-//! before the bytes from a place on, and its own place is returned.
+//! before the bytes from a position on, and its own position is returned.
 
-ghost use Rattle.std.specs.Prelude.{◌≡◌, ◌≤◌, ◌++◌, ◌+◌, ◌∷◌, ◌<◌, decimal, drop, IsTrue, length, OnErr, OnOk};
-ghost use Rattle.word_lists.specs.Words.{BreaksOff, byte_text, entry_line, escaped, has_failed, is_plain, is_utf8, signed_decimal, tab_field, word_text, Writes, WritesOrFails};
+ghost use Rattle.std.specs.Prelude.{◌≡◌, ◌≤◌, ◌++◌, ◌+◌, ◌∷◌, ◌<◌, decimal, drop};
+ghost use Rattle.std.specs.Prelude.{IsTrue, length, OnErr, OnOk};
+ghost use Rattle.word_lists.specs.Words.{BreaksOff, byte_text, entry_line, escape, has_failed};
+ghost use Rattle.word_lists.specs.Words.{is_plain, is_utf8, signed_decimal, tab_field, word_text};
+ghost use Rattle.word_lists.specs.Words.{Writes, WritesOrFails};
 
 use crate::write::{ListError, write_line, write_whole};
 use cedar_hex::encode_into;
@@ -65,8 +68,8 @@ pub(crate) fn write_bytes<W: Write>(
     text: bool,
     bytes: &[u8],
 ) -> Result<(), ListError>
-    ensures ok { OnOk result (Writes W.contents writer.old writer.new (escaped text bytes.now)) }
-    ensures err { OnErr result (BreaksOff W.contents writer.old writer.new (escaped text bytes.now)) }
+    ensures ok { OnOk result (Writes W.contents writer.old writer.new (escape text bytes.now)) }
+    ensures err { OnErr result (BreaksOff W.contents writer.old writer.new (escape text bytes.now)) }
     ensures faults { WritesOrFails ListError.Write (has_failed writer.old) (has_failed writer.new) result }
 {
     if are_plain(text, bytes) {
@@ -83,7 +86,7 @@ pub(crate) fn write_bytes<W: Write>(
 
 /// Whether all of some bytes are written as they are, as in most words: they are then written at once.
 fn are_plain(text: bool, bytes: &[u8]) -> bool
-    ensures { IsTrue result → escaped text bytes.now ≡ bytes.now }
+    ensures { IsTrue result → escape text bytes.now ≡ bytes.now }
 {
     let mut rest = bytes;
     while !rest.is_empty() {

@@ -1,25 +1,18 @@
 -- A node with neither number nor label, in the tree and in its slots.
-use Rattle.std.proofs.Common.{◌≡◌, ℕ, ◌∙◌, sym, ap, subst, refl, Option, None, List, [], ◌∷◌}
-use Rattle.std.specs.Prelude.{ℤ, pos}
-use Rattle.cedar_tree.specs.Tree.{child, empty_tree, Forest, none, Tree}
-use Rattle.cedar_tree.specs.Queries.{node_at}
+use Rattle.std.proofs.Common.{◌≡◌, ℕ, ◌∙◌, sym, ap, subst, refl, Option, None, List, []}
+use Rattle.std.specs.Prelude.{ℤ}
+use Rattle.cedar_model.specs.Tree.{child, empty_tree, Forest, none, Tree}
+use Rattle.cedar_model.specs.Queries.{node_at}
 use Rattle.cedar_model.specs.declared.layout.Stored.TheVariants.{AtBase}
 use Rattle.cedar_model.specs.Table.Cells.{Cells}
 use Rattle.cedar_model.specs.Edit.NodeEdits.{IsAt}
 use Rattle.cedar_model.specs.Meaning.Family.{Family, Head, number_of, own, plain, top, valued}
-use Rattle.cedar_model.specs.Meaning.StandsFor.{HoldsTree, labels, OnPath, slot_at}
+use Rattle.cedar_model.specs.Meaning.StandsFor.{HoldsTree, labels}
 use Rattle.cedar_model.specs.Relocation.Renaming.{OwnsNothing}
 use Rattle.cedar_model.specs.Edit.Steps.{root_of}
 use Rattle.cedar_model.proofs.MeaningLemmas.NodeAtPath.{at_node}
 use Rattle.cedar_model.proofs.EditLemmas.FirstBase.{low_base, no_number}
-use Rattle.cedar_model.proofs.EditLemmas.LeafAtPlace.{below_root, ends}
-
--- only the empty path leads to the root
-pub root_path : (T : Cells) (w : List ℕ) → ((c : ℕ) → T.check 0 ≡ pos c → ⊥) → IsAt T w 0 → w ≡ []
-root_path T [] root at = refl
-root_path T (j ∷ v) root at =
-    let e = ends j v in
-    absurd (below_root T root e.0 e.1 (subst (OnPath T) e.2 at.0) (sym (ap (slot_at T) e.2) ∙ at.1))
+use Rattle.cedar_model.proofs.UpdateLemmas.TrimUpwards.{root_path}
 
 -- the slots of a node with neither number nor label
 pub record Empty (T : Cells) (a : ℕ) : Type 0 where
@@ -30,7 +23,7 @@ pub record Empty (T : Cells) (a : ℕ) : Type 0 where
 module _ (size : ℕ) (T : Cells) (f : Forest) (w : List ℕ) (a : ℕ) (h : HoldsTree size T f) (at : IsAt T w a) where
   root_bare : node_at (root_of f) w ≡ empty_tree → a ≡ 0 → T.sibling 0 ≡ 0
   root_bare bare z =
-      let top_path : w ≡ [] = root_path T w h.root (subst (IsAt T w) z at) in
+      let top_path : w ≡ [] = root_path T w 0 h.root (subst (IsAt T w) z at) refl in
       let whole : root_of f ≡ empty_tree = subst (λ v. node_at (root_of f) v ≡ empty_tree) top_path bare in
       let nothing : f ≡ none = ap (λ (t : Tree). t.children) whole in
       (subst (λ g. Family size T 0 top (labels g)) nothing h.stands.0).begins.2

@@ -3,9 +3,9 @@ use Rattle.std.proofs.Common.{◌≡◌, ℕ, ◌<◌, ◌≤◌, ◌⊎◌, ◌
 use Rattle.std.specs.Prelude.{◌%◌, ℤ, pos, bit_xor}
 use Rattle.std.specs.Int.Bits.{xor_self}
 use lib.Bits.{xor_assoc, xor_zero_r}
-use Rattle.cedar_tree.specs.Tree.{empty_tree, Forest, IsAscending, none, Tree}
-use Rattle.cedar_tree.specs.Queries.{node_at}
-use Rattle.cedar_tree.specs.Edits.{edit_at}
+use Rattle.cedar_model.specs.Tree.{empty_tree, Forest, IsAscending, none, Tree}
+use Rattle.cedar_model.specs.Queries.{node_at}
+use Rattle.cedar_model.specs.Edits.{edit_at}
 use Rattle.cedar_model.specs.declared.layout.Stored.TheVariants.{AtBase, OwnNumber}
 use Rattle.cedar_model.specs.Table.Cells.{Cells, HasPlaces, Held, SameHeld, Takes}
 use Rattle.cedar_model.specs.Edit.NodeEdits.{Above, IsAt, SetsNumber}
@@ -22,10 +22,10 @@ use Rattle.std.proofs.lemmas.Bool.{cases_eq}
 use Rattle.cedar_bulk.proofs.BulkLemmas.OneAfterAnother.{ascending_edit, edit_alike, edit_children, edit_nothing, edit_twice}
 use Rattle.cedar_model.proofs.EditLemmas.OwnNumber.{field_paths}
 use Rattle.cedar_model.proofs.MeaningLemmas.ExclusiveOr.{xor_injective}
-use Rattle.cedar_bulk.proofs.BulkLemmas.LabelByLabel.{above_all}
 use Rattle.cedar_model.proofs.RelocationLemmas.PlacesFirst.{place_of}
 use Rattle.cedar_model.proofs.EditLemmas.Room.{root_label_free}
 use Rattle.cedar_model.proofs.EditLemmas.NumberWritten.{number_taken}
+use Rattle.cedar_model.proofs.MeaningLemmas.Chain.{above_all}
 
 -- ---- the base
 
@@ -154,7 +154,7 @@ labels_free size size' T T₁ T₂ a number ls held up based numbered l among k 
     let there : Held T₂ (below T₁ a l) = subst (Held T₂) (ap (λ st. bit_xor (base_in st) l) (numbered.stays a (based.keeps a held))) k in
     elim (numbered.held (below T₁ a l) there) [
       | inl h ↦ based.free l (wanted_too number ls l among) h
-      | inr e ↦ let same : l ≡ 0 = xor_injective _ l 0 e in let high : 0 < l = above_all 0 ls up l among in omega (arith, same, high)
+      | inr e ↦ let same : l ≡ 0 = xor_injective _ l 0 e in let high : 0 < l = above_all 0 l ls up among in omega (arith, same, high)
     ]
 
 module _ (size size' : ℕ) (T T₁ T₂ T₃ : Cells) (a : ℕ) (number : Option ℤ) (ls : List ℕ) (w₀ : List ℕ) (at₀ : IsAt T w₀ a)
@@ -218,7 +218,7 @@ no_labels (l ∷ ls) e = absurd (omega (arith, e))
 -- ---- the node on the way
 
 pub wanted_positive : (number : Option ℤ) (ls : List ℕ) → Above 0 ls → number ≡ None → (l : ℕ) → Among (slot_labels number ls) l → 0 < l
-wanted_positive None ls up e l h = above_all 0 ls up l h
+wanted_positive None ls up e l h = above_all 0 l ls up h
 wanted_positive (Some v) ls up e l h = cc
 
 pub still_bare : (size size' : ℕ) (T T₁ : Cells) (a : ℕ) (ws : List ℕ) → IsBareNode size T a → GetsBase size size' T T₁ a ws → IsBareNode size' T₁ a

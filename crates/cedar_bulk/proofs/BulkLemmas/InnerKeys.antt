@@ -3,11 +3,11 @@ use Rattle.std.proofs.Common.{◌≡◌, ◌⊎◌, ℕ, ◌∙◌, ◌==◌, co
 use Rattle.std.specs.Prelude.{ℤ, is_some}
 use Rattle.std.proofs.lemmas.Bool.{cases_Bool, false≢true}
 use Rattle.std.proofs.lemmas.Bool.Decides.{eqb_tells}
-use Rattle.cedar_tree.specs.Tree.{child, empty_tree, Forest, has_label, none, number_at, replace, subtree, Tree}
-use Rattle.cedar_tree.specs.Queries.{node_at}
-use Rattle.cedar_tree.specs.Edits.{edit_at, number_on}
-use Rattle.cedar_tree.proofs.EntryLemmas.Steps.{changed, edit_is_replace}
-use Rattle.cedar_tree.proofs.TreeLemmas.{has_label-replace, number_at-empty, subtree-replace_other, subtree-replace_same, subtree_absent}
+use Rattle.cedar_model.specs.Tree.{child, empty_tree, Forest, has_label, none, number_at, replace, subtree, Tree}
+use Rattle.cedar_model.specs.Queries.{node_at}
+use Rattle.cedar_model.specs.Edits.{edit_at, number_on}
+use Rattle.cedar_model.proofs.EntryLemmas.Steps.{changed, edit_is_replace}
+use Rattle.cedar_model.proofs.TreeLemmas.{has_label-replace, number_at-empty, subtree-replace_other, subtree-replace_same, subtree_absent}
 use Rattle.cedar_model.specs.declared.layout.Stored.TheVariants.{AtBase, OwnNumber}
 use Rattle.cedar_model.specs.Table.Cells.{Cells}
 use Rattle.cedar_model.specs.Table.Layouts.{LayoutKind, reduced_layout}
@@ -16,7 +16,7 @@ use Rattle.cedar_model.specs.Edit.Steps.{root_of}
 use Rattle.cedar_bulk.specs.Sorted.{Fills, leaves}
 use Rattle.cedar_bulk.specs.SortedMarks.{KeepsLast, KeepsOwn}
 use Rattle.cedar_model.proofs.EditLemmas.AtPath.{held_node}
-use Rattle.cedar_tree.proofs.OrderLemmas.{number_of_node}
+use Rattle.cedar_model.proofs.OrderLemmas.{number_of_node}
 
 -- ---- a node that was bare gets a number and leaves
 
@@ -124,7 +124,7 @@ leaves_keep T ls (l ∷ w) held childless =
     let none_there = ap (λ (u : Tree). is_some (number_at u w)) (leaves_are_bare ls l) ∙ ap is_some (number_at-empty w) in
     absurd (false≢true (sym none_there ∙ held))
 
--- they stand where they stood, and the node's own where it has to
+-- they are kept as they were, and the node's own where it has to be
 pub last_kept : (layout : LayoutKind) (size size' : ℕ) (T T' : Cells) (f : Forest) (path : List ℕ) (a : ℕ) (number : Option ℤ) (ls : List ℕ) → layout ≡ reduced_layout → (path ≡ [] → ⊥) → node_at (root_of f) path ≡ empty_tree → IsAt T path a → T.stored a ≡ AtBase 0
     → Fills size size' T T' a number ls → KeepsOwn layout T' a number ls → KeepsLast T f → KeepsLast T' (edit_at path (λ _. number) (λ _. leaves ls) f)
 last_kept layout size size' T T' f [] a number ls reduced some bare at leaf fills own kept w held childless = absurd (some refl)

@@ -2,9 +2,9 @@
 use Rattle.std.proofs.Common.{◌≡◌, ℕ, zero, suc, ◌<◌, ◌⊎◌, ◌∙◌, sym, ap, subst, refl, inl, inr, arith, true, false, Option, Some, None, List, [], ◌∷◌, ◌++◌, take}
 use Rattle.std.specs.Prelude.{pos, nat_lt, bit_xor}
 use Rattle.std.proofs.lemmas.Bool.Decides.{nat_tests}
-use Rattle.cedar_tree.specs.Tree.{AllAbove, child, Forest, IsAscending, none}
-use Rattle.cedar_tree.specs.Queries.{node_at}
-use Rattle.cedar_tree.specs.Edits.{add_leaf, edit_at}
+use Rattle.cedar_model.specs.Tree.{AllAbove, child, Forest, IsAscending, none}
+use Rattle.cedar_model.specs.Queries.{node_at}
+use Rattle.cedar_model.specs.Edits.{add_leaf, edit_at}
 use Rattle.cedar_model.specs.declared.layout.Stored.TheVariants.{AtBase}
 use Rattle.cedar_model.specs.Table.Cells.{Cells, Held}
 use Rattle.cedar_model.specs.Edit.NodeEdits.{Above, IsAt, IsNodeOf}
@@ -24,11 +24,6 @@ use Rattle.cedar_model.proofs.MeaningLemmas.ExclusiveOr.{xor_injective}
 use Rattle.cedar_model.proofs.MeaningLemmas.AmongLabels.{above_less, among_front, among_last, among_push}
 
 -- ---- ascending labels
-
-pub above_all : (b : ℕ) (ls : List ℕ) → Above b ls → (l : ℕ) → Among ls l → b < l
-above_all b [] a l h = absurd h
-above_all b (m ∷ ms) a l (inl e) = subst (λ x. b < x) e a.0
-above_all b (m ∷ ms) a l (inr h) = above_all b ms (above_less b m ms a.0 a.1) l h
 
 pub above_take : (i b : ℕ) (ls : List ℕ) → Above b ls → Above b (take i ls)
 above_take zero b ls a = tt

@@ -3,7 +3,7 @@ use Rattle.std.proofs.Common.{◌≡◌, ℕ, zero, suc, ◌+◌, ◌-◌, ◌<�
 use Rattle.std.proofs.lemmas.List.{get_or-map, length-map, map-set}
 use Rattle.std.specs.Int.Bits.{xor_zero_l}
 use Rattle.std.specs.Prelude.{bit_xor}
-use Rattle.cedar_tree.specs.Tree.{child, Forest, none}
+use Rattle.cedar_model.specs.Tree.{child, Forest, none}
 use Rattle.cedar_bulk.specs.declared.spans.Span.{Span}
 use Rattle.cedar_bulk.specs.Spans.{based_at, Covers, Part, part_of, parts_of}
 

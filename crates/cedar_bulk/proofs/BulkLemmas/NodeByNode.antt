@@ -3,9 +3,9 @@ use Rattle.std.proofs.Common.{◌≡◌, ℕ, ◌+◌, ◌*◌, ◌<◌, ◌≤�
 use Rattle.std.proofs.lemmas.Bool.{true≢false}
 use Rattle.cedar_slots.specs.declared.shortage.Shortage.{Shortage}
 use Rattle.std.specs.Prelude.{ℤ, IfErr, OnOk}
-use Rattle.cedar_tree.specs.Tree.{child, empty_tree, Forest, is_bare, none, Tree, IsAscending}
-use Rattle.cedar_tree.specs.Queries.{node_at, prefixes_forest}
-use Rattle.cedar_tree.specs.Edits.{edit_at}
+use Rattle.cedar_model.specs.Tree.{child, empty_tree, Forest, is_bare, none, Tree, IsAscending}
+use Rattle.cedar_model.specs.Queries.{node_at, prefixes_forest}
+use Rattle.cedar_model.specs.Edits.{edit_at}
 use Rattle.cedar_model.specs.declared.layout.Stored.TheVariants.{AtBase}
 use Rattle.cedar_model.specs.Table.Cells.{Held}
 use Rattle.cedar_model.specs.Edit.NodeEdits.{Above, IsAt}

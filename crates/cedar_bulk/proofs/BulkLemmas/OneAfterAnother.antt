@@ -1,8 +1,8 @@
 -- Changes of one node of a tree, one after another.
 use Rattle.std.proofs.Common.{◌≡◌, ℕ, true, false, cond, ◌==◌, ℤ, List, [], ◌∷◌, ◌++◌, Option, refl, ap}
-use Rattle.cedar_tree.specs.Tree.{AllAbove, Forest, IsAscending, none, child, subtree}
-use Rattle.cedar_tree.specs.Queries.{node_at}
-use Rattle.cedar_tree.specs.Edits.{number_on, edit_at}
+use Rattle.cedar_model.specs.Tree.{AllAbove, Forest, IsAscending, none, child, subtree}
+use Rattle.cedar_model.specs.Queries.{node_at}
+use Rattle.cedar_model.specs.Edits.{number_on, edit_at}
 
 abbrev Number : Type 0
 Number = Option ℤ → Option ℤ

@@ -3,8 +3,8 @@ use Rattle.std.proofs.Common.{◌≡◌, ℕ, suc, ◌<◌, ◌≤◌, ◌∙◌
 use Rattle.std.proofs.lemmas.List.{take_all}
 use Rattle.std.specs.Prelude.{nat_lt, is_some, bit_xor, ℤ}
 use Rattle.std.proofs.lemmas.Bool.Decides.{nat_tests}
-use Rattle.cedar_tree.specs.Tree.{Forest, none, child, Tree, IsSoundBelow}
-use Rattle.cedar_tree.specs.Queries.{Entry, walk, walk_forest}
+use Rattle.cedar_model.specs.Tree.{Forest, none, child, Tree, IsSoundBelow}
+use Rattle.cedar_model.specs.Queries.{Entry, walk, walk_forest}
 use Rattle.cedar_model.specs.Meaning.StandsFor.{labels}
 use Rattle.cedar_bulk.specs.Sorted.{entries_by, label_of, run}
 use Rattle.cedar_bulk.specs.Spans.{Covers, first_label, GoesOnAlike, IsAlike, IsTreeOfSpan, Lists, Part, entries_behind}
@@ -38,7 +38,7 @@ module _ (d : ℕ) (e : Entry) (es : List Entry) (t : Tree) (k : IsTreeOfSpan d 
       let test : nat_lt d (length e.0) ≡ true = grind (arith, nat_tests) in
       sym first.0 ∙ ap (λ b. cond b None (Some e.1)) test
 
-  -- where the first key goes on, all entries stand below the labels
+  -- where the first key goes on, all entries are below the labels
   pub lists_on : Lists d (e ∷ es) t.children
   lists_on =
       let first = number_first d t.number t.children e es k.walks k.sound in

@@ -3,9 +3,9 @@ use Rattle.std.proofs.Common.{◌≡◌, ℕ, ◌+◌, ◌-◌, ◌*◌, ◌<◌
 use Rattle.std.specs.Prelude.{ℤ, nat_lt, IfSome}
 use Rattle.std.proofs.lemmas.Bool.{cases_lt, cond-true}
 use Rattle.std.proofs.lemmas.Bool.Decides.{nat_tests}
-use Rattle.cedar_tree.specs.Tree.{AllNumbers, child, Forest, IsAscending, IsSoundBelow, none, Tree}
-use Rattle.cedar_tree.specs.Edits.{edit_at}
-use Rattle.cedar_tree.specs.Queries.{Entry}
+use Rattle.cedar_model.specs.Tree.{AllNumbers, child, Forest, IsAscending, IsSoundBelow, none, Tree}
+use Rattle.cedar_model.specs.Edits.{edit_at}
+use Rattle.cedar_model.specs.Queries.{Entry}
 use Rattle.cedar_model.specs.Edit.NodeEdits.{IsAt}
 use Rattle.cedar_model.specs.Edit.Steps.{MakesBlocks}
 use Rattle.cedar_model.specs.Meaning.Family.{Among, base_of, below}
@@ -14,7 +14,7 @@ use Rattle.cedar_model.specs.Meaning.WellFormed.{cells_in, is_value}
 use Rattle.cedar_model.specs.Table.Cells.{Cells, Held, NoPlace}
 use Rattle.cedar_model.specs.Table.TableFields.{Fields, size_of}
 use Rattle.cedar_model.specs.Edit.Packing.{count_held, Packs, TakesAnother, TakesOne}
-use Rattle.cedar_bulk.specs.Packed.{crowd, crowded, crowded_forest, Crowds, Packed, PacksTail}
+use Rattle.cedar_bulk.specs.Packed.{count_crowded, count_crowded_forest, crowd, Crowds, Packed, PacksTail}
 use Rattle.cedar_bulk.specs.Sorted.{Fills, GetsBase, slot_labels}
 use Rattle.cedar_bulk.specs.Spans.{Covers, Filling, IsTreeOfSpan, Part, Pending}
 use Rattle.cedar_model.proofs.EditLemmas.AtPath.{held_node}
@@ -85,18 +85,18 @@ crowds_join [] cs m n p c = subst (Crowds cs) (omega (arith, p)) c
 crowds_join (s ∷ ps) cs m n (t, k, tree, count, rest) c = (t, k + n, tree, omega (arith, count), crowds_join ps cs k n rest c)
 
 crowds_split : (ps : List Part) (s : Part) (n : ℕ) → Crowds (ps ++ s ∷ []) n
-    → (t : Tree) × (m : ℕ) × IsTreeOfSpan s.depth s.entries t × (n ≡ crowd t.number (labels t.children) + crowded t + m) × Crowds ps m
+    → (t : Tree) × (m : ℕ) × IsTreeOfSpan s.depth s.entries t × (n ≡ crowd t.number (labels t.children) + count_crowded t + m) × Crowds ps m
 crowds_split [] s n c = c
 crowds_split (x ∷ ps) s n (u, m, tree, count, rest) =
     let k = crowds_split ps s m rest in
-    (k.0, crowd u.number (labels u.children) + crowded u + k.1, k.2, omega (arith, count, k.3), (u, k.1, tree, refl, k.4))
+    (k.0, crowd u.number (labels u.children) + count_crowded u + k.1, k.2, omega (arith, count, k.3), (u, k.1, tree, refl, k.4))
 
-covers_crowds : (base : ℕ) (cs : List Part) (c : Forest) → Covers base cs c none → IsSoundBelow c → IsAscending c → AllNumbers (λ v. is_value v ≡ true) c → Crowds cs (crowded_forest c)
-covers_crowds base [] c covers sound ascending values = ap crowded_forest covers
+covers_crowds : (base : ℕ) (cs : List Part) (c : Forest) → Covers base cs c none → IsSoundBelow c → IsAscending c → AllNumbers (λ v. is_value v ≡ true) c → Crowds cs (count_crowded_forest c)
+covers_crowds base [] c covers sound ascending values = ap count_crowded_forest covers
 covers_crowds base (s ∷ cs) none covers sound ascending values = absurd covers
 covers_crowds base (s ∷ cs) (child l n u rest) covers sound ascending values = (
   record { number = n; children = u },
-  crowded_forest rest,
+  count_crowded_forest rest,
   record { walks = covers.1; some = sound.3; sound = sound.4; ascending = ascending.1; values = (values.0, values.1) },
   refl,
   covers_crowds base cs rest covers.2 sound.5 ascending.2 values.2,
@@ -109,11 +109,11 @@ pub packed_started : (slots : ℕ) (T : Fields) (t : Tree) (d : ℕ) (es : List 
     → (cs : List Part) × (new ≡ old ++ cs) × Covers base cs t.children none → old ≡ [] → Packed T new t.children
 packed_started slots T t d es old new most base k one tree (cs, is, covers) nothing =
     let full : NoPlace (size_of T) (cells_in T) = λ s low high. absurd (omega (arith, one, low, high)) in
-    let waits : Crowds cs (crowded t) = covers_crowds base cs t.children covers tree.sound tree.ascending tree.values.1 in
+    let waits : Crowds cs (count_crowded t) = covers_crowds base cs t.children covers tree.sound tree.ascending tree.values.1 in
     record {
       filled = 0;
-      left = crowded t;
-      waits = subst (λ xs. Crowds xs (crowded t)) (sym (is ∙ ap (λ xs. xs ++ cs) nothing)) waits;
+      left = count_crowded t;
+      waits = subst (λ xs. Crowds xs (count_crowded t)) (sym (is ∙ ap (λ xs. xs ++ cs) nothing)) waits;
       whole = omega arith;
       packs = omega (arith, filling_full slots T new t.children most k full);
     }
@@ -132,31 +132,31 @@ module _ (slots : ℕ) (T T' : Fields) (ps : List Part) (s : Part) (g : Forest) 
       → n ≤ 1 → MakesBlocks n T T' → ((t : Tree) → IsTreeOfSpan s.depth s.entries t → TakesOne T T' ⊎ (crowd t.number (labels t.children) ≡ 1)) → Packed T' new g
   packed_on new n fills spans few made takes = by_slots (takes t c.2)
     where
-      c : (t : Tree) × (m : ℕ) × IsTreeOfSpan s.depth s.entries t × (p.left ≡ crowd t.number (labels t.children) + crowded t + m) × Crowds ps m
+      c : (t : Tree) × (m : ℕ) × IsTreeOfSpan s.depth s.entries t × (p.left ≡ crowd t.number (labels t.children) + count_crowded t + m) × Crowds ps m
       c = crowds_split ps s p.left p.waits
 
       t : Tree
       t = c.0
 
-      waits : Crowds new (c.1 + crowded t)
+      waits : Crowds new (c.1 + count_crowded t)
       waits =
           let children = spans t c.2 in
           let later = covers_crowds (base_of (cells_in T') s.node) children.0 t.children children.2 c.2.sound c.2.ascending c.2.values.1 in
-          subst (λ xs. Crowds xs (c.1 + crowded t)) (sym children.1) (crowds_join ps children.0 c.1 (crowded t) c.4 later)
+          subst (λ xs. Crowds xs (c.1 + count_crowded t)) (sym children.1) (crowds_join ps children.0 c.1 (count_crowded t) c.4 later)
 
       by_slots : TakesOne T T' ⊎ (crowd t.number (labels t.children) ≡ 1) → Packed T' new g
       by_slots (inl one) = record {
         filled = p.filled;
-        left = c.1 + crowded t;
+        left = c.1 + count_crowded t;
         waits = waits;
-        whole = left_one p.filled p.left (crowd t.number (labels t.children)) (crowded t) c.1 (crowded_forest g) c.3 p.whole;
+        whole = left_one p.filled p.left (crowd t.number (labels t.children)) (count_crowded t) c.1 (count_crowded_forest g) c.3 p.whole;
         packs = packs_one slots T (ps ++ s ∷ []) g most k T' n (fills t c.2).keeps few made (256 * p.filled) one p.packs;
       }
       by_slots (inr several) = record {
         filled = p.filled + 1;
-        left = c.1 + crowded t;
+        left = c.1 + count_crowded t;
         waits = waits;
-        whole = left_several p.filled p.left (crowd t.number (labels t.children)) (crowded t) c.1 (crowded_forest g) several c.3 p.whole;
+        whole = left_several p.filled p.left (crowd t.number (labels t.children)) (count_crowded t) c.1 (count_crowded_forest g) several c.3 p.whole;
         packs = packs_several slots T (ps ++ s ∷ []) g most k T' n (fills t c.2).keeps few made p.filled p.packs;
       }
 
@@ -168,10 +168,10 @@ module _ (slots : ℕ) (T T' : Fields) (ps : List Part) (s : Part) (g : Forest) 
         filled = p.filled;
         left = c.1;
         waits = c.4;
-        whole = omega (arith, left_one p.filled p.left (crowd c.0.number (labels c.0.children)) (crowded c.0) c.1 (crowded_forest g) c.3 p.whole);
+        whole = omega (arith, left_one p.filled p.left (crowd c.0.number (labels c.0.children)) (count_crowded c.0) c.1 (count_crowded_forest g) c.3 p.whole);
         packs = tail ps g most (256 * p.filled) k p.packs;
       }
 
 -- no node waits
-pub packed_ends : (T : Fields) (g : Forest) → Packed T [] g → Packs (length (labels g)) (256 * crowded_forest g) T
+pub packed_ends : (T : Fields) (g : Forest) → Packed T [] g → Packs (length (labels g)) (256 * count_crowded_forest g) T
 packed_ends T g p = omega (arith, p.packs, p.whole)

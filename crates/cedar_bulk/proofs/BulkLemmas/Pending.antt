@@ -4,9 +4,9 @@ use Rattle.std.specs.Prelude.{ℤ, bit_xor}
 use Rattle.std.proofs.lemmas.Bool.{true≢false}
 use Rattle.std.proofs.lemmas.Bool.Decides.{eqb_tells}
 use Rattle.std.proofs.lemmas.List.{length-map}
-use Rattle.cedar_tree.specs.Tree.{AllNumbers, Forest, none, child, Tree, IsAscending, IsSoundBelow}
-use Rattle.cedar_tree.specs.Queries.{Entry, own_entry, prefixes_forest, under, walk, walk_forest}
-use Rattle.cedar_tree.specs.Edits.{edit_at}
+use Rattle.cedar_model.specs.Tree.{AllNumbers, Forest, none, child, Tree, IsAscending, IsSoundBelow}
+use Rattle.cedar_model.specs.Queries.{Entry, own_entry, prefixes_forest, under, walk, walk_forest}
+use Rattle.cedar_model.specs.Edits.{edit_at}
 use Rattle.cedar_model.specs.declared.layout.Stored.TheVariants.{AtBase}
 use Rattle.cedar_bulk.specs.declared.spans.Span.{Span}
 use Rattle.cedar_model.specs.Table.Cells.{Cells, Held}

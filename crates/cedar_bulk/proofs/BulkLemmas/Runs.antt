@@ -2,8 +2,8 @@
 use Rattle.std.proofs.Common.{◌≡◌, ℕ, zero, suc, ◌+◌, ◌<◌, ◌≤◌, ◌-◌, ◌∙◌, sym, ap, subst, refl, inl, inr, arith, false, ◌==◌, List, [], ◌∷◌, ◌++◌, map, length, drop, get_or, get_or-drop, length-drop}
 use Rattle.std.proofs.lemmas.Bool.{cases_lt, or_parts, true≢false}
 use Rattle.std.proofs.lemmas.Bool.Decides.{eqb_tells}
-use Rattle.cedar_tree.specs.Tree.{Forest, none, child, has_label, IsSoundBelow}
-use Rattle.cedar_tree.specs.Queries.{Entry, own_entry, under, walk_forest}
+use Rattle.cedar_model.specs.Tree.{Forest, none, child, has_label, IsSoundBelow}
+use Rattle.cedar_model.specs.Queries.{Entry, own_entry, under, walk_forest}
 use Rattle.cedar_bulk.specs.Sorted.{label_of, run}
 use Rattle.cedar_bulk.specs.Spans.{first_label, Lists, entries_behind}
 use Rattle.cedar_bulk.proofs.BulkLemmas.Spans.{drop_label, first_of, First, run_other, run_same}

@@ -3,13 +3,13 @@ use Rattle.std.proofs.Common.{◌≡◌, ℕ, suc, ◌+◌, ◌∙◌, cond, sym
 use Rattle.std.specs.Prelude.{ℤ, is_some, pos}
 use Rattle.std.proofs.lemmas.List.{append_assoc, take-append-drop}
 use Rattle.std.proofs.Math.Seq.{take-append_seam}
-use Rattle.cedar_tree.specs.Tree.{child, Forest, has_label, is_bare, none, number_at, Tree}
-use Rattle.cedar_tree.specs.Queries.{node_at}
-use Rattle.cedar_tree.proofs.CutLemmas.{node_at-end}
-use Rattle.cedar_tree.proofs.OrderLemmas.{sound_node_at}
-use Rattle.cedar_tree.proofs.EntryLemmas.Prefixes.{front_of_node}
-use Rattle.cedar_tree.proofs.TreeLemmas.{bare-subtree}
-use Rattle.cedar_tree.proofs.VisitLemmas.{has_here}
+use Rattle.cedar_model.specs.Tree.{child, Forest, has_label, is_bare, none, number_at, Tree}
+use Rattle.cedar_model.specs.Queries.{node_at}
+use Rattle.cedar_model.proofs.CutLemmas.{node_at-end}
+use Rattle.cedar_model.proofs.OrderLemmas.{sound_node_at}
+use Rattle.cedar_model.proofs.EntryLemmas.Prefixes.{front_of_node}
+use Rattle.cedar_model.proofs.TreeLemmas.{bare-subtree}
+use Rattle.cedar_model.proofs.VisitLemmas.{has_here}
 use Rattle.cedar_slots.specs.Slots.{base_at}
 use Rattle.cedar_model.specs.declared.layout.Stored.TheVariants.{OwnNumber}
 use Rattle.cedar_model.specs.Table.Cells.{Cells}

@@ -1,13 +1,13 @@
--- The tree of sorted pairs, and a table that stands for it.
+-- The tree of sorted pairs, and a table that represents it.
 use Rattle.std.proofs.Common.{◌≡◌, ℕ, ◌<◌, ◌∙◌, sym, ap, refl, subst, inl, inr, arith, Bool, true, false, ◌==◌, Option, Some, None, List, [], ◌∷◌, ◌++◌, length}
 use Rattle.std.specs.Prelude.{ℤ, negsuc, IfSome}
 use Rattle.std.specs.List.{AllByRecursion}
 use Rattle.std.proofs.lemmas.Bool.{cases_Bool, eqb-false, eqb-true, true≢false}
-use Rattle.cedar_tree.specs.Tree.{child, empty_tree, Forest, is_bare, none, Tree}
-use Rattle.cedar_tree.specs.Laws.{ArePathsAscending, ArePathsKeys}
-use Rattle.cedar_tree.specs.Queries.{asc, Entry, own_entry, walk, walk_forest}
-use Rattle.cedar_tree.proofs.EntryLemmas.Built.{numbers-asc}
-use Rattle.cedar_tree.proofs.EntryLemmas.Pairs.{asc_is_tree_of}
+use Rattle.cedar_model.specs.Tree.{child, empty_tree, Forest, is_bare, none, Tree}
+use Rattle.cedar_model.specs.Laws.{ArePathsAscending, ArePathsKeys}
+use Rattle.cedar_model.specs.Queries.{asc, Entry, own_entry, walk, walk_forest}
+use Rattle.cedar_model.proofs.EntryLemmas.Built.{numbers-asc}
+use Rattle.cedar_model.proofs.EntryLemmas.Pairs.{asc_is_tree_of}
 use Rattle.cedar_slots.specs.Slots.{check_at}
 use Rattle.cedar_bulk.specs.Spans.{Filling, IsTreeOfSpan, entries_behind}
 use Rattle.cedar_model.specs.Table.TableFields.{Fields}

@@ -1,12 +1,12 @@
 -- What sorted pairs say of a node: its number, its labels, and the pairs of each child.
 use Rattle.std.proofs.Common.{◌≡◌, ℕ, zero, suc, ◌+◌, ◌<◌, ◌≤◌, ◌∙◌, sym, ap, subst, refl, inl, inr, arith, Bool, true, false, cond, ◌==◌, Option, Some, None, List, [], ◌∷◌, ◌++◌, map, length, take, drop, get_or, append_assoc, length-append, length-drop, ◌-◌}
-use Rattle.std.proofs.lemmas.List.{drop-map, length-map, take_all}
+use Rattle.std.proofs.lemmas.List.{drop-map, length-map, take_all, append-nil}
 use Rattle.std.specs.Prelude.{ℤ, nat_lt, is_some, bit_xor}
 use mir.Val.{bool_byte}
 use Rattle.std.proofs.lemmas.Bool.{or_parts, true≢false}
 use Rattle.std.proofs.lemmas.Bool.Decides.{eqb_tells, nat_tests}
-use Rattle.cedar_tree.specs.Tree.{AllAbove, Forest, none, child, Tree, has_label, is_bare, IsAscending, IsSoundBelow}
-use Rattle.cedar_tree.specs.Queries.{Entry, own_entry, under, walk, walk_forest}
+use Rattle.cedar_model.specs.Tree.{AllAbove, Forest, none, child, Tree, has_label, is_bare, IsAscending, IsSoundBelow}
+use Rattle.cedar_model.specs.Queries.{Entry, own_entry, under, walk, walk_forest}
 use Rattle.cedar_model.specs.Meaning.StandsFor.{labels}
 use Rattle.cedar_bulk.specs.Sorted.{entries_by, label_of, run, slot_labels}
 use Rattle.cedar_bulk.specs.Spans.{Covers, first_label, first_number, IsDeeper, IsTreeOfSpan, Lists, Part, entries_behind}
@@ -232,12 +232,8 @@ module _ (d : ℕ) (p : Entry) (ps : List Entry) (f : Forest) (number : Option �
     whole = append_assoc found (next.label ∷ []) (labels next.rest) ∙ ap (λ g. found ++ labels g) (sym next.is) ∙ k.whole;
   })
 
-append_nothing : (xs : List ℕ) → xs ++ [] ≡ xs
-append_nothing [] = refl
-append_nothing (x ∷ xs) = ap (λ ys. x ∷ ys) (append_nothing xs)
-
 pub scan_ends : (d : ℕ) (f : Forest) (number : Option ℤ) (found : List ℕ) → Scan d [] f number found → found ≡ slot_labels number (labels f)
-scan_ends d f number found k = sym (append_nothing found) ∙ ap (λ g. found ++ labels g) (sym (lists_none d k.todo k.lists)) ∙ k.whole
+scan_ends d f number found k = sym (append-nil found) ∙ ap (λ g. found ++ labels g) (sym (lists_none d k.todo k.lists)) ∙ k.whole
 
 -- ---- a scan for the spans
 

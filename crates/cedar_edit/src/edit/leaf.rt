@@ -1,7 +1,12 @@
 //! A label added to a node, and one removed.
 
 ghost use Rattle.std.specs.Prelude.{◌++◌, ◌<◌, ◌∷◌, ◌≡◌, ◌≢◌, [], List, MatchOption, None, pos, ℕ};
-ghost use Rattle.cedar_edit.specs.Words.{AddsLabel, AddsLeaf, base_of, below, cells, cells_besides, ComesBehind, EditsNode, fields, Forest, GoesBehind, HasChain, HasNode, Held, InRange, IsAt, IsNodeOf, IsTable, LeadsTo, Node, OwnsNothing, Removes, SameFrame, SeeksBehind, SeeksPlace, SetsChild, SetsSibling, size_of, without};
+ghost use Rattle.cedar_edit.specs.Words.{AddsLabel, AddsLeaf, base_of, below, cells, cells_besides};
+ghost use Rattle.cedar_edit.specs.Words.{ComesBehind, EditsNode, fields, Forest, GoesBehind};
+ghost use Rattle.cedar_edit.specs.Words.{HasChain, HasNode, Held, InRange, IsAt, IsNodeOf, IsTable};
+ghost use Rattle.cedar_edit.specs.Words.{LeadsTo, Node, OwnsNothing, Removes, SameFrame};
+ghost use Rattle.cedar_edit.specs.Words.{SeeksBehind, SeeksPlace, SetsChild, SetsSibling, size_of};
+ghost use Rattle.cedar_edit.specs.Words.{without};
 
 use cedar_model::Layout;
 use cedar_slots::BLOCK_SIZE;

@@ -1,7 +1,9 @@
 //! A node's number set, and dropped.
 
 ghost use Rattle.std.specs.Prelude.{◌<◌, ◌≡◌, ◌⊎◌, None, pos, Some, ℕ};
-ghost use Rattle.cedar_edit.specs.Words.{below, cells, cells_besides, DropsNumber, EditsNode, fields, Forest, HasNode, Held, InRange, IsNodeOf, IsTable, OwnsNothing, SameFrame, SetsNumber, size_of};
+ghost use Rattle.cedar_edit.specs.Words.{below, cells, cells_besides, DropsNumber, EditsNode};
+ghost use Rattle.cedar_edit.specs.Words.{fields, Forest, HasNode, Held, InRange, IsNodeOf, IsTable};
+ghost use Rattle.cedar_edit.specs.Words.{OwnsNothing, SameFrame, SetsNumber, size_of};
 
 use cedar_model::Layout;
 use cedar_slots::NodeRecord;

@@ -1,7 +1,11 @@
 //! Numbers in the base fields of their own nodes: in a layout that keeps them there, the number of each node that owns no slot.
 
 ghost use Rattle.std.specs.Prelude.{◌<◌, ◌↔◌, ◌≡◌, ◌≢◌, is_some, IsTrue, List, None, OnOk, pos, ℕ};
-ghost use Rattle.cedar_edit.specs.Words.{AtBase, base_of, below, cells, EditsNode, fields, FieldSet, Forest, HasNode, IsAt, IsTable, KeepsOtherMarks, MakesIfFull, MayMakeBlock, node_at, OwnNumber, OwnsNothing, reduced_layout, root_of, SameFrame, size_of, TableHolds};
+ghost use Rattle.cedar_edit.specs.Words.{AtBase, base_of, below, cells, EditsNode, fields};
+ghost use Rattle.cedar_edit.specs.Words.{FieldSet, Forest, HasNode, IsAt, IsTable, KeepsOtherMarks};
+ghost use Rattle.cedar_edit.specs.Words.{MakesIfFull, MayMakeBlock, node_at, OwnNumber};
+ghost use Rattle.cedar_edit.specs.Words.{OwnsNothing, reduced_layout, root_of, SameFrame, size_of};
+ghost use Rattle.cedar_edit.specs.Words.{TableHolds};
 
 use crate::edit::number::set_number;
 use cedar_model::{Layout, Stored};
@@ -30,7 +34,7 @@ pub(crate) fn has_number<L: Layout, const SLOTS: usize, A: Allocator>(
     requires node { (f : Forest) × HasNode (fields table.now) f node }
     ensures { (f : Forest) (w : List ℕ) → TableHolds (fields table.now) f → IsAt (cells table.now) w node → result ≡ is_some (node_at (root_of f) w).number }
 {
-    match table.stored(node) {
+    match table.stored_at(node) {
         Stored::AtBase(base) => table.is_owned_by(base, node),
         Stored::OwnNumber(_) => true,
         Stored::Nothing => false,

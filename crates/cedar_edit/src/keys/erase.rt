@@ -1,7 +1,11 @@
 //! A key erased, and nodes that are left with neither number nor child.
 
 ghost use Rattle.std.specs.Prelude.{◌<◌, ◌↔◌, ◌≡◌, is_some, IsTrue, List, None, true, ℕ};
-ghost use Rattle.cedar_edit.specs.Words.{capacity_of, cells, cut, edit_at, fields, Forest, HasNode, is_bare, IsAt, IsTable, IsWellFormed, KeepsMarks, KeepsOtherMarks, LosesLeaf, marks, MarksCut, node_at, number_at, root_of, SameFrame, SameModes, size_of, TableHolds, TellsBare, tree_after_trim, tree_of};
+ghost use Rattle.cedar_edit.specs.Words.{capacity_of, cells, cut, edit_at, fields, Forest, HasNode};
+ghost use Rattle.cedar_edit.specs.Words.{is_bare, IsAt, IsTable, IsWellFormed, KeepsMarks};
+ghost use Rattle.cedar_edit.specs.Words.{KeepsOtherMarks, LosesLeaf, marks, MarksCut, node_at};
+ghost use Rattle.cedar_edit.specs.Words.{number_at, root_of, SameFrame, SameModes, size_of};
+ghost use Rattle.cedar_edit.specs.Words.{TableHolds, TellsBare, tree_after_trim, tree_of};
 
 use crate::edit::leaf::remove_label;
 use crate::edit::number::drop_number;
@@ -23,7 +27,7 @@ fn is_bare<L: Layout, const SLOTS: usize, A: Allocator>(
     if node == 0 {
         return false;
     }
-    match table.stored(node) {
+    match table.stored_at(node) {
         Stored::AtBase(base) => !table.is_owned_by(base, node) && table.child(node) == 0,
         Stored::OwnNumber(_) => false,
         Stored::Nothing => false,
@@ -114,7 +118,7 @@ fn drop_any_number<L: Layout, const SLOTS: usize, A: Allocator>(
     ensures root_check { (cells table.new).check 0 ≡ (cells table.old).check 0 }
     ensures frame { SameFrame (fields table.old) (fields table.new) }
 {
-    match table.stored(node) {
+    match table.stored_at(node) {
         Stored::AtBase(_) => drop_number(table, node),
         _ => drop_own_number(table, node),
     }

@@ -1,7 +1,11 @@
 //! A key's number put.
 
-ghost use Rattle.std.specs.Prelude.{◌+◌, ◌*◌, ◌<◌, ◌==◌, ◌≡◌, ◌≢◌, ◌≤◌, [], cond, drop, get_or, IfErr, IfOk, length, OnErr, OnOk, pos, take, true};
-ghost use Rattle.cedar_edit.specs.Words.{AtBase, below, cells, fields, HasWay, is_value, IsKey, IsWellFormed, joins, KeepsMarks, marks, NewMark, PutsInMarks, PutsKey, PutsMarks, size_of, StaysSmall, TakenBack, TakesNewNode, tree_of, Walked, WalksIn};
+ghost use Rattle.std.specs.Prelude.{◌+◌, ◌*◌, ◌<◌, ◌==◌, ◌≡◌, ◌≢◌, ◌≤◌, [], cond, drop, get_or};
+ghost use Rattle.std.specs.Prelude.{IfErr, IfOk, length, OnErr, OnOk, pos, take, true};
+ghost use Rattle.cedar_edit.specs.Words.{AtBase, below, cells, fields, HasWay, is_value, IsKey};
+ghost use Rattle.cedar_edit.specs.Words.{IsWellFormed, joins, KeepsMarks, marks, NewMark};
+ghost use Rattle.cedar_edit.specs.Words.{PutsInMarks, PutsKey, PutsMarks, size_of, StaysSmall};
+ghost use Rattle.cedar_edit.specs.Words.{TakenBack, TakesNewNode, tree_of, Walked, WalksIn};
 
 use crate::keys::erase::trim;
 use crate::keys::step::{extend_leaf, follow_or_add, put_number};
@@ -43,6 +47,7 @@ fn add_rest<L: Layout, const SLOTS: usize, A: Allocator>(
     key: &[u8],
     front: usize,
     known: usize,
+    search_limit: usize,
 ) -> Result<usize, Shortage>
     requires well_formed { IsWellFormed SLOTS (fields table.old) }
     requires key { IsKey key.now }
@@ -55,7 +60,7 @@ fn add_rest<L: Layout, const SLOTS: usize, A: Allocator>(
     ensures packs { OnOk result (StaysSmall (size_of (fields table.old) + 256 * cond (known == 0) 0 1) (fields table.new)) }
     ensures refused { IfErr result (TakenBack SLOTS (fields table.old) (fields table.new) key.now) }
 {
-    let mut node = match follow_or_add(table, front, key[known]) {
+    let mut node = match follow_or_add(table, front, key[known], search_limit) {
         Ok(child) => child,
         Err(error) => {
             trim(table, front);
@@ -80,6 +85,7 @@ fn add_rest<L: Layout, const SLOTS: usize, A: Allocator>(
 fn walk_in<L: Layout, const SLOTS: usize, A: Allocator>(
     table: &mut Table<L, SLOTS, A>,
     key: &[u8],
+    search_limit: usize,
 ) -> Result<usize, Shortage>
     requires well_formed { IsWellFormed SLOTS (fields table.old) }
     requires key { IsKey key.now }
@@ -92,7 +98,7 @@ fn walk_in<L: Layout, const SLOTS: usize, A: Allocator>(
     if length == key.len() {
         return Ok(front);
     }
-    add_rest(table, key, front, length)
+    add_rest(table, key, front, length, search_limit)
 }
 
 /// Puts the number `value` at a key, none of whose proper prefixes keeps its number in its node's own base field. Returns the
@@ -101,6 +107,7 @@ fn put_along<L: Layout, const SLOTS: usize, A: Allocator>(
     table: &mut Table<L, SLOTS, A>,
     key: &[u8],
     value: i32,
+    search_limit: usize,
 ) -> Result<Option<i32>, Shortage>
     requires well_formed { IsWellFormed SLOTS (fields table.old) }
     requires key { IsKey key.now }
@@ -112,10 +119,10 @@ fn put_along<L: Layout, const SLOTS: usize, A: Allocator>(
     ensures new_mark { OnOk result (NewMark (fields table.old) (fields table.new) key.now) }
     ensures lacking { TakesNewNode (fields table.old) (fields table.new) key.now result }
 {
-    let end = walk_in(table, key)?;
+    let end = walk_in(table, key, search_limit)?;
     let held = table.number_of(end);
     let is_new = held.is_none();
-    if let Err(error) = put_number(table, end, value) {
+    if let Err(error) = put_number(table, end, value, search_limit) {
         trim(table, end);
         return Err(error);
     }
@@ -133,6 +140,7 @@ pub fn update<L: Layout, const SLOTS: usize, A: Allocator>(
     table: &mut Table<L, SLOTS, A>,
     key: &[u8],
     value: i32,
+    search_limit: usize,
 ) -> Result<Option<i32>, Shortage>
     requires well_formed { IsWellFormed SLOTS (fields table.old) }
     requires key { IsKey key.now }
@@ -168,7 +176,7 @@ pub fn update<L: Layout, const SLOTS: usize, A: Allocator>(
     ensures marks_put { OnOk result (PutsInMarks (fields table.old) (fields table.new) key.now) }
 {
     let moved = make_way(table, key)?;
-    match put_along(table, key, value) {
+    match put_along(table, key, value, search_limit) {
         Ok(held) => Ok(held),
         Err(error) => {
             close_way(table, key, moved);

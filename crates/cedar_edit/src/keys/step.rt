@@ -1,7 +1,11 @@
 //! One step of an update: to the child under a label, which is added if there is none, or to the number.
 
 ghost use Rattle.std.specs.Prelude.{◌<◌, ◌≡◌, ◌≢◌, ◌⊎◌, IfOk, IsTrue, OnOk, pos, Some, true, ℕ, ℤ};
-ghost use Rattle.cedar_edit.specs.Words.{AtBase, base_of, below, cells, EditsNode, fields, Forest, HasNode, Held, is_value, IsTable, LacksNumberSlot, MayMakeBlock, OwnNumber, OwnsNothing, Placed, PutsInBase, PutsInSlot, PutsMark, size_of, StepsTo, TableHolds, TakesFreeSlot, TakesNoBlock, TakesSingle, WantsSlot};
+ghost use Rattle.cedar_edit.specs.Words.{AtBase, base_of, below, cells, EditsNode, fields, Forest};
+ghost use Rattle.cedar_edit.specs.Words.{HasNode, Held, is_value, IsTable, LacksNumberSlot};
+ghost use Rattle.cedar_edit.specs.Words.{MayMakeBlock, OwnNumber, OwnsNothing, Placed, PutsInBase};
+ghost use Rattle.cedar_edit.specs.Words.{PutsInSlot, PutsMark, size_of, StepsTo, TableHolds};
+ghost use Rattle.cedar_edit.specs.Words.{TakesFreeSlot, TakesNoBlock, TakesSingle, WantsSlot};
 
 use crate::edit::leaf::{add_label, add_only, add_reserved};
 use crate::edit::number::{set_number, set_only, set_reserved};
@@ -126,6 +130,7 @@ fn add_over<L: Layout, const SLOTS: usize, A: Allocator>(
     table: &mut Table<L, SLOTS, A>,
     node: usize,
     label: u8,
+    search_limit: usize,
 ) -> Result<usize, Shortage>
     requires wants { WantsSlot SLOTS (fields table.old) node label }
     requires positive { 0 < label }
@@ -133,7 +138,7 @@ fn add_over<L: Layout, const SLOTS: usize, A: Allocator>(
     ensures stepped { IfOk result (StepsTo (fields table.old) (fields table.new) node label) }
     ensures step { MayMakeBlock SLOTS (fields table.old) (fields table.new) result }
 {
-    let node = resolve(table, node, label)?;
+    let node = resolve(table, node, label, search_limit)?;
     Ok(add_reserved(table, node, label))
 }
 
@@ -142,6 +147,7 @@ fn put_over<L: Layout, const SLOTS: usize, A: Allocator>(
     table: &mut Table<L, SLOTS, A>,
     node: usize,
     value: i32,
+    search_limit: usize,
 ) -> Result<(), Shortage>
     requires { WantsSlot SLOTS (fields table.old) node 0 }
     ensures sound { IsTable SLOTS (fields table.new).places }
@@ -149,7 +155,7 @@ fn put_over<L: Layout, const SLOTS: usize, A: Allocator>(
     ensures marks { OnOk result (PutsMark (cells table.old) (cells table.new) node true) }
     ensures step { MayMakeBlock SLOTS (fields table.old) (fields table.new) result }
 {
-    let node = resolve(table, node, 0)?;
+    let node = resolve(table, node, 0, search_limit)?;
     set_reserved(table, node, value);
     Ok(())
 }
@@ -164,6 +170,7 @@ pub(crate) fn follow_or_add<L: Layout, const SLOTS: usize, A: Allocator>(
     table: &mut Table<L, SLOTS, A>,
     node: usize,
     label: u8,
+    search_limit: usize,
 ) -> Result<usize, Shortage>
     requires sound { IsTable SLOTS (fields table.old).places }
     requires node_in { node < size_of (fields table.old) }
@@ -193,7 +200,7 @@ pub(crate) fn follow_or_add<L: Layout, const SLOTS: usize, A: Allocator>(
         return Ok(slot);
     }
     if is_taken(table, node, slot) {
-        return add_over(table, node, label);
+        return add_over(table, node, label, search_limit);
     }
     Ok(add_label(table, node, label))
 }
@@ -204,6 +211,7 @@ fn put_in_slot<L: Layout, const SLOTS: usize, A: Allocator>(
     table: &mut Table<L, SLOTS, A>,
     node: usize,
     value: i32,
+    search_limit: usize,
 ) -> Result<(), Shortage>
     requires sound { IsTable SLOTS (fields table.old).places }
     requires node_in { node < size_of (fields table.old) }
@@ -227,7 +235,7 @@ fn put_in_slot<L: Layout, const SLOTS: usize, A: Allocator>(
         return Ok(());
     }
     if is_taken(table, node, slot) {
-        return put_over(table, node, value);
+        return put_over(table, node, value, search_limit);
     }
     set_number(table, node, value);
     Ok(())
@@ -239,6 +247,7 @@ pub(crate) fn put_number<L: Layout, const SLOTS: usize, A: Allocator>(
     table: &mut Table<L, SLOTS, A>,
     node: usize,
     value: i32,
+    search_limit: usize,
 ) -> Result<(), Shortage>
     requires sound { IsTable SLOTS (fields table.old).places }
     requires node_in { node < size_of (fields table.old) }
@@ -268,5 +277,5 @@ pub(crate) fn put_number<L: Layout, const SLOTS: usize, A: Allocator>(
         table.set_own_number(node, value);
         return Ok(());
     }
-    put_in_slot(table, node, value)
+    put_in_slot(table, node, value, search_limit)
 }

@@ -1,8 +1,14 @@
 //! A number that is in the way of a new label: it moves from its node's own base field into a slot, and back if the
 //! label is refused.
 
-ghost use Rattle.std.specs.Prelude.{◌<◌, ◌≡◌, IfErr, IfOk, is_some, length, List, MatchOption, None, OnErr, OnOk, pos, Some, take, true, ℕ};
-ghost use Rattle.cedar_edit.specs.Words.{below, cells, fields, Forest, HasNode, HasWay, IsAt, IsInWay, IsKey, IsOwnAt, IsWellFormed, KeepsMarks, KeepsOtherMarks, LacksLoneNumber, MakesAtMost, MakesIfFull, MayRefuse, MovesIn, MovesPrefixOut, number_at, OwnsNumberAlone, reduced_layout, SameFrame, SameModes, size_of, tree_of};
+ghost use Rattle.std.specs.Prelude.{◌<◌, ◌≡◌, IfErr, IfOk, is_some, length, List, MatchOption};
+ghost use Rattle.std.specs.Prelude.{None, OnErr, OnOk, pos, Some, take, true, ℕ};
+ghost use Rattle.cedar_edit.specs.Words.{below, cells, fields, Forest, HasNode, HasWay, IsAt};
+ghost use Rattle.cedar_edit.specs.Words.{IsInWay, IsKey, IsOwnAt, IsWellFormed, KeepsMarks};
+ghost use Rattle.cedar_edit.specs.Words.{KeepsOtherMarks, LacksLoneNumber, MakesAtMost};
+ghost use Rattle.cedar_edit.specs.Words.{MakesIfFull, MayRefuse, MovesIn, MovesPrefixOut};
+ghost use Rattle.cedar_edit.specs.Words.{number_at, OwnsNumberAlone, reduced_layout, SameFrame};
+ghost use Rattle.cedar_edit.specs.Words.{SameModes, size_of, tree_of};
 
 use crate::edit::number::drop_number;
 use crate::edit::own::move_number;
@@ -22,7 +28,7 @@ fn own_front<L: Layout, const SLOTS: usize, A: Allocator>(
 {
     let mut node = 0;
     for length in 0..key.len() {
-        if let Stored::OwnNumber(_) = table.stored(node) {
+        if let Stored::OwnNumber(_) = table.stored_at(node) {
             return Some(length);
         }
         let slot = table.child_slot(node, key[length]);
@@ -56,7 +62,7 @@ fn move_out<L: Layout, const SLOTS: usize, A: Allocator>(
     let Some(node) = table.node_of(key) else {
         return Ok(());
     };
-    if let Stored::OwnNumber(value) = table.stored(node) {
+    if let Stored::OwnNumber(value) = table.stored_at(node) {
         move_number(table, node, value)?;
     }
     Ok(())

@@ -1,7 +1,12 @@
 //! Moving the slots of a node to another base.
 
 ghost use Rattle.std.specs.Prelude.{◌<◌, ◌^◌, ◌≡◌, ◌≢◌, bit_xor, List, pos, true, ℕ};
-ghost use Rattle.cedar_edit.specs.Words.{Always, Among, base_of, cells, cells_without, Family, fields, goes_before, Head, IsNode, IsNumber, IsPlace, IsTable, Links, MayReserve, Movable, MovesSlot, Relocated, Renames, RenamesAround, Repointed, Repoints, RepointsUnder, SameFrame, SameHeld, single, size_of, without_reserved};
+ghost use Rattle.cedar_edit.specs.Words.{Always, Among, base_of, cells, cells_without, Family};
+ghost use Rattle.cedar_edit.specs.Words.{fields, goes_before, Head, IsNode, IsNumber, IsPlace};
+ghost use Rattle.cedar_edit.specs.Words.{IsTable, Links, MayReserve, Movable, MovesSlot, Relocated};
+ghost use Rattle.cedar_edit.specs.Words.{Renames, RenamesAround, Repointed, Repoints};
+ghost use Rattle.cedar_edit.specs.Words.{RepointsUnder, SameFrame, SameHeld, single, size_of};
+ghost use Rattle.cedar_edit.specs.Words.{without_reserved};
 
 use cedar_model::Layout;
 use cedar_slots::NInfoRecord;

@@ -2,7 +2,10 @@
 //! label is kept back.
 
 ghost use Rattle.std.specs.Prelude.{◌<◌, ◌≡◌, ◌≢◌, ◌≤◌, bit_xor, IfOk, length, List, OnOk, pos, ℕ};
-ghost use Rattle.cedar_edit.specs.Words.{Among, below, cells, ChainsRest, fields, IsNode, IsTable, MayMakeBlock, MovesForLabel, OwnsLabels, Reserves, SetReserved, size_of, StandsBelow, TellsLonger, WantsSlot, with_label};
+ghost use Rattle.cedar_edit.specs.Words.{Among, below, cells, ChainsRest, fields, IsNode, IsTable};
+ghost use Rattle.cedar_edit.specs.Words.{MayMakeBlock, MovesForLabel, OwnsLabels, Reserves};
+ghost use Rattle.cedar_edit.specs.Words.{SetReserved, size_of, StandsBelow, TellsLonger, WantsSlot};
+ghost use Rattle.cedar_edit.specs.Words.{with_label};
 
 use crate::relocation::moving::{goes_before, relocate_around, relocate_with};
 use arrayvec::ArrayVec;
@@ -20,6 +23,7 @@ fn move_set_with<L: Layout, const SLOTS: usize, A: Allocator>(
     labels: &[u8],
     wanted: &[u8],
     label: u8,
+    search_limit: usize,
 ) -> Result<usize, Shortage>
     requires node { StandsBelow SLOTS (fields table.old) node }
     requires owned { OwnsLabels (size_of (fields table.old)) (cells table.old) node labels.now }
@@ -32,7 +36,7 @@ fn move_set_with<L: Layout, const SLOTS: usize, A: Allocator>(
     ensures moved { IfOk result (λ base. SetReserved (fields table.old) (fields table.new) node base (bit_xor base label) labels.now wanted.now) }
     ensures step { MayMakeBlock SLOTS (fields table.old) (fields table.new) result }
 {
-    let base = table.place_for(wanted)?;
+    let base = table.place_for(wanted, search_limit)?;
     relocate_with(table, node, base, labels, label);
     Ok(base)
 }
@@ -45,6 +49,7 @@ fn move_set_around<L: Layout, const SLOTS: usize, A: Allocator>(
     node: usize,
     labels: &[u8],
     slot: usize,
+    search_limit: usize,
 ) -> Result<usize, Shortage>
     requires node { StandsBelow SLOTS (fields table.old) node }
     requires owned { OwnsLabels (size_of (fields table.old)) (cells table.old) node labels.now }
@@ -55,7 +60,7 @@ fn move_set_around<L: Layout, const SLOTS: usize, A: Allocator>(
     ensures moved { IfOk result (λ base. SetReserved (fields table.old) (fields table.new) node base slot labels.now labels.now) }
     ensures step { MayMakeBlock SLOTS (fields table.old) (fields table.new) result }
 {
-    let base = table.place_for(labels)?;
+    let base = table.place_for(labels, search_limit)?;
     relocate_around(table, node, base, labels, slot);
     Ok(base)
 }
@@ -141,6 +146,7 @@ fn move_labels_with<L: Layout, const SLOTS: usize, A: Allocator>(
     labels: &[u8],
     wanted: &[u8],
     label: u8,
+    search_limit: usize,
 ) -> Result<(), Shortage>
     requires node { StandsBelow SLOTS (fields table.old) node }
     requires owned { OwnsLabels (size_of (fields table.old)) (cells table.old) node labels.now }
@@ -150,7 +156,7 @@ fn move_labels_with<L: Layout, const SLOTS: usize, A: Allocator>(
     ensures moved { OnOk result (MovesForLabel (fields table.old) (fields table.new) node label) }
     ensures step { MayMakeBlock SLOTS (fields table.old) (fields table.new) result }
 {
-    move_set_with(table, node, labels, wanted, label)?;
+    move_set_with(table, node, labels, wanted, label, search_limit)?;
     Ok(())
 }
 
@@ -161,6 +167,7 @@ fn move_many_with<L: Layout, const SLOTS: usize, A: Allocator>(
     table: &mut Table<L, SLOTS, A>,
     node: usize,
     label: u8,
+    search_limit: usize,
 ) -> Result<(), Shortage>
     requires node { StandsBelow SLOTS (fields table.old) node }
     requires absent { (cells table.old).check (below (cells table.old) node label) ≢ pos node }
@@ -170,7 +177,7 @@ fn move_many_with<L: Layout, const SLOTS: usize, A: Allocator>(
 {
     let labels = table.all_labels_of(node);
     let wanted: ArrayVec<u8, 256> = labels_with(table, &labels, label);
-    move_labels_with(table, node, &labels, &wanted, label)
+    move_labels_with(table, node, &labels, &wanted, label, search_limit)
 }
 
 /// Moves the slots that `node` owns to a base from which there is room for a new label too, and keeps that one back. Most
@@ -179,6 +186,7 @@ fn move_with<L: Layout, const SLOTS: usize, A: Allocator>(
     table: &mut Table<L, SLOTS, A>,
     node: usize,
     label: u8,
+    search_limit: usize,
 ) -> Result<(), Shortage>
     requires node { StandsBelow SLOTS (fields table.old) node }
     requires absent { (cells table.old).check (below (cells table.old) node label) ≢ pos node }
@@ -188,9 +196,9 @@ fn move_with<L: Layout, const SLOTS: usize, A: Allocator>(
 {
     if let Some(labels) = table.labels_of::<16>(node) {
         let wanted: ArrayVec<u8, 17> = labels_with(table, &labels, label);
-        return move_labels_with(table, node, &labels, &wanted, label);
+        return move_labels_with(table, node, &labels, &wanted, label, search_limit);
     }
-    move_many_with(table, node, label)
+    move_many_with(table, node, label, search_limit)
 }
 
 /// Does what `move_away` does, however many slots the node owns.
@@ -199,6 +207,7 @@ fn move_many_away<L: Layout, const SLOTS: usize, A: Allocator>(
     table: &mut Table<L, SLOTS, A>,
     node: usize,
     slot: usize,
+    search_limit: usize,
 ) -> Result<usize, Shortage>
     requires node { StandsBelow SLOTS (fields table.old) node }
     requires mine { (cells table.old).check slot ≡ pos node }
@@ -207,7 +216,7 @@ fn move_many_away<L: Layout, const SLOTS: usize, A: Allocator>(
     ensures step { MayMakeBlock SLOTS (fields table.old) (fields table.new) result }
 {
     let labels = table.all_labels_of(node);
-    move_set_around(table, node, &labels, slot)
+    move_set_around(table, node, &labels, slot, search_limit)
 }
 
 /// Moves the slots that `node` owns, of which `slot` is one, to another base, and returns that. The slot is kept back.
@@ -215,6 +224,7 @@ fn move_away<L: Layout, const SLOTS: usize, A: Allocator>(
     table: &mut Table<L, SLOTS, A>,
     node: usize,
     slot: usize,
+    search_limit: usize,
 ) -> Result<usize, Shortage>
     requires node { StandsBelow SLOTS (fields table.old) node }
     requires mine { (cells table.old).check slot ≡ pos node }
@@ -223,9 +233,9 @@ fn move_away<L: Layout, const SLOTS: usize, A: Allocator>(
     ensures step { MayMakeBlock SLOTS (fields table.old) (fields table.new) result }
 {
     if let Some(labels) = table.labels_of::<16>(node) {
-        return move_set_around(table, node, &labels, slot);
+        return move_set_around(table, node, &labels, slot, search_limit);
     }
-    move_many_away(table, node, slot)
+    move_many_away(table, node, slot, search_limit)
 }
 
 /// Keeps back the slot that the node's base has for a label and that another node owns, and returns where the node
@@ -235,6 +245,7 @@ pub(crate) fn resolve<L: Layout, const SLOTS: usize, A: Allocator>(
     table: &mut Table<L, SLOTS, A>,
     node: usize,
     label: u8,
+    search_limit: usize,
 ) -> Result<usize, Shortage>
     requires { WantsSlot SLOTS (fields table.old) node label }
     ensures sound { IsTable SLOTS (fields table.new).places }
@@ -248,12 +259,12 @@ pub(crate) fn resolve<L: Layout, const SLOTS: usize, A: Allocator>(
     let slot = table.child_slot(node, label);
     let owner = table.owner(slot);
     if is_longer(table, owner, node) {
-        move_with(table, node, label)?;
+        move_with(table, node, label, search_limit)?;
         return Ok(node);
     }
     let moves = table.is_owned_by(node, owner);
     let old_base = table.base_of(owner);
-    let new_base = move_away(table, owner, slot)?;
+    let new_base = move_away(table, owner, slot, search_limit)?;
     if moves {
         return Ok(new_base ^ old_base ^ node);
     }

@@ -6,20 +6,16 @@ use Rattle.cedar_file.specs.PlaceChecks.{HasRing, IsAfter, passing_count, RingOf
 use Rattle.cedar_slots.specs.Ring.{first_of, occurs, Ring}
 use Rattle.cedar_slots.proofs.RingsLemmas.Ring.{after_steps, Along, Apart, occurs_other, occurs_same, OneToOne, Ring-walk, walk, walk-Ring}
 use Rattle.cedar_slots.proofs.ListsLemmas.FreeCounts.{count_by-total, total, total-append, total-occurs, total-same, yes}
+use Rattle.cedar_model.proofs.UpdateLemmas.Packing.{total_le}
 
 -- ---- sums that are equal, of numbers of which none is above its partner
-
-total-le : (f g : ℕ → ℕ) (a n : ℕ) → ((s : ℕ) → f s ≤ g s) → total f a n ≤ total g a n
-unfolding total
-total-le f g a zero le = omega arith
-total-le f g a (suc n) le = omega (arith, le a, total-le f g (a + 1) n le)
 
 same_from_total : (f g : ℕ → ℕ) (a n : ℕ) → ((s : ℕ) → f s ≤ g s) → total f a n ≡ total g a n → (s : ℕ) → a ≤ s → s < a + n → f s ≡ g s
 unfolding total
 same_from_total f g a zero le same s low high = absurd (omega arith)
 same_from_total f g a (suc n) le same s low high = elim (cases_eq s a) [
-  | inl here ↦ rw here (omega (arith, same, le a, total-le f g (a + 1) n le))
-  | inr later ↦ same_from_total f g (a + 1) n le (omega (arith, same, le a, total-le f g (a + 1) n le)) s (omega arith) (omega arith)
+  | inl here ↦ rw here (omega (arith, same, le a, total_le f g (a + 1) n le))
+  | inr later ↦ same_from_total f g (a + 1) n le (omega (arith, same, le a, total_le f g (a + 1) n le)) s (omega arith) (omega arith)
 ]
 
 -- ---- how many numbers pass a test
@@ -76,7 +72,7 @@ module _ (next : ℕ → ℕ) where
   length-walk x zero = refl
   length-walk x (suc n) = omega (arith, length-walk (next x) n)
 
-  -- each number that stands in a walk is seen after some steps
+  -- each number that is in a walk is seen after some steps
   seen_at : (s x n : ℕ) → 0 < occurs s (walk next x n) → (k : ℕ) × (k < n) × (after_steps next x k ≡ s)
   seen_at s x zero h = absurd (omega arith)
   seen_at s x (suc n) h = elim (cases_eq s x) [
@@ -89,7 +85,7 @@ module _ (next : ℕ → ℕ) where
   occurs_at x (suc n) zero h = omega (arith, occurs_same x (walk next (next x) n))
   occurs_at x (suc n) (suc k) h = omega (arith, occurs_at (next x) n k (omega arith))
 
-  -- no number is seen twice in a walk whose numbers stand apart
+  -- no number is seen twice in a walk whose numbers are apart
   walk_differs : (x n i j : ℕ) → Apart (walk next x n) → i < j → j < n → after_steps next x i ≡ after_steps next x j → ⊥
   walk_differs x zero i j apart less in_walk same = absurd (omega arith)
   walk_differs x (suc n) zero zero apart less in_walk same = absurd (omega arith)
@@ -122,9 +118,9 @@ module _ (next : ℕ → ℕ) where
           | inr other ↦ omega (arith, rest s, occurs_other s x (walk next (next x) n) other)
         ]
 
--- the numbers that pass stand among the m from low on
+-- the numbers that pass are among the m from low on
 module _ (test : ℕ → Bool) (low m : ℕ) (within : (x : ℕ) → test x ≡ true → (low ≤ x) × (x < low + m)) where
-  -- what passes stands in xs just once, if xs has nothing else, nothing twice, and as many numbers as pass
+  -- what passes is in xs just once, if xs has nothing else, nothing twice, and as many numbers as pass
   pub once_each : (xs : List ℕ) → Apart xs → ((x : ℕ) → 0 < occurs x xs → test x ≡ true) → length xs ≡ passing_count test low m → (x : ℕ) → occurs x xs ≡ cond (test x) 1 0
   once_each xs apart pass all x = elim (cases_Bool (test x)) [
     | inl holds ↦ let there = within x holds in same_from_total (λ s. occurs s xs) (λ s. yes (test s)) low m le totals x there.0 there.1
@@ -194,7 +190,7 @@ module _ (next : ℕ → ℕ) (Link : ℕ → ℕ → Type 0) (test : ℕ → Bo
   walks_here : (k at : ℕ) → Walks next Link test first k at → test at ≡ true
   walks_here k at walks = subst (λ s. test s ≡ true) (sym walks.here) (walks.passes k (omega arith))
 
-  -- the numbers that pass stand among the m from low on
+  -- the numbers that pass are among the m from low on
   module _ (fixed : OneToOne Link) (low m : ℕ) (within : (x : ℕ) → test x ≡ true → (low ≤ x) × (x < low + m)) where
     walk_passes : (n : ℕ) → ((k : ℕ) → k < n → test (after_steps next first k) ≡ true) → (x : ℕ) → 0 < occurs x (walk next first n) → test x ≡ true
     walk_passes n passes x in_walk = let seen = seen_at next x first n in_walk in subst (λ s. test s ≡ true) seen.2 (passes seen.0 seen.1)
@@ -267,7 +263,7 @@ module _ (next : ℕ → ℕ) (Link : ℕ → ℕ → Type 0) (test : ℕ → Bo
 
 -- ---- a walk along a ring of slots or of blocks
 
--- links that fix both of their ends, and numbers that pass, which stand among the m from low on
+-- links that fix both of their ends, and numbers that pass, which are among the m from low on
 pub record Circuit : Type 1 where
   pub next : ℕ → ℕ
   pub Link : ℕ → ℕ → Type 0

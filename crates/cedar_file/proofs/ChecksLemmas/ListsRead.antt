@@ -143,7 +143,7 @@ same_list_refl Closed = refl
 same_list_refl Full = refl
 
 module _ (blocks : BlockFields) where
-  -- a block stands in one ring at most
+  -- a block is in one ring at most
   one_ring : (b : ℕ) → cond {A = ℕ} (in_ring blocks Full b) 1 0 + cond (in_ring blocks Closed b) 1 0 + cond (in_ring blocks Open b) 1 0 ≤ 1
   one_ring b = go (nat_lt b blocks.active) (eqb b 0) (kind_of blocks.max_trial (counts_at blocks.records b))
     where

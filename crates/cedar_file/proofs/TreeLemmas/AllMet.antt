@@ -3,7 +3,7 @@ use Rattle.std.proofs.Common.{◌≡◌, ℕ, zero, suc, ◌+◌, ◌<◌, ◌�
 use Rattle.std.specs.Prelude.{nat_eq, pos}
 use Rattle.std.specs.List.{count_by, range_with_len}
 use Rattle.std.proofs.lemmas.Bool.{cases_eq, cond-true, ne_eqb}
-use Rattle.cedar_tree.specs.Tree.{Forest, none, child}
+use Rattle.cedar_model.specs.Tree.{Forest, none, child}
 use Rattle.cedar_model.specs.Table.Cells.{Cells, is_held}
 use Rattle.cedar_model.specs.Meaning.Family.{Among, base_of, below, Links}
 use Rattle.cedar_model.specs.Meaning.StandsFor.{labels, OnPath, slot_at}

@@ -3,7 +3,7 @@ use Rattle.std.proofs.Common.{◌≡◌, ◌≢◌, ℕ, ◌+◌, ◌<◌, List,
 use Rattle.std.specs.Prelude.{bit_xor, IfSome, negsuc, pos}
 use Rattle.std.specs.List.{count_by, range_with_len}
 use Rattle.std.proofs.lemmas.Bool.Decides.{Decides-int_eq}
-use Rattle.cedar_tree.specs.Tree.{AllNumbers, Forest, IsAscending, is_bare, IsSoundBelow, none, child}
+use Rattle.cedar_model.specs.Tree.{AllNumbers, Forest, IsAscending, is_bare, IsSoundBelow, none, child}
 use Rattle.cedar_file.specs.declared.check.tree.Walk.{Walk}
 use Rattle.cedar_model.specs.Table.Cells.{Cells, is_held}
 use Rattle.cedar_file.specs.TreeWalk.{ComesBack, LooksLikeRoot, walk_start}
@@ -58,7 +58,7 @@ is_sound size ordered T s c (child l n u rest) h g = (
   is_sound size ordered T s (T.sibling (below T s l)) rest h.4 g.5,
 )
 
--- ---- the tree stands
+-- ---- the slots represent the tree
 
 module _ (size : ℕ) (ordered : Bool) (T : Cells) (looks : LooksLikeRoot T) (active : (q c : ℕ) → T.check q ≡ pos c → q < size) (some : 0 < size) (m e : ℕ) (w : ReadTree size ordered T m e) (counted : count_by (is_held T) (range_with_len 0 size) ≡ m) where
   root_unowned : (c : ℕ) → T.check 0 ≡ pos c → ⊥

@@ -3,7 +3,7 @@
 use Rattle.std.proofs.Common.{◌≡◌, ℕ, ◌⊎◌, List, [], ◌∷◌, sym, ◌∙◌, ap, refl, subst, inl, inr, arith, true, false, cond, Option, Some, None, ℤ}
 use Rattle.std.specs.Prelude.{bit_xor, IfSome, pos}
 use Rattle.std.proofs.lemmas.Bool.{cases_Bool, false≢true}
-use Rattle.cedar_tree.specs.Tree.{Forest, none, child, is_bare}
+use Rattle.cedar_model.specs.Tree.{Forest, none, child, is_bare}
 use Rattle.cedar_model.specs.declared.layout.Stored.{Stored}
 use Rattle.cedar_model.specs.declared.layout.Stored.TheVariants.{AtBase, OwnNumber, Nothing}
 use Rattle.cedar_model.specs.Table.Cells.{Cells}
@@ -15,6 +15,7 @@ use Rattle.cedar_model.specs.Meaning.WellFormed.{is_value}
 use Rattle.cedar_model.proofs.MeaningLemmas.ExclusiveOr.{xor_back}
 use Rattle.cedar_model.proofs.MeaningLemmas.OneTree.{no_zero, node_reads}
 use Rattle.std.proofs.lemmas.Bool.Decides.{Decides-int_eq}
+use Rattle.cedar_model.proofs.EditLemmas.NumberMovesIn.{no_links}
 
 -- ---- from what is looked at to a node
 
@@ -25,10 +26,6 @@ Owns T s ls = (q : ℕ) → T.check q ≡ pos s → ((has_number_slot T s ≡ tr
 based_plain : (size : ℕ) (st : Stored) (ls : List ℕ) → InRange size st → Based size st plain ls
 based_plain size st [] h = inr h
 based_plain size st (l ∷ ls) h = h
-
-no_labels : (T : Cells) (s c : ℕ) (ls : List ℕ) → c ≡ 0 → Links T s c ls → ls ≡ []
-no_labels T s c [] z h = refl
-no_labels T s c (l ∷ ls) z h = absurd (omega (arith, z, h.0, h.1))
 
 module _ (size : ℕ) (T : Cells) (s : ℕ) (ls : List ℕ) (root : (c : ℕ) → T.check 0 ≡ pos c → ⊥) (looks : LooksLikeNode size T s) (links : Links T s (first_in T s) ls) (owns : Owns T s ls) where
   in_number_slot : has_number_slot T s ≡ true → T.check (below T s 0) ≡ pos s
@@ -78,7 +75,7 @@ module _ (size : ℕ) (T : Cells) (s : ℕ) (ls : List ℕ) (root : (c : ℕ) �
         number = sym (ap (λ b. cond b (Some (T.base (below T s 0))) (own_number (T.stored s))) lacks ∙ ap own_number is);
         family = record {
           based = is;
-          begins = (looks.own v is, no_labels T s (first_in T s) ls (at_child ∙ looks.own v is) links);
+          begins = (looks.own v is, no_links T s (first_in T s) ls (at_child ∙ looks.own v is) links);
           only = λ q o. elim (owns q o) [ inl number ↦ absurd (false≢true (sym lacks ∙ number.0)) | inr label ↦ label ];
         };
       }
@@ -147,7 +144,7 @@ module _ (size : ℕ) (T : Cells) (s : ℕ) where
         own = own_of k.head (labels u) z k.family (λ e. bare (sym k.number ∙ e));
         in_slot = slot_of k.head (labels u) z k.family;
         value = subst (λ m. IfSome m (λ v. is_value v ≡ true)) (sym reads.number) value;
-        some = λ e zero. bare (sym reads.number ∙ e) (no_labels T s (first_in T s) (labels u) zero reads.links);
+        some = λ e zero. bare (sym reads.number ∙ e) (no_links T s (first_in T s) (labels u) zero reads.links);
       }
     where
       bare : n ≡ None → labels u ≡ [] → ⊥

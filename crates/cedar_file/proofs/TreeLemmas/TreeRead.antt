@@ -3,8 +3,8 @@ use Rattle.std.proofs.Common.{◌≡◌, ℕ, zero, suc, ◌+◌, ◌<◌, ◌�
 use Rattle.std.specs.Prelude.{pos}
 use Rattle.std.proofs.lemmas.Bool.{cases_eq}
 use Rattle.std.proofs.lemmas.List.{length-map}
-use Rattle.cedar_tree.specs.Tree.{AllAbove, Forest, none, child}
-use Rattle.cedar_tree.specs.Queries.{own_entry, under, walk_forest}
+use Rattle.cedar_model.specs.Tree.{AllAbove, Forest, none, child}
+use Rattle.cedar_model.specs.Queries.{own_entry, under, walk_forest}
 use Rattle.cedar_model.specs.Table.Cells.{Cells}
 use Rattle.cedar_file.specs.TreeWalk.{ComesBack, GoesDown, LooksLikeNode, number_count_at, slots_at, walk_at, walk_start}
 use Rattle.cedar_model.specs.Meaning.Family.{base_of, below, Links}
@@ -12,6 +12,7 @@ use Rattle.cedar_model.specs.Meaning.StandsFor.{labels}
 use Rattle.cedar_model.specs.Meaning.Reading.{first_in, has_number_slot, number_in}
 use Rattle.cedar_model.specs.Meaning.WellFormed.{number_slots, slots_below}
 use Rattle.cedar_model.proofs.MeaningLemmas.ExclusiveOr.{pos_injective, xor_back}
+use Rattle.cedar_model.proofs.OrderLemmas.{all_above_more}
 
 -- ---- what a node adds to the counts
 
@@ -80,10 +81,6 @@ pub record ReadTree (size : ℕ) (ordered : Bool) (T : Cells) (m e : ℕ) : Type
   pub met : m ≡ 1 + length (slots_below T 0 forest)
   pub numbers : e ≡ length (walk_forest forest)
 
-above_all : (low m : ℕ) (f : Forest) → low < m → AllAbove m f → AllAbove low f
-above_all low m none h a = tt
-above_all low m (child l n u rest) h a = (omega (arith, h, a.0), above_all low m rest h a.1)
-
 pub same_counts : (n size : ℕ) (ordered : Bool) (T : Cells) (s c met met' numbers numbers' m e : ℕ) → met ≡ met' → numbers ≡ numbers' → ComesBack n size ordered T (walk_at T s c met numbers) m e → ComesBack n size ordered T (walk_at T s c met' numbers') m e
 same_counts n size ordered T s c met met' numbers numbers' m e p q h =
     subst (λ y. ComesBack n size ordered T (walk_at T s c met' y) m e) q (subst (λ x. ComesBack n size ordered T (walk_at T s c x numbers) m e) p h)
@@ -94,7 +91,7 @@ module _ (size : ℕ) (ordered : Bool) (T : Cells) (root : (c : ℕ) → T.check
   chain_above s l x none o h next met = tt
   chain_above s l x (child m n u rest) o h next met =
       let first : l < m = omega (arith, h.0, next (omega (arith, h.0, h.1))) in
-      (first, above_all l m rest first (met.3 o))
+      (first, all_above_more l m rest first (met.3 o))
 
   left_off : (n b s met numbers m e : ℕ) → (b ≡ 0 → ⊥) → T.check b ≡ pos s → ComesBack n size ordered T (walk_at T b 0 met numbers) m e → LeftOff n size ordered T b s met numbers m e
   unfolding ComesBack

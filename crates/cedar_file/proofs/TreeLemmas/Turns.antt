@@ -22,10 +22,6 @@ numbers_few T s = by_test (is_some (number_in T s))
     by_test true = omega arith
     by_test false = omega arith
 
-pub on_err : {X E : Type 0} (r : Result X E) {P : Type 0} → P → OnErr r P
-on_err (Ok x) h = tt
-on_err (Err error) h = h
-
 -- a walk on its way: its node is in use, and its counts are small
 pub record IsOnWay (size : ℕ) (T : Cells) (w : Walk) (steps : ℕ) : Type 0 where
   pub inside : w.node < size

@@ -2,8 +2,8 @@
 use Rattle.std.proofs.Common.{◌≡◌, ℕ, zero, suc, ◌+◌, ◌-◌, ◌*◌, ◌<◌, ◌≤◌, length, sym, ◌∙◌, ap, refl, subst, inl, inr, arith, Bool, true, false}
 use Rattle.std.specs.Prelude.{pos}
 use Rattle.std.specs.List.{count_by, range_with_len}
-use Rattle.cedar_tree.specs.Tree.{AllAbove, AllNumbers, Forest, IsAscending, IsSoundBelow, none, child}
-use Rattle.cedar_tree.specs.Queries.{walk, walk_forest}
+use Rattle.cedar_model.specs.Tree.{AllAbove, AllNumbers, Forest, IsAscending, IsSoundBelow, none, child}
+use Rattle.cedar_model.specs.Queries.{walk, walk_forest}
 use Rattle.cedar_file.specs.declared.check.tree.Walk.{Walk}
 use Rattle.cedar_model.specs.Table.Cells.{Cells, is_held}
 use Rattle.cedar_file.specs.TreeWalk.{ComesBack, GoesDown, GoesOn, GoesUp, IsBack, LooksLikeRoot, number_count_at, slots_at, walk_at, walk_down, walk_start, walk_up}

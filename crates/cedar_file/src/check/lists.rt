@@ -4,7 +4,9 @@
 //! block that belongs there and names the one before it. The walk along the full list begins and ends at block 0.
 
 ghost use Rattle.std.specs.Prelude.{◌*◌, ◌+◌, ◌<◌, ◌≡◌, ◌≢◌, ◌≤ℤ◌, ◌≤◌, length, OkIff, pos, true};
-ghost use Rattle.cedar_file.specs.Words.{block_at, BlockLink, blocks_of, counts_at, CountsInRange, Full, HasList, HasLists, HasRing, in_ring, Pruned, ring_count, Sized, StepsFrom};
+ghost use Rattle.cedar_file.specs.Words.{block_at, BlockLink, blocks_of, counts_at, CountsInRange};
+ghost use Rattle.cedar_file.specs.Words.{Full, HasList, HasLists, HasRing, in_ring, Pruned};
+ghost use Rattle.cedar_file.specs.Words.{ring_count, Sized, StepsFrom};
 
 use cedar_slots::{BlockRecord, BlockType, Blocks, Corrupt, Counts, Ticks};
 use std::alloc::Allocator;

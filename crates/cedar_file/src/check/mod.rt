@@ -1,5 +1,5 @@
 //! The test of an untrusted table, such as one from a file: whether its slots, rings, blocks and lists are as they must be, and
-//! whether its held slots stand for a tree. It only reads, counts its reads and allocates nothing.
+//! whether its held slots represent a tree. It only reads, counts its reads and allocates nothing.
 
 mod lists;
 mod places;

@@ -1,11 +1,14 @@
 //! Tests of whether a table from a file has its slots, rings, blocks and lists as they must be.
 
-ghost use Rattle.std.specs.Prelude.{◌*◌, ◌+◌, ◌-◌, ◌<◌, ◌≡◌, ◌≤ℤ◌, ◌≤◌, length, List, OkIff, pos, ℕ};
-ghost use Rattle.cedar_file.specs.Words.{BlankBlocks, BlankSlots, blocks_of, FreeBlock, HasFree, IsPowerOfTwo, places_of, reject_at, Rejects, Shaped, Sound};
+ghost use Rattle.std.specs.Prelude.{◌*◌, ◌+◌, ◌-◌, ◌<◌, ◌≡◌, ◌≤ℤ◌, ◌≤◌, length};
+ghost use Rattle.std.specs.Prelude.{List, OkIff, pos, ℕ};
+ghost use Rattle.cedar_file.specs.Words.{BlankBlocks, BlankSlots, blocks_of, FreeBlock};
+ghost use Rattle.cedar_file.specs.Words.{HasFree, IsPowerOfTwo, places_of, reject_at};
+ghost use Rattle.cedar_file.specs.Words.{Rejects, Shaped, Sound};
 
 use crate::check::lists::{check_lists, check_ranges, read_block};
 use crate::check::rings::{check_ring, count_free, read_free, read_info, read_node};
-use cedar_slots::{BLOCK_SIZE, BlockRecord, Corrupt, Places, Ticks, reserved};
+use cedar_slots::{BLOCK_SIZE, BlockRecord, Corrupt, Places, Ticks, root_count};
 use std::alloc::Allocator;
 use std::sync::ledger::Ledger;
 
@@ -22,7 +25,7 @@ fn check_block<A: Allocator, C: Ledger>(
 {
     let count = count_free(&places.slots, block, reads)?;
     let record = read_block(&places.blocks, block, reads);
-    if record.num != count as i16 + reserved(block) {
+    if record.num != count as i16 + root_count(block) {
         return Err(Corrupt::blocks(block, "invalid free-slot count"));
     }
     if count == 0 {

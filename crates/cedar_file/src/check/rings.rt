@@ -5,7 +5,8 @@
 //! before its last step, it has met all free slots of the block, and its last step leads back. No marks are kept.
 
 ghost use Rattle.std.specs.Prelude.{◌*◌, ◌+◌, ◌<◌, ◌^◌, ◌≡◌, ◌≤◌, length, OkIff, true};
-ghost use Rattle.cedar_file.specs.Words.{free_count, free_here, HasBlankLabels, HasRing, info_at, is_free, node_record_at, SlotLink, slots_of, StepsFrom};
+ghost use Rattle.cedar_file.specs.Words.{free_count, free_here, HasBlankLabels, HasRing, info_at};
+ghost use Rattle.cedar_file.specs.Words.{is_free, node_record_at, SlotLink, slots_of, StepsFrom};
 
 use cedar_slots::{BLOCK_SIZE, Corrupt, NInfoRecord, NodeRecord, Slots, Ticks};
 use std::alloc::Allocator;

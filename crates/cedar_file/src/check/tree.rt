@@ -1,7 +1,12 @@
-//! Tests of whether the held slots of a table stand for a tree.
+//! Tests of whether the held slots of a table represent a tree.
 
-ghost use Rattle.std.specs.Prelude.{◌*◌, ◌+◌, ◌/◌, ◌<◌, ◌^◌, ◌↔◌, ◌≡◌, ◌≢◌, ◌≤◌, count_by, IfOk, IsTrue, MatchOption, OnErr, OnOk, pos, ℕ};
-ghost use Rattle.cedar_file.specs.Words.{AtBase, base_in, base_of, block_at, cells, ComesBackIn, fields, GoesDown, GoesOn, GoesUp, HasRoom, is_held, is_value, IsTable, IsWellFormed, LooksLikeRoot, MeetsNode, OwnNumber, range_with_len, reading, size_of, StepsDown, StepsUp, walk_start};
+ghost use Rattle.std.specs.Prelude.{◌*◌, ◌+◌, ◌/◌, ◌<◌, ◌^◌, ◌↔◌, ◌≡◌, ◌≢◌, ◌≤◌, count_by, IfOk};
+ghost use Rattle.std.specs.Prelude.{IsTrue, MatchOption, OnErr, OnOk, pos, ℕ};
+ghost use Rattle.cedar_file.specs.Words.{AtBase, base_in, base_of, block_at, cells, ComesBackIn};
+ghost use Rattle.cedar_file.specs.Words.{fields, GoesDown, GoesOn, GoesUp, HasRoom, is_held};
+ghost use Rattle.cedar_file.specs.Words.{is_value, IsTable, IsWellFormed, LooksLikeRoot, MeetsNode};
+ghost use Rattle.cedar_file.specs.Words.{OwnNumber, range_with_len, reading, size_of, StepsDown};
+ghost use Rattle.cedar_file.specs.Words.{StepsUp, walk_start};
 
 use cedar_slots::{BLOCK_SIZE, BlockRecord, Corrupt, NInfoRecord, NodeRecord, Ticks};
 use cedar_table::{Layout, Stored, Table};
@@ -219,11 +224,11 @@ fn go_down<L: Layout, const SLOTS: usize, A: Allocator, C: Ledger>(
 {
     let slot = walk.base ^ usize::from(walk.label);
     if slot >= table.size() {
-        return Err(Corrupt::unowned(walk.node));
+        return Err(Corrupt::child_owner(walk.node));
     }
     let node = read_node(table, slot, reads);
     if !names(node.check, walk.node) {
-        return Err(Corrupt::unowned(walk.node));
+        return Err(Corrupt::child_owner(walk.node));
     }
     match L::read_base(node.base) {
         Stored::AtBase(base) => meet_based(table, walk, slot, base, reads),
@@ -247,7 +252,7 @@ fn go_up<L: Layout, const SLOTS: usize, A: Allocator, C: Ledger>(
 {
     let node = read_node(table, walk.node, reads);
     let Some(owner) = owner_named(table, node.check) else {
-        return Err(Corrupt::unowned(walk.node));
+        return Err(Corrupt::child_owner(walk.node));
     };
     let base = base_in::<L>(read_node(table, owner, reads).base);
     let label = read_info(table, walk.node, reads).sibling;
@@ -367,7 +372,7 @@ fn count_held<L: Layout, const SLOTS: usize, A: Allocator, C: Ledger>(
     1 + table.size() - free
 }
 
-/// Tests whether the held slots stand for a tree: they are exactly those of its nodes and numbers, with values in range, labels
+/// Tests whether the held slots represent a tree: they are exactly those of its nodes and numbers, with values in range, labels
 /// in their order and as many entries as the table says. A slot is met once on the walk over the nodes, since it has one owner:
 /// so if as many were met as are held, these are all. It allocates nothing.
 pub fn check_tree<L: Layout, const SLOTS: usize, A: Allocator, C: Ledger>(

@@ -1,7 +1,8 @@
-//! Tests of whether a table from a file has its slots, rings, blocks and lists as they must be, and stands for a tree.
+//! Tests of whether a table from a file has its slots, rings, blocks and lists as they must be, and represents a tree.
 
 ghost use Rattle.std.specs.Prelude.{◌*◌, ◌+◌, ◌≤ℤ◌, ◌≤◌, length, OkIff, pos};
-ghost use Rattle.cedar_file.specs.Words.{capacity_of, fields, IsPowerOfTwo, IsSlotLimit, IsTable, IsWellFormed};
+ghost use Rattle.cedar_file.specs.Words.{capacity_of, fields, IsPowerOfTwo, IsSlotLimit};
+ghost use Rattle.cedar_file.specs.Words.{IsTable, IsWellFormed};
 
 use crate::check::places::check_sound;
 use crate::check::tree::check_tree;
@@ -11,7 +12,7 @@ use std::alloc::Allocator;
 use std::sync::ledger::Ledger;
 
 /// Tests whether untrusted slots, rings, blocks and lists are those of a table. The sizes and `max_trial` are tested
-/// before, and what the held slots stand for isn't tested. It allocates nothing, and reads at most five records a slot
+/// before, and what the held slots represent isn't tested. It allocates nothing, and reads at most five records a slot
 /// and 512 more.
 pub fn check_places<L: Layout, const SLOTS: usize, A: Allocator, C: Ledger>(
     table: &Table<L, SLOTS, A>,

@@ -1,4 +1,4 @@
--- What the calls that look for places and make blocks answer, in words of held slots.
+-- What the calls that look for places and make blocks return, in words of held slots.
 use Rattle.std.proofs.Common.{◌≡◌, ℕ, ◌*◌, ◌/◌, ◌<◌, ◌⊎◌, ◌&&◌, ◌||◌, List, get_or, Bool, not, eqb, true, false, int_lt, refl, sym, ap, inl, inr, ◌∙◌, arith, pos, Result, Ok, Err}
 use Rattle.std.specs.Prelude.{IfOk, IfErr, OnErr}
 use Rattle.std.specs.List.{count_by, range_with_len}

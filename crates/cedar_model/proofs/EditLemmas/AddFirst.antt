@@ -93,7 +93,7 @@ module _ (size : ℕ) (T T' : Cells) (a l : ℕ) (k : AddsFirst size T T' a l) w
   lower_more : (v : Forest) → ChildrenStand size T' a v → ChildrenStand size T' a (add_first l v)
   lower_more v g = (leaf, tt, g)
 
--- the new leaf stands at the path, first of its siblings
+-- the new leaf is at the path, first of its siblings
 pub added_first : (size : ℕ) (T T' : Cells) (f : Forest) (m : ℕ) (p : List ℕ) (l : ℕ) → HoldsTree size T f → OnPath T (m ∷ p) → AddsFirst size T T' (slot_at T (m ∷ p)) l
     → (j : ℕ) (v : List ℕ) → follow_on (j ∷ v) [] ≡ m ∷ p → HoldsTree size T' (edit_at (j ∷ v) (λ n. n) (add_first l) f)
 added_first size T T' f m p l w h k j v at =

@@ -1,8 +1,7 @@
 -- The edit at a slot is the edit at the slot's path.
-use Rattle.std.proofs.Common.{◌≡◌, ℕ, List, [], ◌∷◌, ◌++◌, length, sym, ◌∙◌, ap, refl, subst, inl, inr, arith, Option, cond, eqb, true, false, Bool, append_assoc, length-append}
+use Rattle.std.proofs.Common.{◌≡◌, ℕ, List, [], ◌∷◌, ◌++◌, length, sym, ◌∙◌, ap, refl, subst, inl, inr, arith, Option, cond, eqb, true, false, append_assoc, length-append}
 use Rattle.std.specs.Prelude.{ℤ, pos}
-use Rattle.std.proofs.lemmas.Bool.{cases_eq}
-use Rattle.std.proofs.lemmas.Bool.Decides.{nat_tests}
+use Rattle.std.proofs.lemmas.Bool.{cases_eq, cond-true, cond-false, eq-eqb, ne_eqb}
 use Rattle.cedar_tree.specs.Tree.{Forest, none, child}
 use Rattle.cedar_tree.specs.Edits.{edit_at}
 use Rattle.cedar_model.specs.Table.Cells.{Cells}
@@ -13,18 +12,6 @@ use Rattle.cedar_model.proofs.EditLemmas.NodeChange.{NodeStays, family_belong, s
 use Rattle.cedar_model.proofs.MeaningLemmas.Paths.{one_path}
 use Rattle.cedar_model.proofs.MeaningLemmas.OneNode.{DistinctList}
 use Rattle.cedar_model.proofs.MeaningLemmas.OneTree.{node_distinct, family_distinct}
-
-edit_true : (b : Bool) {X : Type 0} (x y : X) → b ≡ true → cond b x y ≡ x
-edit_true b x y e = ap (λ t. cond t x y) e
-
-edit_false : (b : Bool) {X : Type 0} (x y : X) → b ≡ false → cond b x y ≡ y
-edit_false b x y e = ap (λ t. cond t x y) e
-
-is_eq : (m l : ℕ) → m ≡ l → eqb m l ≡ true
-is_eq m l e = grind (arith, nat_tests)
-
-is_not : (m l : ℕ) → (m ≡ l → ⊥) → eqb m l ≡ false
-is_not m l n = grind (arith, nat_tests)
 
 -- the labels of a node below the path q are none of 0, and their slots are the node's
 abbrev Rooted : Cells → List ℕ → Forest → Type 0
@@ -49,7 +36,7 @@ distinct_grown : (size : ℕ) (T : Cells) (s : ℕ) (f : Forest) → DistinctLis
 distinct_grown size T s none d g = tt
 distinct_grown size T s (child l n u rest) d g = (d.0, distinct_grown size T (below T s l) u (node_distinct size T (below T s l) n (labels u) g.0) g.1, distinct_grown size T s rest d.1 g.2)
 
--- what stands last before a common tail
+-- what comes last before a common tail
 append_tail : (xs ys q : List ℕ) (l m : ℕ) → xs ++ (l ∷ q) ≡ ys ++ (m ∷ q) → l ≡ m
 append_tail [] [] q l m e = cc
 append_tail [] (y ∷ ys) q l m e = absurd (omega (arith, ap length e, length-append ys (m ∷ q)))
@@ -78,7 +65,7 @@ module _ (size : ℕ) (T : Cells) (root : (c : ℕ) → T.check 0 ≡ pos c → 
       let w = r m (inl refl) in
       let h' : OnPath T (m ∷ q) = (w.0, w.1, h) in
       let away : slot_at T (m ∷ q) ≡ slot_at T P → ⊥ = λ e. o m (inl refl) [] (one_path T root (m ∷ q) P h' on e) in
-      let b : eqb (slot_at T (m ∷ q)) (slot_at T P) ≡ false = is_not _ _ away in
+      let b : eqb (slot_at T (m ∷ q)) (slot_at T P) ≡ false = ne_eqb _ _ away in
       let under : edit T (slot_at T P) number children (slot_at T (m ∷ q)) u ≡ u =
       edit_none (m ∷ q) u h' (λ x a. off_below P (m ∷ q) x (o m (inl refl))) (rooted_below size T (m ∷ q) g.0.head u g.0.family) g.1 in
       let beside : edit T (slot_at T P) number children (slot_at T q) rest ≡ rest =
@@ -97,17 +84,17 @@ module _ (size : ℕ) (T : Cells) (root : (c : ℕ) → T.check 0 ≡ pos c → 
       elim (cases_eq m l) [
         | inl e ↦
             let here : m ∷ q ≡ P = ap (λ x. x ∷ q) e ∙ at in
-            let b : eqb (slot_at T (m ∷ q)) (slot_at T P) ≡ true = is_eq _ _ (ap (slot_at T) here) in
+            let b : eqb (slot_at T (m ∷ q)) (slot_at T P) ≡ true = eq-eqb _ _ (ap (slot_at T) here) in
             let under : v ≡ u = edit_none (m ∷ q) u h' (λ x a. subst (λ z. Off z (x ∷ (m ∷ q))) here (off_end (m ∷ q) x)) (rooted_below size T (m ∷ q) g.0.head u g.0.family) g.1 in
             let beside : side ≡ rest = edit_none q rest h (λ x a. off_other [] q l x P at (λ z. d.0 (subst (Among (labels rest)) (z ∙ sym e) a))) (λ x a. r x (inr a)) g.2 in
             ap (λ t. child m (cond t (number n) n) (cond t (children v) v) side) b ∙ ap (λ x. child m (number n) (children x) side) under ∙ ap (λ x. child m (number n) (children u) x) beside
-            ∙ sym (edit_true (eqb m l) _ _ (is_eq m l e))
+            ∙ sym (cond-true (eqb m l) _ _ (eq-eqb m l e))
         | inr o ↦
-            let b : eqb (slot_at T (m ∷ q)) (slot_at T P) ≡ false = is_not _ _ (λ z. off_other [] q l m P at o [] (one_path T root (m ∷ q) P h' on z)) in
+            let b : eqb (slot_at T (m ∷ q)) (slot_at T P) ≡ false = ne_eqb _ _ (λ z. off_other [] q l m P at o [] (one_path T root (m ∷ q) P h' on z)) in
             let under : v ≡ u = edit_none (m ∷ q) u h' (λ x a. off_below P (m ∷ q) x (off_other [] q l m P at o)) (rooted_below size T (m ∷ q) g.0.head u g.0.family) g.1 in
             let beside : side ≡ edit_at (l ∷ []) number children rest = edit_found [] l q rest at h d.2 (λ x a. r x (inr a)) g.2 in
             ap (λ t. child m (cond t (number n) n) (cond t (children v) v) side) b ∙ ap (λ x. child m n x side) under ∙ ap (λ x. child m n u x) beside
-            ∙ sym (edit_false (eqb m l) _ _ (is_not m l o))
+            ∙ sym (cond-false (eqb m l) _ _ (ne_eqb m l o))
       ]
   edit_found (j ∷ w) l q (child m n u rest) at h d r g =
       let k = r m (inl refl) in
@@ -117,17 +104,17 @@ module _ (size : ℕ) (T : Cells) (root : (c : ℕ) → T.check 0 ≡ pos c → 
       elim (cases_eq m l) [
         | inl e ↦
             let here : follow_on (j ∷ w) (m ∷ q) ≡ P = ap (λ x. follow_on (j ∷ w) (x ∷ q)) e ∙ at in
-            let b : eqb (slot_at T (m ∷ q)) (slot_at T P) ≡ false = is_not _ _ (λ z. longer_path w (m ∷ q) j (here ∙ sym (one_path T root (m ∷ q) P h' on z))) in
+            let b : eqb (slot_at T (m ∷ q)) (slot_at T P) ≡ false = ne_eqb _ _ (λ z. longer_path w (m ∷ q) j (here ∙ sym (one_path T root (m ∷ q) P h' on z))) in
             let under : v ≡ edit_at (j ∷ w) number children u = edit_found w j (m ∷ q) u here h' d.1 (rooted_below size T (m ∷ q) g.0.head u g.0.family) g.1 in
             let beside : side ≡ rest = edit_none q rest h (λ x a. off_other (j ∷ w) q l x P at (λ z. d.0 (subst (Among (labels rest)) (z ∙ sym e) a))) (λ x a. r x (inr a)) g.2 in
             ap (λ t. child m (cond t (number n) n) (cond t (children v) v) side) b ∙ ap (λ x. child m n x side) under ∙ ap (λ x. child m n (edit_at (j ∷ w) number children u) x) beside
-            ∙ sym (edit_true (eqb m l) _ _ (is_eq m l e))
+            ∙ sym (cond-true (eqb m l) _ _ (eq-eqb m l e))
         | inr o ↦
-            let b : eqb (slot_at T (m ∷ q)) (slot_at T P) ≡ false = is_not _ _ (λ z. off_other (j ∷ w) q l m P at o [] (one_path T root (m ∷ q) P h' on z)) in
+            let b : eqb (slot_at T (m ∷ q)) (slot_at T P) ≡ false = ne_eqb _ _ (λ z. off_other (j ∷ w) q l m P at o [] (one_path T root (m ∷ q) P h' on z)) in
             let under : v ≡ u = edit_none (m ∷ q) u h' (λ x a. off_below P (m ∷ q) x (off_other (j ∷ w) q l m P at o)) (rooted_below size T (m ∷ q) g.0.head u g.0.family) g.1 in
             let beside : side ≡ edit_at (l ∷ j ∷ w) number children rest = edit_found (j ∷ w) l q rest at h d.2 (λ x a. r x (inr a)) g.2 in
             ap (λ t. child m (cond t (number n) n) (cond t (children v) v) side) b ∙ ap (λ x. child m n x side) under ∙ ap (λ x. child m n u x) beside
-            ∙ sym (edit_false (eqb m l) _ _ (is_not m l o))
+            ∙ sym (cond-false (eqb m l) _ _ (ne_eqb m l o))
       ]
 
   -- from the root: the edit at the slot of a path is the edit at that path

@@ -7,7 +7,7 @@ use Rattle.cedar_model.specs.Table.Cells.{Cells, Held}
 use Rattle.cedar_model.specs.Meaning.Family.{Among, below, Family, Links, Node, number_of, top}
 use Rattle.cedar_model.specs.Meaning.StandsFor.{ChildrenStand, HoldsTree, labels, OnPath, slot_at}
 use Rattle.cedar_model.specs.Meaning.Reading.{first_in}
-use Rattle.cedar_model.specs.Edit.NodeEdits.{AddsFirst, AddsLabel, Ascends, follow_on, HasChain, inserted, IsAt, IsPlaceFor, Touches}
+use Rattle.cedar_model.specs.Edit.NodeEdits.{AddsFirst, AddsLabel, Ascends, follow_on, HasChain, IsAt, IsPlaceFor, Touches, with_ascending_label}
 use Rattle.cedar_model.proofs.EditLemmas.AddBehind.{added_behind, added_behind_at_root, inserted_here, labels_inserted, lower_inserted}
 use Rattle.cedar_model.proofs.EditLemmas.AddFirst.{added_at_root, added_first, family_added, leaf, root_added, stays}
 use Rattle.cedar_model.proofs.EditLemmas.ChangeAtPath.{edited, follow_split, root_edited}
@@ -57,7 +57,7 @@ node_ascends size T a z k n ls g =
     let two = node_reads size T a n ls z g in
     subst Ascends (links_unique T a (first_in T a) k.listed ls one.links two.links) (k.ascends refl)
 
-inserted_first : (T : Cells) (a c l : ℕ) (ls : List ℕ) → Links T a c ls → IsPlaceFor l c → inserted l ls ≡ l ∷ ls
+inserted_first : (T : Cells) (a c l : ℕ) (ls : List ℕ) → Links T a c ls → IsPlaceFor l c → with_ascending_label l ls ≡ l ∷ ls
 inserted_first T a c l [] h goes = refl
 inserted_first T a c l (m ∷ ms) h (inl z) = absurd (omega (arith, h.0, h.1, z))
 inserted_first T a c l (m ∷ ms) h (inr above) = inserted_here l m ms (omega (arith, above, h.0))
@@ -82,7 +82,7 @@ module _ (size : ℕ) (T T' : Cells) (l : ℕ) where
       edited size T T' f (below T' (slot_at T (m ∷ p)) l) w (stays size T T' a l k) (λ n. n) (λ u. insert_ascending u l empty_tree) m p h k.touches
       (λ n u y same g.
       let reads = node_reads size T a n (labels u) z g in
-      let front : inserted l (labels y) ≡ l ∷ labels u = ap (inserted l) same ∙ inserted_first T a (first_in T a) l (labels u) reads.links goes in
+      let front : with_ascending_label l (labels y) ≡ l ∷ labels u = ap (with_ascending_label l) same ∙ inserted_first T a (first_in T a) l (labels u) reads.links goes in
       record { head = g.head; number = g.number; family = subst (λ ls. Family size T' a g.head ls) (sym (labels_inserted l y ∙ front)) (family_added size T T' a l k g.head (labels u) z g.family) })
       (lower_inserted size T' a l (leaf size T T' a l k)) j v at
 
@@ -106,7 +106,7 @@ module _ (size : ℕ) (T T' : Cells) (l : ℕ) where
   label_added_at_root true f w u (inr k) = added_behind_at_root size T T' f l w k.1 (labels_ascend f (u refl))
   label_added_at_root false f w u (inr k) = let no = k.0 in cc
 
-  -- wherever the node stands
+  -- wherever the node is
   pub label_added : (ordered : Bool) (f : Forest) (w : List ℕ) (a : ℕ) → HoldsTree size T f → (ordered ≡ true → IsAscending f) → IsAt T w a → AddsLabel size ordered T T' a l → HoldsTree size T' (edit_at w (λ n. n) (add_leaf ordered l) f)
   label_added ordered f [] a h u at k = label_added_at_root ordered f h u (subst (λ s. AddsLabel size ordered T T' s l) (sym at.1) k)
   label_added ordered f (j ∷ v) a h u at k =

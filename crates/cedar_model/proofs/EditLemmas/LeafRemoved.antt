@@ -9,7 +9,7 @@ use Rattle.cedar_model.specs.declared.layout.Stored.TheVariants.{AtBase}
 use Rattle.cedar_model.specs.Table.Cells.{Cells}
 use Rattle.cedar_model.specs.Meaning.Family.{base_in, base_of, Head, plain, valued, own, top, Family, below, Among, owned_slots, Links, Based, InRange}
 use Rattle.cedar_model.specs.Meaning.StandsFor.{labels, ChildrenStand, slot_at, OnPath, HoldsTree}
-use Rattle.cedar_model.specs.Edit.NodeEdits.{follow_on, Removes, Touches, removed}
+use Rattle.cedar_model.specs.Edit.NodeEdits.{follow_on, Removes, Touches, without_label}
 use Rattle.cedar_model.proofs.MeaningLemmas.ExclusiveOr.{xor_back, xor_injective}
 use Rattle.cedar_model.proofs.RelocationLemmas.CarriedNode.{family_carried, stands_there}
 use Rattle.cedar_model.proofs.MeaningLemmas.OneNode.{DistinctList}
@@ -23,17 +23,17 @@ skip_at l after c e = grind (arith, nat_tests)
 pub skip_other : (l after c : ℕ) → (c ≡ l → ⊥) → cond (nat_eq c l) after c ≡ c
 skip_other l after c n = grind (arith, nat_tests)
 
-removed_at : (l m : ℕ) (ms : List ℕ) → m ≡ l → removed l (m ∷ ms) ≡ ms
-removed_at l m ms e = let b : nat_eq m l ≡ true = grind (arith, nat_tests) in ap (λ t. cond t ms (m ∷ removed l ms)) b
+removed_at : (l m : ℕ) (ms : List ℕ) → m ≡ l → without_label l (m ∷ ms) ≡ ms
+removed_at l m ms e = let b : nat_eq m l ≡ true = grind (arith, nat_tests) in ap (λ t. cond t ms (m ∷ without_label l ms)) b
 
-removed_other : (l m : ℕ) (ms : List ℕ) → (m ≡ l → ⊥) → removed l (m ∷ ms) ≡ m ∷ removed l ms
-removed_other l m ms n = let b : nat_eq m l ≡ false = grind (arith, nat_tests) in ap (λ t. cond t ms (m ∷ removed l ms)) b
+removed_other : (l m : ℕ) (ms : List ℕ) → (m ≡ l → ⊥) → without_label l (m ∷ ms) ≡ m ∷ without_label l ms
+removed_other l m ms n = let b : nat_eq m l ≡ false = grind (arith, nat_tests) in ap (λ t. cond t ms (m ∷ without_label l ms)) b
 
-removed_absent : (l : ℕ) (ms : List ℕ) → (Among ms l → ⊥) → removed l ms ≡ ms
+removed_absent : (l : ℕ) (ms : List ℕ) → (Among ms l → ⊥) → without_label l ms ≡ ms
 removed_absent l [] n = refl
 removed_absent l (m ∷ ms) n = removed_other l m ms (λ e. n (inl e)) ∙ ap (λ x. m ∷ x) (removed_absent l ms (λ a. n (inr a)))
 
-pub among_removed : (l x : ℕ) (ms : List ℕ) → (x ≡ l → ⊥) → Among ms x → Among (removed l ms) x
+pub among_removed : (l x : ℕ) (ms : List ℕ) → (x ≡ l → ⊥) → Among ms x → Among (without_label l ms) x
 among_removed l x [] n a = a
 among_removed l x (m ∷ ms) n a = elim (cases_eq m l) [
   | inl e ↦ subst (λ y. Among y x) (sym (removed_at l m ms e)) (elim a [ inl o ↦ absurd (n (sym o ∙ e)) | inr b ↦ b ])
@@ -59,7 +59,7 @@ patched_child T x q n = let b : nat_eq q x ≡ false = grind (arith, nat_tests) 
 is_same : (x : ℕ) → nat_eq x x ≡ true
 is_same x = grind (arith, nat_tests)
 
--- what stands in the patched table stands in the table
+-- what is in the patched table is in the table
 module _ (size : ℕ) (T : Cells) (f : Forest) (x : ℕ) (gone : (c : ℕ) → T.check x ≡ pos c → ⊥) (alone : (q : ℕ) → T.check q ≡ pos x → ⊥) (not_root : x ≡ 0 → ⊥) (w : HoldsTree size (patched T x) f) where
   same_family : (s : ℕ) (h : Head) (ls : List ℕ) → (s ≡ x → ⊥) → Family size (patched T x) s h ls → Family size T s h ls
   same_family s h ls n k =
@@ -136,38 +136,38 @@ module _ (size : ℕ) (T T' : Cells) (a l : ℕ) (k : Removes size T T' a l) (a_
   first_absent c [] n h e = k.positive (sym e ∙ h)
   first_absent c (m ∷ ms) n h e = n (inl (sym h.0 ∙ e))
 
-  links_cut : (c : ℕ) (ms : List ℕ) → DistinctList ms → Links T a c ms → Links (patched T' (below T a l)) a (cond (nat_eq c l) (T.sibling (below T a l)) c) (removed l ms)
+  links_cut : (c : ℕ) (ms : List ℕ) → DistinctList ms → Links T a c ms → Links (patched T' (below T a l)) a (cond (nat_eq c l) (T.sibling (below T a l)) c) (without_label l ms)
   links_cut c [] d h = skip_other l _ c (λ e. k.positive (sym e ∙ h)) ∙ h
   links_cut c (m ∷ ms) d h = elim (cases_eq m l) [
     | inl e ↦
         let absent : Among ms l → ⊥ = λ b. d.0 (subst (Among ms) (sym e) b) in
         let after : T.sibling (below T a m) ≡ T.sibling (below T a l) = ap (λ y. T.sibling (below T a y)) e in
-        let rest : Links (patched T' (below T a l)) a (cond (nat_eq (T.sibling (below T a m)) l) (T.sibling (below T a l)) (T.sibling (below T a m))) (removed l ms) = links_cut (T.sibling (below T a m)) ms d.1 h.4 in
+        let rest : Links (patched T' (below T a l)) a (cond (nat_eq (T.sibling (below T a m)) l) (T.sibling (below T a l)) (T.sibling (below T a m))) (without_label l ms) = links_cut (T.sibling (below T a m)) ms d.1 h.4 in
         let same : cond (nat_eq (T.sibling (below T a m)) l) (T.sibling (below T a l)) (T.sibling (below T a m)) ≡ T.sibling (below T a m) = skip_other l _ _ (first_absent _ ms absent h.4) in
-        subst (λ y. Links (patched T' (below T a l)) a y (removed l (m ∷ ms))) (after ∙ sym (skip_at l _ c (h.0 ∙ e)))
-        (subst (Links (patched T' (below T a l)) a (T.sibling (below T a m))) (removed_absent l ms absent ∙ sym (removed_at l m ms e)) (subst (λ y. Links (patched T' (below T a l)) a y (removed l ms)) same rest))
+        subst (λ y. Links (patched T' (below T a l)) a y (without_label l (m ∷ ms))) (after ∙ sym (skip_at l _ c (h.0 ∙ e)))
+        (subst (Links (patched T' (below T a l)) a (T.sibling (below T a m))) (removed_absent l ms absent ∙ sym (removed_at l m ms e)) (subst (λ y. Links (patched T' (below T a l)) a y (without_label l ms)) same rest))
     | inr n ↦
         let apart : below T a m ≡ below T a l → ⊥ = λ z. n (xor_injective (base_of T a) m l z) in
         let rest = links_cut (T.sibling (below T a m)) ms d.1 h.4 in
-        let kept : Links (patched T' (below T a l)) a c (m ∷ removed l ms) =
-        (h.0, h.1, h.2, ap T'.check (at_base m) ∙ k.touches.mine _ h.3 apart, subst (λ y. Links (patched T' (below T a l)) a y (removed l ms)) (sym (ap T'.sibling (at_base m) ∙ k.next _ h.3 apart)) rest) in
-        subst (λ y. Links (patched T' (below T a l)) a y (removed l (m ∷ ms))) (sym (skip_other l _ c (λ z. n (sym h.0 ∙ z))))
+        let kept : Links (patched T' (below T a l)) a c (m ∷ without_label l ms) =
+        (h.0, h.1, h.2, ap T'.check (at_base m) ∙ k.touches.mine _ h.3 apart, subst (λ y. Links (patched T' (below T a l)) a y (without_label l ms)) (sym (ap T'.sibling (at_base m) ∙ k.next _ h.3 apart)) rest) in
+        subst (λ y. Links (patched T' (below T a l)) a y (without_label l (m ∷ ms))) (sym (skip_other l _ c (λ z. n (sym h.0 ∙ z))))
         (subst (Links (patched T' (below T a l)) a c) (sym (removed_other l m ms n)) kept)
   ]
 
-  among_owned : (h : Head) (ls : List ℕ) (y : ℕ) → (y ≡ l → ⊥) → Among (owned_slots h ls) y → Among (owned_slots h (removed l ls)) y
+  among_owned : (h : Head) (ls : List ℕ) (y : ℕ) → (y ≡ l → ⊥) → Among (owned_slots h ls) y → Among (owned_slots h (without_label l ls)) y
   among_owned plain ls y n b = among_removed l y ls n b
   among_owned (valued v) ls y n (inl e) = inl e
   among_owned (valued v) ls y n (inr b) = inr (among_removed l y ls n b)
   among_owned (own v) ls y n b = among_removed l y ls n b
   among_owned top ls y n b = among_removed l y ls n b
 
-  only_cut : (h : Head) (ls : List ℕ) → ((q : ℕ) → T.check q ≡ pos a → Among (owned_slots h ls) (below T a q)) → (q : ℕ) → T'.check q ≡ pos a → Among (owned_slots h (removed l ls)) (below (patched T' (below T a l)) a q)
+  only_cut : (h : Head) (ls : List ℕ) → ((q : ℕ) → T.check q ≡ pos a → Among (owned_slots h ls) (below T a q)) → (q : ℕ) → T'.check q ≡ pos a → Among (owned_slots h (without_label l ls)) (below (patched T' (below T a l)) a q)
   only_cut h ls only q e =
       let not_x : q ≡ below T a l → ⊥ = λ z. k.gone a (ap T'.check (sym z) ∙ e) in
       let was : T.check q ≡ pos a = elim (k.touches.only q e) [ inl o ↦ o | inr z ↦ absurd (not_x z) ] in
       let other : below T a q ≡ l → ⊥ = λ z. not_x (sym (xor_back (base_of T a) q) ∙ ap (below T a) z) in
-      subst (Among (owned_slots h (removed l ls))) (sym (at_base q)) (among_owned h ls _ other (only q was))
+      subst (Among (owned_slots h (without_label l ls))) (sym (at_base q)) (among_owned h ls _ other (only q was))
 
   stored_same : (patched T' (below T a l)).stored a ≡ T.stored a
   stored_same = patched_touches.place _ k.was
@@ -184,10 +184,10 @@ module _ (size : ℕ) (T T' : Cells) (a l : ℕ) (k : Removes size T T' a l) (a_
   in_range [] r = inr r
   in_range (m ∷ ls) r = r
 
-  pub family_cut : (h : Head) (ls : List ℕ) → DistinctList ls → Family size T a h ls → Family size (patched T' (below T a l)) a h (removed l ls)
+  pub family_cut : (h : Head) (ls : List ℕ) → DistinctList ls → Family size T a h ls → Family size (patched T' (below T a l)) a h (without_label l ls)
   family_cut plain ls d f = record {
-    based = subst (λ z. Based size z plain (removed l ls)) (sym stored_same) (in_range (removed l ls) (ranged ls f));
-    begins = subst (λ c. Links (patched T' (below T a l)) a c (removed l ls)) (sym child_cut) (links_cut (T.child a) ls d f.begins);
+    based = subst (λ z. Based size z plain (without_label l ls)) (sym stored_same) (in_range (without_label l ls) (ranged ls f));
+    begins = subst (λ c. Links (patched T' (below T a l)) a c (without_label l ls)) (sym child_cut) (links_cut (T.child a) ls d f.begins);
     only = only_cut plain ls f.only;
   }
   family_cut (valued v) ls d f =
@@ -201,7 +201,7 @@ module _ (size : ℕ) (T T' : Cells) (a l : ℕ) (k : Removes size T T' a l) (a_
           ap T'.check (at_base 0) ∙ k.touches.mine _ f.begins.1 apart,
           ap T'.base (at_base 0) ∙ n.0 ∙ f.begins.2,
           ap (patched T' (below T a l)).child (at_base 0) ∙ patched_child T' (below T a l) _ apart ∙ n.1 ∙ f.begins.3,
-          subst (λ c. Links (patched T' (below T a l)) a c (removed l ls)) (sym (ap T'.sibling (at_base 0) ∙ k.next _ f.begins.1 apart)) (links_cut _ ls d f.begins.4),
+          subst (λ c. Links (patched T' (below T a l)) a c (without_label l ls)) (sym (ap T'.sibling (at_base 0) ∙ k.next _ f.begins.1 apart)) (links_cut _ ls d f.begins.4),
         );
         only = only_cut (valued v) ls f.only;
       }
@@ -210,7 +210,7 @@ module _ (size : ℕ) (T T' : Cells) (a l : ℕ) (k : Removes size T T' a l) (a_
       let off : T.child a ≡ l → ⊥ = λ z. k.positive (sym z ∙ f.begins.1) in
       record {
         based = stored_same ∙ f.based;
-        begins = (f.begins.0, child_cut ∙ skip_other l _ _ off ∙ f.begins.1, subst (λ c. Links (patched T' (below T a l)) a c (removed l ls)) (sym (k.at_root f.begins.0)) (links_cut _ ls d f.begins.2));
+        begins = (f.begins.0, child_cut ∙ skip_other l _ _ off ∙ f.begins.1, subst (λ c. Links (patched T' (below T a l)) a c (without_label l ls)) (sym (k.at_root f.begins.0)) (links_cut _ ls d f.begins.2));
         only = only_cut top ls f.only;
       }
 
@@ -223,7 +223,7 @@ module _ (size : ℕ) (T T' : Cells) (a l : ℕ) (k : Removes size T T' a l) (a_
         subst (λ t. ChildrenStand size T₁ a (cond t rest (child m n u (without rest l)))) (sym b) (g.0, g.1, lower_without T₁ rest g.2)
   ]
 
-  labels_without : (v : Forest) → labels (without v l) ≡ removed l (labels v)
+  labels_without : (v : Forest) → labels (without v l) ≡ without_label l (labels v)
   labels_without none = refl
   labels_without (child m n u rest) = elim (cases_eq m l) [
     | inl e ↦ let b : nat_eq m l ≡ true = grind (arith, nat_tests) in
@@ -241,7 +241,7 @@ leaf_removed size T T' f m p l w h k j v at =
     let n : slot_at T (m ∷ p) ≡ below T (slot_at T (m ∷ p)) l → ⊥ = not_x size T T' f (m ∷ p) x w h k.touches in
     unpatched size T' (edit_at (j ∷ v) (λ n. n) (λ u. without u l) f) x k.gone (alone_after size T T' a l k n) k.touches.not_root
     (edited size T (patched T' x) f x w (leaf_stays size T T' a l k n) (λ n. n) (λ u. without u l) m p h (patched_touches size T T' a l k n)
-    (λ o u y same g. record { head = g.head; number = g.number; family = subst (λ ls. Family size (patched T' x) a g.head ls) (sym (labels_without size T T' a l k n y ∙ ap (removed l) same)) (family_cut size T T' a l k n g.head (labels u) (node_distinct size T a o (labels u) g) g.family) })
+    (λ o u y same g. record { head = g.head; number = g.number; family = subst (λ ls. Family size (patched T' x) a g.head ls) (sym (labels_without size T T' a l k n y ∙ ap (without_label l) same)) (family_cut size T T' a l k n g.head (labels u) (node_distinct size T a o (labels u) g) g.family) })
     (λ y g. lower_without size T T' a l k n (patched T' x) y g) j v at)
 
 pub leaf_removed_at_root : (size : ℕ) (T T' : Cells) (f : Forest) (l : ℕ) → HoldsTree size T f → Removes size T T' 0 l → HoldsTree size T' (without f l)

@@ -26,7 +26,7 @@ use Rattle.cedar_model.proofs.MeaningLemmas.ExclusiveOr.{xor_back}
 use Rattle.cedar_model.proofs.MeaningLemmas.OneTree.{node_reads}
 use Rattle.cedar_tree.proofs.OrderLemmas.{number_of_node}
 
-no_links : (T : Cells) (s c : ℕ) (ls : List ℕ) → c ≡ 0 → Links T s c ls → ls ≡ []
+pub no_links : (T : Cells) (s c : ℕ) (ls : List ℕ) → c ≡ 0 → Links T s c ls → ls ≡ []
 no_links T s c [] z k = refl
 no_links T s c (l ∷ ls) z k = let same : c ≡ l = k.0 in let some : 0 < l = k.1 in absurd (omega (arith, z, same, some))
 
@@ -66,7 +66,7 @@ module _ (slots : ℕ) (T : Fields) (w : IsWellFormed slots T) (key : List ℕ) 
   pub number_back : (n : ℕ) (T' : Cells) → HoldsTree n T' (edit_at key (λ _. Some v) (λ u. u) (edit_at key (λ _. None) (λ u. u) (tree_of T).children)) → HoldsTree n T' (tree_of T).children
   number_back n T' h = subst (HoldsTree n T') (back_again (size_of T) (cells_in T) (tree_of T).children key s v w.stands at below_root number_is) h
 
-  -- where the number stands afterwards, and each other number where it stood
+  -- where the number is kept afterwards, and each other number as it was
   pub marked_in : (T₁ T₂ : Cells) → DropsNumber (size_of T) (cells_in T) T₁ s → FieldSet T₁ T₂ s (OwnNumber v) → ((c : ℕ) → T₂.check 0 ≡ pos c → ⊥) → mark T₂ s ≡ Some false
   marked_in T₁ T₂ d k root =
       let lead : below T₂ s 0 ≡ 0 = ap (λ st. bit_xor (base_in st) 0) k.set in

@@ -105,7 +105,7 @@ module _ (size size' : ℕ) (T T₁ T₂ : Cells) (f : Forest) (w : List ℕ) (a
         let mine : o.0 ≡ a = sets.touches.owner o.0 (ap T₂.check (sym e) ∙ o.1) in
         alone_on s (o.1 ∙ ap pos mine))
 
-    -- and each other number stands as it did
+    -- and each other number is kept as it was
     pub others_back : KeepsOtherMarks T T₃ a
     others_back u s m on other e =
         let first = renamed_marks size size' T T₁ (λ q. q) f h grown u s m on e in

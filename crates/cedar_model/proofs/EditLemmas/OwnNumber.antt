@@ -95,7 +95,7 @@ alone_leaf : (size : ℕ) (T : Cells) (a : ℕ) (h : Head) (ls : List ℕ) → O
 alone_leaf size T a h [] n f = refl
 alone_leaf size T a h (l ∷ ls) n f = absurd (n _ (labels_own T a h (l ∷ ls) f.begins l (inl refl)))
 
-alone_child : (size : ℕ) (T : Cells) (a : ℕ) (h : Head) (ls : List ℕ) → (a ≡ 0 → ⊥) → OwnsNothing T a → Family size T a h ls → T.child a ≡ 0
+pub alone_child : (size : ℕ) (T : Cells) (a : ℕ) (h : Head) (ls : List ℕ) → (a ≡ 0 → ⊥) → OwnsNothing T a → Family size T a h ls → T.child a ≡ 0
 alone_child size T a plain [] z n f = f.begins
 alone_child size T a plain (l ∷ ls) z n f = absurd (n _ (labels_own T a plain (l ∷ ls) f.begins l (inl refl)))
 alone_child size T a (valued v) ls z n f = f.begins.0
@@ -184,7 +184,7 @@ field_written reads T T' a st z c w stored check = record {
   set = w.stored_at ∙ stored;
 }
 
--- a test that tells a fact both ways
+-- a test that decides a fact both ways
 pub told : (b y : Bool) → (b ≡ true → y ≡ true) → ((b ≡ true → ⊥) → y ≡ false) → b ≡ y
 told true y f g = sym (f refl)
 told false y f g = sym (g (λ e. false≢true e))
@@ -223,7 +223,7 @@ same_or_not x y = elim (cases_Bool (int_eq x y)) [
   | inr off ↦ inr (λ e. true≢false (sym ((Decides-int_eq x y).1 e) ∙ off))
 ]
 
--- where the number of a node stands that has one
+-- where a node keeps its number, if it has one
 pub number_stands : (size : ℕ) (T : Cells) (f : Forest) (w : List ℕ) (a : ℕ) → HoldsTree size T f → IsAt T w a → is_some (node_at (root_of f) w).number ≡ true → (T.check (below T a 0) ≡ pos a) ⊎ ((v : ℤ) × (T.stored a ≡ OwnNumber v))
 number_stands size T f w a h at some =
     let st = at_node size T f w a h at in

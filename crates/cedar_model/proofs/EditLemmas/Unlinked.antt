@@ -16,7 +16,7 @@ use Rattle.cedar_model.proofs.MeaningLemmas.OneTree.{family_no_zero, links_disti
 
 -- ---- what leads to a label is one slot
 
--- a label that one of a chain leads to stands in what follows the chain's first
+-- a label that one of a chain leads to is in what follows the chain's first
 after_in : (T : Cells) (a c l : ℕ) (m : ℕ) (ms : List ℕ) → Links T a c (m ∷ ms) → (x : ℕ) → Among (m ∷ ms) x → T.sibling (below T a x) ≡ l → (l ≡ 0 → ⊥) → Among ms l
 after_in T a c l m [] h x (inl e) s z = absurd (z (sym s ∙ ap (λ y. T.sibling (below T a y)) (sym e) ∙ h.4))
 after_in T a c l m [] h x (inr i) s z = absurd i

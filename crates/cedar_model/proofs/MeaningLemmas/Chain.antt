@@ -99,7 +99,7 @@ strictly_below T a next l o n absent = elim (cases_eq next l) [
 
 -- ---- chains that ascend
 
-above_all : (b x : ℕ) (ms : List ℕ) → Above b ms → Among ms x → b < x
+pub above_all : (b x : ℕ) (ms : List ℕ) → Above b ms → Among ms x → b < x
 above_all b x [] u i = absurd i
 above_all b x (m ∷ ms) u (inl e) = omega (arith, u.0, e)
 above_all b x (m ∷ ms) u (inr i) = omega (arith, u.0, above_all m x ms u.1 i)

@@ -27,7 +27,7 @@ links_past T a next l (m ∷ ls) h (inr i) n =
       label = (links_next T a next (m ∷ ls) h z).label;
     }
 
--- slot b stands in a's chain before label l
+-- slot b is in a's chain before label l
 pub record Along (T : Cells) (a l b : ℕ) : Type 0 where
   pub link : IsLink T a b
   pub rest : List ℕ

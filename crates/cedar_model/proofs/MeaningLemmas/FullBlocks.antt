@@ -6,7 +6,7 @@ use Rattle.std.specs.Int.Bits.{xor_zero_l}
 use Rattle.std.specs.List.{count_by, range_with_len}
 use Rattle.std.proofs.lemmas.Bool.{cases_eq, cond-true, cond-false, ne_eqb}
 use Rattle.cedar_tree.specs.Tree.{Forest}
-use Rattle.cedar_tree.specs.Queries.{used}
+use Rattle.cedar_tree.specs.Queries.{slots_of_tree}
 use Rattle.cedar_model.specs.Table.Cells.{Cells, is_held, NoPlace}
 use Rattle.cedar_model.specs.Meaning.Family.{base_in, base_of, below, Head, plain, valued, own, top, Among, Family}
 use Rattle.cedar_model.specs.Table.Layouts.{default_layout}
@@ -25,7 +25,7 @@ use Rattle.cedar_model.proofs.MeaningLemmas.HeldCount.{count_is_used}
 use Rattle.cedar_model.proofs.MeaningLemmas.OneTree.{family_distinct, family_no_zero}
 use Rattle.cedar_slots.proofs.RingsLemmas.InBlock.{xor_block}
 
--- ---- how often a label stands among those of a node
+-- ---- how often a label is among those of a node
 
 occurs_among : (x : ℕ) (xs : List ℕ) → 0 < occurs x xs → Among xs x
 occurs_among x [] h = absurd (omega arith)
@@ -34,7 +34,7 @@ occurs_among x (y ∷ ys) h = elim (cases_eq x y) [
   | inr n ↦ inr (occurs_among x ys (omega (arith, h, occurs_other x y ys n)))
 ]
 
--- each member of a list that has none twice stands in it once
+-- each member of a list that has none twice is in it once
 distinct_once : (x : ℕ) (xs : List ℕ) → DistinctList xs → Among xs x → occurs x xs ≡ 1
 distinct_once x [] d a = absurd a
 distinct_once x (y ∷ ys) d a = elim (cases_eq x y) [
@@ -134,7 +134,7 @@ full_counted size m T f is w full =
     let whole : total (λ s. yes (is_held T s)) 0 size ≡ total (λ s. yes (is_held T s)) 0 256 + total (λ s. yes (is_held T s)) (0 + 256) m = ap (total (λ s. yes (is_held T s)) 0) is ∙ total-append (λ s. yes (is_held T s)) 0 256 m in
     omega (arith, count_by-total (is_held T) 0 size, whole, first_counted size T f w, later, is)
 
-pub full_blocks_counted : (slots : ℕ) (T : Fields) → IsWellFormed slots T → T.layout ≡ default_layout → NoPlace (size_of T) (cells_in T) → size_of T + length (labels (tree_of T).children) ≡ used (tree_of T) + 255
+pub full_blocks_counted : (slots : ℕ) (T : Fields) → IsWellFormed slots T → T.layout ≡ default_layout → NoPlace (size_of T) (cells_in T) → size_of T + length (labels (tree_of T).children) ≡ slots_of_tree (tree_of T) + 255
 full_blocks_counted slots T w layout full =
     let some : size_of T ≡ 256 + (size_of T - 256) = omega (arith, w.table.sound.shaped.blocks.some) in
     let held = full_counted (size_of T) (size_of T - 256) (cells_in T) (tree_of T).children some w.stands full in

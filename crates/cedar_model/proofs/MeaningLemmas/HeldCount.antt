@@ -6,7 +6,7 @@ use Rattle.std.specs.List.{count_by, range_with_len}
 use Rattle.std.proofs.lemmas.Bool.{cases_eq, cond-true, cond-false, ne_eqb}
 use Rattle.std.proofs.lemmas.List.{length-map}
 use Rattle.cedar_tree.specs.Tree.{Forest, none, child}
-use Rattle.cedar_tree.specs.Queries.{own_entry, under, walk, walk_forest, prefixes, prefixes_forest, used}
+use Rattle.cedar_tree.specs.Queries.{own_entry, under, walk, walk_forest, prefixes, prefixes_forest, slots_of_tree}
 use Rattle.cedar_model.specs.Table.Cells.{Cells, is_held}
 use Rattle.cedar_model.specs.Meaning.Family.{below, top, Among}
 use Rattle.cedar_model.specs.Table.Layouts.{LayoutKind, default_layout, reading}
@@ -85,7 +85,7 @@ entries_named T s (child l n u rest) =
     at_most_one None = omega arith
     at_most_one (Some v) = omega arith
 
--- ---- where each number stands in a slot of its own
+-- ---- where each number is in a slot of its own
 
 number_length : (T : Cells) (s : ℕ) (n : Option ℤ) → own_number (T.stored s) ≡ None → number_in T s ≡ n → length (number_slots T s) ≡ length (own_entry n)
 number_length T s n none_own reads = by_test (has_number_slot T s) refl
@@ -120,7 +120,7 @@ slots_length size T root own s (child l n u rest) mine g =
       length-append (own_entry n) (walk_forest u),
     )
 
--- ---- wherever the numbers stand
+-- ---- wherever the numbers are kept
 
 mark_length : (T : Cells) (s : ℕ) (n : Option ℤ) → number_in T s ≡ n → length (number_slots T s) ≡ length (own_entry (cond (has_number_slot T s) n None))
 mark_length T s n reads = by_test (has_number_slot T s) refl
@@ -165,7 +165,7 @@ pub count_is_named : (slots : ℕ) (T : Fields) → IsWellFormed slots T → cou
 count_is_named slots T w =
     count_named (size_of T) (cells_in T) (tree_of T).children w.stands (in_use T) (omega (arith, w.table.sound.shaped.blocks.some))
 
-pub count_is_used : (slots : ℕ) (T : Fields) → IsWellFormed slots T → T.layout ≡ default_layout → count_by (is_held (cells_in T)) (range_with_len 0 (size_of T)) ≡ used (tree_of T)
+pub count_is_used : (slots : ℕ) (T : Fields) → IsWellFormed slots T → T.layout ≡ default_layout → count_by (is_held (cells_in T)) (range_with_len 0 (size_of T)) ≡ slots_of_tree (tree_of T)
 unfolding tree_read
 count_is_used slots T w layout =
     let f : Forest = (tree_of T).children in

@@ -44,7 +44,7 @@ node_from size T (l ∷ w) q t on st =
     (rest.0, (has_among t.children l among, rest.1))
 
 module _ (size : ℕ) (T : Cells) (f : Forest) (w : List ℕ) (a : ℕ) (h : HoldsTree size T f) (at : IsAt T w a) where
-  -- the slot stands for the node at its path
+  -- the slot represents the node at its path
   pub at_node : Stands size T a (node_at (root_of f) w)
   at_node = subst (λ s. Stands size T s (node_at (root_of f) w)) at.1 (node_from size T w [] (root_of f) at.0 (root_stands size T f h.stands)).0
 

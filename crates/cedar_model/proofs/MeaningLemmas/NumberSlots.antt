@@ -1,4 +1,4 @@
--- Where the numbers of nodes stand, once slots were renamed or a node's own slots have changed.
+-- Where the numbers of nodes are kept, once slots were renamed or a node's own slots have changed.
 use Rattle.std.proofs.Common.{◌≡◌, ℕ, List, [], ◌∷◌, sym, ◌∙◌, ap, refl, subst, inl, inr, arith, ◌<◌, Bool, true, false, cond, Option, Some, None, ◌⊎◌}
 use Rattle.std.specs.Prelude.{ℤ, pos, bit_xor}
 use Rattle.std.proofs.lemmas.Bool.{cases_eq, true≢false}
@@ -23,7 +23,7 @@ use Rattle.cedar_model.proofs.MeaningLemmas.ExclusiveOr.{xor_injective}
 use Rattle.cedar_model.proofs.UpdateLemmas.BareTrimmed.{has_owner}
 use Rattle.cedar_model.proofs.MeaningLemmas.OneTree.{owns_no, owns_yes}
 
--- ---- a node's head tells where its number stands
+-- ---- a node's head says where its number is kept
 
 abbrev head_mark : Head → Option Bool
 head_mark plain = None
@@ -65,7 +65,7 @@ root_unmarked size T f m h e =
 
 -- ---- slots renamed
 
--- each number stands as it did
+-- each number is kept as it was
 pub renamed_marks : (size size' : ℕ) (T T' : Cells) (r : ℕ → ℕ) (f : Forest) → HoldsTree size T f → Renamed size size' T T' r → KeepsMarks T T'
 renamed_marks size size' T T' r f h k w s m on e =
     let kept = path_kept size size' T T' r k (follow_on w []) on.0 in
@@ -222,6 +222,6 @@ marked_slot T s e = elim (same_or_not (T.check (below T s 0)) (pos s)) [
     never_slot (OwnNumber v) i = let no : false ≡ true = some_same i in true≢false (sym no)
     never_slot Nothing i = let no : ◌≡◌ {A = Option Bool} None (Some true) = i in cc
 
--- the slot of a number given up: each other number stands as it did
+-- the slot of a number given up: each other number is kept as it was
 pub dropped_marks : (size : ℕ) (T T' : Cells) (f : Forest) (u : List ℕ) (a : ℕ) → HoldsTree size T f → IsAt T u a → DropsNumber size T T' a → KeepsOtherMarks T T' a
 dropped_marks size T T' f u a h at k = touched_marks size T T' f u a (below T a 0) h at k.touches (λ w s m on o _ z. not_number T h.root (follow_on w []) on.0 a k.was (sym z ∙ sym on.1))

@@ -1,4 +1,4 @@
--- One node's own slots: its labels' slots are its own, and an owned slot stands under one of its labels.
+-- One node's own slots: its labels' slots are its own, and an owned slot is under one of its labels.
 use Rattle.std.proofs.Common.{◌≡◌, ℕ, ◌<◌, List, [], ◌∷◌, sym, subst, inl, inr, Option}
 use Rattle.std.specs.Prelude.{ℤ, pos}
 use Rattle.cedar_tree.specs.Tree.{Forest, none, child}
@@ -51,6 +51,6 @@ label_among (valued v) ls l n (inr a) = a
 label_among (own v) ls l n a = a
 label_among top ls l n a = a
 
--- an owned slot of a node stands under one of its labels
+-- an owned slot of a node is under one of its labels
 pub owned_label : (size : ℕ) (T : Cells) (s l : ℕ) (h : Head) (ls : List ℕ) → Family size T s h ls → (l ≡ 0 → ⊥) → T.check (below T s l) ≡ pos s → Among ls l
 owned_label size T s l h ls f n o = label_among h ls l n (subst (Among (owned_slots h ls)) (xor_back (base_of T s) l) (f.only _ o))

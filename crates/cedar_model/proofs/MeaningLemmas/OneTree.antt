@@ -1,4 +1,4 @@
--- What a node's number and labels are is read from its slots, so a table stands for one tree only.
+-- What a node's number and labels are is read from its slots, so a table represents one tree only.
 use Rattle.std.proofs.Common.{◌≡◌, ℕ, ◌<◌, List, [], ◌∷◌, length, sym, ◌∙◌, ap, refl, subst, inl, inr, arith, Option, Some, None, cond, Bool, true, false}
 use Rattle.std.specs.Prelude.{ℤ, pos}
 use Rattle.std.proofs.lemmas.Bool.Decides.{Decides-int_eq}
@@ -134,6 +134,6 @@ module _ (size : ℕ) (T : Cells) (root : (c : ℕ) → T.check 0 ≡ pos c → 
   stands_unique f g a b =
       children_unique 0 f g (labels_own T 0 top (labels f) a.0.begins) (links_unique T 0 (T.sibling 0) (labels f) (labels g) a.0.begins.2 b.0.begins.2) a.1 b.1
 
--- a table stands for one tree only
+-- a table represents one tree only
 pub one_tree : (size : ℕ) (T : Cells) (f g : Forest) → HoldsTree size T f → HoldsTree size T g → f ≡ g
 one_tree size T f g a b = stands_unique size T a.root f g a.stands b.stands

@@ -1,4 +1,4 @@
--- The tree that is read from a well-formed table's slots is the one that the table stands for.
+-- The tree that is read from a well-formed table's slots is the one that the table represents.
 use Rattle.std.proofs.Common.{◌≡◌, ℕ, zero, suc, ◌+◌, ◌<◌, ◌≤◌, List, [], ◌∷◌, length, sym, ◌∙◌, ap, refl, subst, inl, inr, arith, None, cond, true, false, eqb}
 use Rattle.std.specs.Prelude.{pos, nat_eq, ◌||◌}
 use Rattle.std.specs.List.{IsDistinct, list_any, AllByRecursion}
@@ -141,7 +141,7 @@ module _ (size : ℕ) (T : Cells) (root : (c : ℕ) → T.check 0 ≡ pos c → 
       ap (forest_by (λ l. tree_from size T (below T 0 l))) (chain_is 256 T 0 _ (labels f) links (chain_short T 0 _ (labels f) links))
       ∙ forest_read f size 0 deep mine st.1
 
--- a table stands for the tree that is read from it
+-- a table represents the tree that is read from it
 pub tree_is : (size : ℕ) (T : Cells) (f : Forest) → ((q c : ℕ) → T.check q ≡ pos c → q < size) → HoldsTree size T f → tree_read size T ≡ record { number = None; children = f }
 unfolding tree_read
 tree_is size T f active w = ap (λ g. record { number = None; children = g }) (children_read size T w.root active f w.stands)

@@ -1,4 +1,4 @@
--- Where each number of one tree stands as it did, as many slots are held.
+-- Where each number of one tree is kept as it was, as many slots are held.
 use Rattle.std.proofs.Common.{◌≡◌, ℕ, ◌+◌, ◌<◌, List, [], ◌∷◌, ◌++◌, length, sym, ◌∙◌, ap, refl, subst, inl, inr, arith, Bool, true, false, cond, Option, Some, None, ℤ}
 use Rattle.std.specs.List.{count_by, range_with_len}
 use Rattle.cedar_tree.specs.Tree.{Forest, none, child, Tree}

@@ -1,4 +1,4 @@
--- A table whose slots stand for a tree is well-formed with that tree.
+-- A table whose slots represent a tree is well-formed with that tree.
 use Rattle.std.proofs.Common.{◌≡◌, ℕ, ◌<◌, length, refl, ap, sym, ◌∙◌, subst, inl, inr, None, cond, true, false, arith, ℤ}
 use Rattle.std.specs.Prelude.{pos, negsuc, nat_lt}
 use Rattle.std.proofs.lemmas.Bool.{cases_lt}
@@ -32,12 +32,12 @@ in_use T q c e = elim (cases_lt q (size_of T)) [
 pub tree_of_is : (T : Fields) (f : Forest) → HoldsTree (size_of T) (cells_in T) f → tree_of T ≡ record { number = None; children = f }
 tree_of_is T f w = tree_is (size_of T) (cells_in T) f (in_use T) w
 
--- the root of a well-formed table stands for its tree
+-- the root of a well-formed table represents its tree
 pub root_place : (slots : ℕ) (T : Fields) → IsWellFormed slots T → Stands (size_of T) (cells_in T) 0 (tree_of T)
 unfolding tree_read
 root_place slots T w = root_stands (size_of T) (cells_in T) (tree_of T).children w.stands.stands
 
--- a table whose only slot in use is the root's stands for the empty tree
+-- a table whose only held slot is the root's represents the empty tree
 pub new_stands : (size : ℕ) (T : Cells) → T.stored 0 ≡ AtBase 0 → T.child 0 ≡ 0 → T.sibling 0 ≡ 0 → ((q c : ℕ) → T.check q ≡ pos c → ⊥) → HoldsTree size T none
 new_stands size T b c s free = record {
   stands = (record { based = b; begins = (refl, c, s); only = λ q o. free q 0 o }, tt);
@@ -60,7 +60,7 @@ is_well_formed slots T f table root holds sound values ascending entries =
       entries = entries ∙ sym (ap (λ (t : Tree). length (walk t)) tree);
     }
 
--- in a new table only the root's slot is in use
+-- in a new table only the root's slot is held
 pub new_holds : (T : Fields) (trials : ℤ) → IsNewPlaces T.places trials → (cells_in T).check 0 ≡ negsuc 0 → (cells_in T).stored 0 ≡ AtBase 0 → HoldsTree (size_of T) (cells_in T) none
 new_holds T trials made root_check root_base =
     let blank : info_at T.places.slots.infos 0 ≡ blank_info = infos_blank T.places.slots.infos 256 made.infos 0 in

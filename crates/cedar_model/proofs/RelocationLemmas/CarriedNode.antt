@@ -75,6 +75,6 @@ lower_there size T T' k s (child l n f rest) mine g =
       lower_there size T T' k s rest (λ x a. mine x (inr a)) g.2,
     )
 
--- so the same tree stands in both
+-- so the same tree is in both
 pub stands_there : (size : ℕ) (T T' : Cells) → SameNodes size T T' → (f : Forest) → RootStands size T f → RootStands size T' f
 stands_there size T T' k f st = (k.root (labels f) st.0, lower_there size T T' k 0 f (labels_own T 0 top (labels f) st.0.begins) st.1)

@@ -20,7 +20,7 @@ children_kept size size' T T' r k s (child l n f rest) mine g =
       children_kept size size' T T' r k s rest (λ x a. mine x (inr a)) g.2,
     )
 
--- the same tree stands in both tables
+-- the same tree is in both tables
 pub stands_kept : (size size' : ℕ) (T T' : Cells) (r : ℕ → ℕ) → KeepsNodes size size' T T' r → (f : Forest) → RootStands size T f → RootStands size' T' f
 stands_kept size size' T T' r k f st = (
   k.root (labels f) st.0,
@@ -35,7 +35,7 @@ module _ (size size' : ℕ) (T T' : Cells) (r : ℕ → ℕ) (k : Renamed size s
       let at : slot_at T' (l ∷ w) ≡ r (slot_at T (l ∷ w)) = ap (λ s. below T' s l) up.1 ∙ sym (k.keeps.steps (slot_at T w) l h.1) in
       ((h.0, ap T'.check at ∙ k.check _ _ h.1 ∙ ap pos (sym up.1), up.0), at)
 
-  -- the slots stand for the same tree
+  -- the slots represent the same tree
   pub holds_renamed : (f : Forest) → HoldsTree size T f → HoldsTree size' T' f
   holds_renamed f w = record {
     stands = stands_kept size size' T T' r k.keeps f w.stands;

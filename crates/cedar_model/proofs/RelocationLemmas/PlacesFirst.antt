@@ -14,7 +14,7 @@ use Rattle.cedar_model.proofs.MeaningLemmas.Paths.{owner_held}
 use Rattle.cedar_model.proofs.RelocationLemmas.CarriedTree.{holds_renamed, path_kept, same_renamed}
 use Rattle.cedar_model.proofs.RelocationLemmas.Movable.{movable, stays_free, vacated}
 
--- a label of a list stands at some place in it
+-- a label of a list is at some place in it
 among_index : (ls : List ℕ) (l : ℕ) → Among ls l → (i : ℕ) × (i < length ls) × (get_or ls i 0 ≡ l)
 among_index [] l a = absurd a
 among_index (x ∷ ls) l (inl e) = (0, omega arith, e)

@@ -30,12 +30,12 @@ with_old o l (m ∷ ms) x a = elim (cases_Bool (goes_before o l m)) [
 
 -- ---- a walk over the labels that puts the new one in
 
--- what a walk that has the labels ms before it is to write, the new label with them unless it stands already
+-- what a walk that has the labels ms before it is to write, the new label with them unless it is there already
 abbrev pub to_come : Bool → Bool → ℕ → List ℕ → List ℕ
 to_come o true l ms = ms
 to_come o false l ms = with_label o l ms
 
--- the walk has written `items`, and stands before label number i
+-- the walk has written `items`, and comes to label number i
 pub record Writing (o : Bool) (l : ℕ) (labels items : List ℕ) (i : ℕ) (placed : Bool) : Type 0 where
   pub listed : with_label o l labels ≡ items ++ to_come o placed l (drop i labels)
   pub few : length items ≤ i + cond placed 1 0
@@ -85,7 +85,7 @@ put_later o l labels items more i placed now t h before test other is placed_now
       few = subst (λ p. length more ≤ i + cond p 1 0) (sym placed_now) (subst (λ v. length v ≤ i + cond placed 1 0) (sym is) w.few);
     }
 
--- the new label stands already
+-- the new label is there already
 pub put_before : (o : Bool) (l : ℕ) (labels items more : List ℕ) (i : ℕ) (placed now : Bool) → i < length labels → placed ≡ true → more ≡ items → now ≡ placed → Writing o l labels items i placed → BeforeLabel o l labels more i now
 put_before o l labels items more i placed now h before is placed_now w =
     let m : ℕ = get_or labels i 0 in

@@ -79,7 +79,7 @@ added_outside size ordered T T' l base added x low (inr held) = by_way added
     by_way (inl k) = by_touch (k.0.low refl) k.0.small k.0.touches
     by_way (inr k) = by_touch (k.1.same_place ∙ base) k.1.small k.1.touches
 
--- a label added keeps each number where it stands
+-- a label added keeps each number where it is
 added_marks : (size : ℕ) (ordered : Bool) (T T' : Cells) (a l : ℕ) (f : Forest) (u : List ℕ) → HoldsTree size T f → IsAt T u a → AddsLabel size ordered T T' a l → KeepsMarks T T'
 added_marks size ordered T T' a l f u h at added = by_way added
   where

@@ -215,7 +215,7 @@ module _ (slots : ℕ) (before mid : Fields) (key : List ℕ) (a : ℕ) (well : 
   pub number_before : (n : Option ℤ) → ((f : Forest) (w : List ℕ) → HoldsTree (size_of mid) (cells_in mid) f → IsAt (cells_in mid) w a → n ≡ (node_at (root_of f) w).number) → n ≡ number_at (tree_of before) key
   number_before n tells = tells k.forest key k.holds k.at ∙ sym number_is
 
-  -- where the number of the key stands
+  -- where the number of the key is kept
   stands_at : is_some (number_at (tree_of before) key) ≡ true → ((cells_in mid).check (below (cells_in mid) a 0) ≡ pos a) ⊎ ((v : ℤ) × ((cells_in mid).stored a ≡ OwnNumber v))
   stands_at h = number_stands (size_of mid) (cells_in mid) k.forest key a k.holds k.at (sym (ap is_some number_is) ∙ h)
 

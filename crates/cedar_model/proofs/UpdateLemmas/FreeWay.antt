@@ -1,4 +1,4 @@
--- A key along whose fronts no number stands in the way of a label.
+-- A key along whose fronts no number is in the way of a label.
 use Rattle.std.proofs.Common.{suc, drop, get_or, drop-cons, ◌≡◌, ℕ, ◌<◌, ◌≤◌, ◌+◌, List, ◌∷◌, length, sym, ◌∙◌, ap, subst, arith, Some, true}
 use Rattle.std.specs.Prelude.{ℤ, pos, is_some}
 use Rattle.std.proofs.lemmas.List.{drop_all}

@@ -22,14 +22,14 @@ linked_some : (T : Cells) (s c : ℕ) (ls : List ℕ) (x : ℕ) → Links T s c 
 linked_some T s c [] x h i e = i
 linked_some T s c (m ∷ ms) x h i e = omega (arith, e, h.0, h.1)
 
--- what the test of a node below the root answers, and what that of the root
+-- what the test of a node below the root returns, and what that of the root
 pub not_at_root : (a : ℕ) (answer x : Bool) → (a ≡ 0 → ⊥) → answer ≡ x → answer ≡ cond (nat_eq a 0) false x
 not_at_root a answer x z e = elim (eqb_tells a 0) [ inl r ↦ absurd (z r.1) | inr r ↦ e ∙ sym (ap (λ b. cond b false x) r.0) ]
 
 pub at_root : (a : ℕ) (answer x : Bool) → a ≡ 0 → answer ≡ false → answer ≡ cond (nat_eq a 0) false x
 at_root a answer x z e = elim (eqb_tells a 0) [ inl r ↦ e ∙ sym (ap (λ b. cond b false x) r.0) | inr r ↦ absurd (r.1 z) ]
 
--- and what the answers tell
+-- and what the results say
 pub told_bare : (a : ℕ) (answer x : Bool) → answer ≡ cond (nat_eq a 0) false x → answer ≡ true → (a ≡ 0 → ⊥) × (x ≡ true)
 told_bare a answer x e y = elim (eqb_tells a 0) [
   | inl r ↦ let n : answer ≡ false = e ∙ ap (λ b. cond b false x) r.0 in absurd (false≢true (sym n ∙ y))

@@ -217,7 +217,7 @@ marks_cut slots before after key well well' tree keep w = (to, λ was. (marks_re
         let found = held_marked slots before well w held in
         (other, by_mark h other found.0 found.1)
 
--- but for the node of the erased key each number stands as it did
+-- but for the node of the erased key each number is kept as it was
 pub others_at : (T T' : Cells) (root : (c : ℕ) → T.check 0 ≡ pos c → ⊥) (key : List ℕ) (a : ℕ) → IsAt T key a → KeepsOtherMarks T T' a → (w : List ℕ) (m : Bool) → (w ≡ key → ⊥) → MarkedAt T w m → MarkedAt T' w m
 others_at T T' root key a at k w m other marked_w =
     k w marked_w.0 m marked_w.1 (λ z. other (follow_one w key (one_path T root (follow_on w []) (follow_on key []) marked_w.1.0 at.0 (marked_w.1.1 ∙ z ∙ sym at.1)))) marked_w.2

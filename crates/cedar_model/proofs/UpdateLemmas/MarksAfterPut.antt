@@ -1,4 +1,4 @@
--- Where numbers stand once one of them was put.
+-- Where numbers are kept once one of them was put.
 use Rattle.std.proofs.Common.{◌≡◌, ℕ, List, [], sym, ◌∙◌, ap, refl, subst, inl, inr, Bool, true, false, Option, Some, None}
 use Rattle.std.specs.Prelude.{bit_xor, cond, ℤ, pos}
 use Rattle.std.proofs.lemmas.Bool.{cases_eq}
@@ -65,7 +65,7 @@ kept_then_put T T₁ T₂ u a s m root at keep moves k = record {
       k.others w there.0 n there.1 apart there.2;
 }
 
--- where the number stands as it did before, all do
+-- where the number is kept as it was before, all are
 pub kept_if_same : (T T₁ T₂ : Cells) (a : ℕ) (m : Bool) → KeepsMarks T T₁ → PutsMark T₁ T₂ a m → ((n : Bool) → mark T₁ a ≡ Some n → n ≡ m) → KeepsMarks T T₂
 kept_if_same T T₁ T₂ a m keep k same w x n on e =
     let there = keep w x n on e in

@@ -1,4 +1,4 @@
--- Where numbers stand once an update has put one.
+-- Where numbers are kept once an update has put one.
 use Rattle.std.proofs.Common.{◌≡◌, ◌⊎◌, ℕ, ◌<◌, ◌+◌, List, [], ◌∷◌, ◌++◌, length, take, drop, get_or, sym, ◌∙◌, ap, refl, subst, inl, inr, arith, Bool, true, false, Some, None}
 use Rattle.std.specs.Prelude.{pos, is_some}
 use Rattle.std.proofs.lemmas.Bool.{cases_eq, true≢false}
@@ -51,7 +51,7 @@ slot_on size T (l ∷ w) q t on st there =
     slot_on size T w (l ∷ q) (subtree t.children l) (some, mine, on) (child_stands size T (slot_at T q) t.children l among st.lower) there.1
 
 module _ (slots : ℕ) (T : Fields) (well : IsWellFormed slots T) where
-  -- a held key's number stands somewhere
+  -- a held key's number is kept somewhere
   pub held_marked : (w : List ℕ) → is_some (number_at (tree_of T) w) ≡ true → (m : Bool) × MarkedAt (cells_in T) w m
   held_marked w held =
       let f : Forest = (tree_of T).children in
@@ -65,7 +65,7 @@ module _ (slots : ℕ) (T : Fields) (well : IsWellFormed slots T) where
             (false, (a, at, own_marked (cells_in T) a stored.0 (λ o. alone _ o) stored.1))
       ]
 
-  -- where nothing stands in a key's way, the number of each proper front of it has a slot
+  -- where nothing is in a key's way, the number of each proper front of it has a slot
   pub fronts_marked : (key : List ℕ) (n : ℕ) → n < length key → HasWay (cells_in T) 0 key → is_some (number_at (tree_of T) (take n key)) ≡ true → MarkedAt (cells_in T) (take n key) true
   fronts_marked key n less way held =
       let found = held_marked (take n key) held in
@@ -84,7 +84,7 @@ module _ (slots : ℕ) (T : Fields) (well : IsWellFormed slots T) where
 
 -- ---- a put along a key
 
--- in a sound tree each node stands for a key
+-- in a sound tree each node is on the path of a key
 sound_node : (t : Tree) (w : List ℕ) → IsSoundBelow t.children → 0 < length w → HasPath t w → is_bare (node_at t w) ≡ false
 sound_node t [] s some there = absurd (omega (arith, some))
 sound_node t (l ∷ []) s some there = bare-subtree t.children l s there.0
@@ -97,7 +97,7 @@ module _ (slots : ℕ) (before mid after : Fields) (key : List ℕ) (a : ℕ) (w
   no_slot : (x : ℕ) → (cells_in mid).check x ≡ pos a → base_of (cells_in mid) a ≡ 0 → ⊥
   no_slot x o z = leaf_alone (size_of mid) (cells_in mid) k.forest key a k.holds k.at (not_root slots before mid key a well is_key k) z x o
 
-  -- all numbers that were there stand as they did
+  -- all numbers that were there are kept as they were
   pub put_keeps : KeepsMarks (cells_in before) (cells_in after)
   put_keeps w s m on e =
       elim (cases_eq (base_of (cells_in mid) a) 0) [
@@ -150,7 +150,7 @@ module _ (slots : ℕ) (before mid after : Fields) (key : List ℕ) (a : ℕ) (w
     last = λ reduced alone. (in_own (layout ∙ reduced) (unlabelled alone)).here key k.at;
   }
 
--- ---- an update, which moves a number out of the way first where one stands there
+-- ---- an update, which moves a number out of the way first where one is there
 
 follow_back : (w q : List ℕ) → follow_on (follow_on w q) [] ≡ follow_on q w
 follow_back [] q = refl

@@ -1,4 +1,4 @@
--- A number that was moved out of the way and back: all numbers stand as they did.
+-- A number that was moved out of the way and back: all numbers are kept as they were.
 use Rattle.std.proofs.Common.{◌≡◌, ℕ, List, [], sym, ◌∙◌, ap, refl, subst, inl, inr, true, false, Some}
 use Rattle.std.specs.Prelude.{pos}
 use Rattle.std.proofs.lemmas.Bool.{cases_eq}

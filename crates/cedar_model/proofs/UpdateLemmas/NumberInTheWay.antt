@@ -26,7 +26,7 @@ use Rattle.cedar_model.proofs.EditLemmas.OwnNumber.{own_reduced, unbased_alone}
 use Rattle.cedar_model.proofs.EditLemmas.NumberMovesOut.{leaf_alone}
 use Rattle.cedar_model.proofs.UpdateLemmas.FreeWay.{next_byte, next_bytes, own_no_root}
 
--- where no number is kept in a base field, none stands in the way
+-- where no number is kept in a base field, none is in the way
 pub default_way : (T : Fields) → (T.layout ≡ reduced_layout → ⊥) → (s : ℕ) (key : List ℕ) → HasWay (cells_in T) s key
 default_way T other s [] = tt
 default_way T other s (l ∷ rest) = ((λ v e. other (own_reduced T.layout _ v e)), λ o. default_way T other (below (cells_in T) s l) rest)

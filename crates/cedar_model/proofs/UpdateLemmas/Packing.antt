@@ -24,7 +24,7 @@ use Rattle.cedar_model.proofs.UpdateLemmas.BlocksMade.{made_larger}
 
 -- ---- sums
 
-total_le : (f g : ℕ → ℕ) (a n : ℕ) → ((s : ℕ) → f s ≤ g s) → total f a n ≤ total g a n
+pub total_le : (f g : ℕ → ℕ) (a n : ℕ) → ((s : ℕ) → f s ≤ g s) → total f a n ≤ total g a n
 unfolding total
 total_le f g a zero le = omega arith
 total_le f g a (suc n) le = omega (arith, le a, total_le f g (a + 1) n le)

@@ -1,4 +1,4 @@
--- What the steps of an update answer.
+-- What the steps of an update return.
 use Rattle.std.proofs.Common.{◌≡◌, Result, Ok, Err, sym, subst}
 use Rattle.std.specs.Prelude.{IfErr, IsErrAnd, OnErr, OnOk}
 use Rattle.cedar_slots.specs.declared.shortage.Shortage.{Shortage}

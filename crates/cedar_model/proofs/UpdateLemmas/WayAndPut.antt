@@ -1,4 +1,4 @@
--- An update is a number moved out of the way, if one stands there, and then the put.
+-- An update is a number moved out of the way, if one is there, and then the put.
 use Rattle.std.proofs.Common.{◌≡◌, ◌⊎◌, ℕ, ◌<◌, ◌≤◌, ◌+◌, refl, subst, inl, inr, arith, Option, None, Some}
 use Rattle.std.specs.Prelude.{MatchOption}
 use Rattle.cedar_model.specs.Edit.Steps.{MakesBlocks}

@@ -1,5 +1,6 @@
 -- A table on the way of an update along a key, and one from which the way was taken back.
-use Rattle.std.specs.Prelude.{◌≡◌, ◌⊎◌, ℕ, ◌+◌, ◌<◌, ◌≤◌, true, false, ℤ, List, [], ◌∷◌, ◌++◌, length, is_some}
+use Rattle.std.specs.Prelude.{◌≡◌, ◌⊎◌, ℕ, ◌+◌, ◌<◌, ◌≤◌, true, false, ℤ, List, []}
+use Rattle.std.specs.Prelude.{◌∷◌, ◌++◌, length, is_some}
 use Rattle.cedar_tree.specs.Tree.{Forest, IsAscending, IsPath, has_label, number_at, put}
 use Rattle.cedar_slots.specs.declared.shortage.Shortage.{Shortage}
 use Rattle.cedar_model.specs.declared.layout.Stored.TheVariants.{AtBase}

@@ -1,5 +1,6 @@
 -- An edit of one node of a tree, and of its own slots in a table.
-use Rattle.std.specs.Prelude.{◌≡◌, ℕ, Bool, true, ℤ, ◌<◌, List, [], ◌∷◌, pos, Option, None, ◌⊎◌, cond, nat_eq, nat_lt}
+use Rattle.std.specs.Prelude.{◌≡◌, ℕ, Bool, true, ℤ, ◌<◌, List, [], ◌∷◌, pos, Option}
+use Rattle.std.specs.Prelude.{None, ◌⊎◌, cond, nat_eq, nat_lt}
 use Rattle.cedar_tree.specs.Tree.{Forest, IsAscending, none, child}
 use Rattle.cedar_model.specs.declared.layout.Stored.TheVariants.{AtBase, OwnNumber}
 use Rattle.cedar_model.specs.Table.Cells.{Cells, Held}
@@ -83,9 +84,9 @@ pub record DropsNumber (size : ℕ) (T T' : Cells) (a : ℕ) : Type 0 where
   pub next : (q : ℕ) → T.check q ≡ pos a → (q ≡ below T a 0 → ⊥) → T'.sibling q ≡ T.sibling q
 
 -- a list of labels without l
-abbrev pub removed : ℕ → List ℕ → List ℕ
-removed l [] = []
-removed l (m ∷ ms) = cond (nat_eq m l) ms (m ∷ removed l ms)
+abbrev pub without_label : ℕ → List ℕ → List ℕ
+without_label l [] = []
+without_label l (m ∷ ms) = cond (nat_eq m l) ms (m ∷ without_label l ms)
 
 -- label l of slot a, a leaf without number, is given up: what led to l leads to what came after it
 pub record Removes (size : ℕ) (T T' : Cells) (a l : ℕ) : Type 0 where
@@ -100,9 +101,9 @@ pub record Removes (size : ℕ) (T T' : Cells) (a l : ℕ) : Type 0 where
   pub number : T.check (below T a 0) ≡ pos a → (T'.base (below T a 0) ≡ T.base (below T a 0)) × (T'.child (below T a 0) ≡ T.child (below T a 0))
 
 -- a list of ascending labels with l
-abbrev pub inserted : ℕ → List ℕ → List ℕ
-inserted l [] = l ∷ []
-inserted l (m ∷ ms) = cond (nat_lt l m) (l ∷ m ∷ ms) (m ∷ inserted l ms)
+abbrev pub with_ascending_label : ℕ → List ℕ → List ℕ
+with_ascending_label l [] = l ∷ []
+with_ascending_label l (m ∷ ms) = cond (nat_lt l m) (l ∷ m ∷ ms) (m ∷ with_ascending_label l ms)
 
 -- the labels ascend from above b
 abbrev pub Above : ℕ → List ℕ → Type 0
@@ -147,7 +148,7 @@ pub record CanAdd (size : ℕ) (T : Cells) (a l : ℕ) : Type 0 where
   pub root : (c : ℕ) → T.check 0 ≡ pos c → ⊥
   pub not_own : T.check a ≡ pos a → ⊥
 
--- slot x with label l stands in its chain behind slot b
+-- slot x with label l is in its chain behind slot b
 pub record LinkedBehind (T T' : Cells) (b x l : ℕ) : Type 0 where
   pub stored : (q : ℕ) → T'.stored q ≡ T.stored q
   pub base : (q : ℕ) → T'.base q ≡ T.base q
@@ -220,7 +221,7 @@ pub record IsLabelOf (T : Cells) (a m b : ℕ) : Type 0 where
   pub owner : T.check b ≡ pos a
   pub is : b ≡ below T a m
 
--- slot b stands in a's chain before a label l that is put behind it: the chain begins there, or it is a smaller label's
+-- slot b is in a's chain before a label l that is put behind it: the chain begins there, or it is a smaller label's
 -- in an ordered table
 abbrev pub IsBehind : Cells → Bool → ℕ → ℕ → ℕ → Type 0
 IsBehind T ordered a l b = IsLead T a b ⊎ ((ordered ≡ true) × (m : ℕ) × (m < l) × IsLabelOf T a m b)
@@ -246,11 +247,11 @@ abbrev pub AddsLabel : ℕ → Bool → Cells → Cells → ℕ → ℕ → Type
 AddsLabel size ordered T T' a l =
     (AddsFirst size T T' a l × (ordered ≡ true → FirstIs T a (IsPlaceFor l))) ⊎ ((ordered ≡ true) × AddsBehind size T T' a l)
 
--- slot b stands in a's chain: before all labels, or it is a label's
+-- slot b is in a's chain: before all labels, or it is a label's
 abbrev pub IsLink : Cells → ℕ → ℕ → Type 0
 IsLink T a b = IsLead T a b ⊎ ((m : ℕ) × IsLabelOf T a m b)
 
--- slot b stands in a's chain right before label l
+-- slot b is in a's chain right before label l
 pub record LeadsTo (size : ℕ) (T : Cells) (a l b : ℕ) : Type 0 where
   pub inside : b < size
   pub link : IsLink T a b

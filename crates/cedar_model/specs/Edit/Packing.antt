@@ -13,7 +13,7 @@ use Rattle.cedar_model.specs.Table.TableFields.{Fields, size_of}
 abbrev pub count_held : Fields → ℕ
 count_held T = count_by (is_held (cells_in T)) (range_with_len 0 (size_of T))
 
--- where the root has so many children, which stand in block 0 beside it, at most 255 slots outside block 0 are free, and `spare` others
+-- where the root has so many children, which are in block 0 beside it, at most 255 slots outside block 0 are free, and `spare` others
 abbrev pub Packs : ℕ → ℕ → Fields → Type 0
 Packs first spare T = size_of T + first ≤ count_held T + 510 + spare
 

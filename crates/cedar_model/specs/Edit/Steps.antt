@@ -1,5 +1,6 @@
 -- What the steps of an update and of an erasure change.
-use Rattle.std.specs.Prelude.{◌≡◌, ℕ, zero, suc, ◌+◌, ◌*◌, ◌<◌, ◌≤◌, ◌==◌, cond, if◌then◌else◌, Bool, true, List, [], ◌∷◌, ◌++◌, length, None, pos}
+use Rattle.std.specs.Prelude.{◌≡◌, ℕ, zero, suc, ◌+◌, ◌*◌, ◌<◌, ◌≤◌, ◌==◌, cond, if◌then◌else◌}
+use Rattle.std.specs.Prelude.{Bool, true, List, [], ◌∷◌, ◌++◌, length, None, pos}
 use Rattle.cedar_tree.specs.Tree.{Forest, IsAscending, Tree, cut, has_label, is_bare}
 use Rattle.cedar_tree.specs.Queries.{node_at}
 use Rattle.cedar_tree.specs.Edits.{with_leaf}

@@ -1,5 +1,6 @@
 -- What one node's own slots look like.
-use Rattle.std.specs.Prelude.{◌≡◌, ℕ, ◌<◌, ◌≤◌, List, [], ◌∷◌, ℤ, pos, ◌⊎◌, bit_xor, Option, Some, None}
+use Rattle.std.specs.Prelude.{◌≡◌, ℕ, ◌<◌, ◌≤◌, List, [], ◌∷◌, ℤ, pos, ◌⊎◌}
+use Rattle.std.specs.Prelude.{bit_xor, Option, Some, None}
 use Rattle.cedar_model.specs.declared.layout.Stored.{Stored}
 use Rattle.cedar_model.specs.declared.layout.Stored.TheVariants.{AtBase, OwnNumber, Nothing}
 use Rattle.cedar_model.specs.Table.Cells.{Cells}
@@ -13,11 +14,11 @@ base_in Nothing = 0
 abbrev pub base_of : Cells → ℕ → ℕ
 base_of T s = base_in (T.stored s)
 
--- the slot that stands for label l below slot s; label 0 is the number's. It turns a slot into its label too.
+-- the slot that represents label l below slot s; label 0 is the number's. It turns a slot into its label too.
 abbrev pub below : Cells → ℕ → ℕ → ℕ
 below T s l = bit_xor (base_of T s) l
 
--- what stands before a node's labels: nothing, its number in a slot, its number in its own base field, or
+-- what comes before a node's labels: nothing, its number in a slot, its number in its own base field, or
 -- the root's own slot
 pub data Head : Type 0 where
   plain : Head

@@ -1,5 +1,6 @@
--- The keys whose numbers stand in slots of their own.
-use Rattle.std.specs.Prelude.{◌≡◌, ◌↔◌, ◌⊎◌, ℕ, ◌<◌, Bool, true, false, cond, List, length, take, Option, None, Some, is_some}
+-- The keys whose numbers are in slots of their own.
+use Rattle.std.specs.Prelude.{◌≡◌, ◌↔◌, ◌⊎◌, ℕ, ◌<◌, Bool, true, false, cond, List, length}
+use Rattle.std.specs.Prelude.{take, Option, None, Some, is_some}
 use Rattle.cedar_tree.specs.Tree.{Forest, none, child, has_label, number_at, Tree}
 use Rattle.cedar_tree.specs.Queries.{IsFront, node_at}
 use Rattle.cedar_model.specs.declared.layout.Stored.{Stored}
@@ -12,16 +13,16 @@ use Rattle.cedar_model.specs.Meaning.Reading.{has_number_slot}
 use Rattle.cedar_model.specs.Table.TableFields.{Fields}
 use Rattle.cedar_model.specs.Meaning.WellFormed.{cells_in, tree_of}
 
--- siblings below slot s with just those of their numbers that stand in slots of their own
+-- siblings below slot s with just those of their numbers that are in slots of their own
 abbrev pub marks_below : Cells → ℕ → Forest → Forest
 marks_below T s none = none
 marks_below T s (child l n f rest) = child l (cond (has_number_slot T (below T s l)) n None) (marks_below T (below T s l) f) (marks_below T s rest)
 
--- a table's tree with just the keys whose numbers stand in slots of their own, and all nodes
+-- a table's tree with just the keys whose numbers are in slots of their own, and all nodes
 abbrev pub marks : Fields → Tree
 marks T = record { number = None; children = marks_below (cells_in T) 0 (tree_of T).children }
 
--- how the number of a node stands that has one: true for a slot of its own, false for the node's own base field
+-- how a node keeps its number, if it has one: true in a slot of its own, false in the node's own base field
 abbrev pub own_mark : Stored → Option Bool
 own_mark (AtBase b) = None
 own_mark (OwnNumber v) = Some false
@@ -30,7 +31,7 @@ own_mark Nothing = None
 abbrev pub mark : Cells → ℕ → Option Bool
 mark T s = cond (has_number_slot T s) (Some true) (own_mark (T.stored s))
 
--- each number stands as it did, at the same path
+-- each number is kept as it was, at the same path
 abbrev pub KeepsMarks : Cells → Cells → Type 0
 KeepsMarks T T' = (w : List ℕ) (s : ℕ) (m : Bool) → IsAt T w s → mark T s ≡ Some m → (s' : ℕ) × IsAt T' w s' × (mark T' s' ≡ Some m)
 
@@ -38,11 +39,11 @@ KeepsMarks T T' = (w : List ℕ) (s : ℕ) (m : Bool) → IsAt T w s → mark T 
 abbrev pub KeepsOtherMarks : Cells → Cells → ℕ → Type 0
 KeepsOtherMarks T T' a = (w : List ℕ) (s : ℕ) (m : Bool) → IsAt T w s → (s ≡ a → ⊥) → mark T s ≡ Some m → (s' : ℕ) × IsAt T' w s' × (mark T' s' ≡ Some m)
 
--- at the path w stands a number, and m says how
+-- at the path w is a number, and m says how it is kept
 abbrev pub MarkedAt : Cells → List ℕ → Bool → Type 0
 MarkedAt T w m = (s : ℕ) × IsAt T w s × (mark T s ≡ Some m)
 
--- the node that was at slot a has a number now, which stands as m says, and each other number stands as it did
+-- the node that was at slot a has a number now, which is kept as m says, and each other number is kept as it was
 pub record PutsMark (T T' : Cells) (a : ℕ) (m : Bool) : Type 0 where
   pub here : (w : List ℕ) → IsAt T w a → MarkedAt T' w m
   pub others : KeepsOtherMarks T T' a
@@ -63,7 +64,7 @@ pub record PutsMarks (before after : Fields) (key : List ℕ) : Type 0 where
   pub over : is_some (number_at (tree_of before) key) ≡ true → KeepsMarks (cells_in before) (cells_in after)
   -- the number of each proper front of the key that is held has a slot of its own
   pub fronts : (w : List ℕ) → IsProperFront w key → is_some (number_at (tree_of before) w) ≡ true → MarkedAt (cells_in after) w true
-  -- each other number stands as it did
+  -- each other number is kept as it was
   pub others : (w : List ℕ) (m : Bool) → (IsProperFront w key → ⊥) → MarkedAt (cells_in before) w m → MarkedAt (cells_in after) w m
   pub new : NewMark before after key
 

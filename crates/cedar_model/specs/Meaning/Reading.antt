@@ -1,5 +1,6 @@
 -- The tree that is read from a table's slots.
-use Rattle.std.specs.Prelude.{ℕ, zero, suc, ℤ, pos, List, [], ◌∷◌, Bool, Option, Some, None, nat_eq, cond}
+use Rattle.std.specs.Prelude.{ℕ, zero, suc, ℤ, pos, List, [], ◌∷◌, Bool, Option}
+use Rattle.std.specs.Prelude.{Some, None, nat_eq, cond}
 use Rattle.std.specs.Ordering.{int_eq}
 use Rattle.cedar_tree.specs.Tree.{Forest, none, child, Tree, empty_tree}
 use Rattle.cedar_model.specs.declared.layout.Stored.{Stored}

@@ -1,4 +1,4 @@
--- What the slots of a table stand for.
+-- What the slots of a table represent.
 use Rattle.std.specs.Prelude.{◌≡◌, ℕ, pos, List, [], ◌∷◌}
 use Rattle.cedar_tree.specs.Tree.{Forest, none, child, Tree}
 use Rattle.cedar_model.specs.Table.Cells.{Cells}
@@ -9,19 +9,19 @@ abbrev pub labels : Forest → List ℕ
 labels none = []
 labels (child l n f rest) = l ∷ labels rest
 
--- each child that f lists stands below slot s, with all that is below it
+-- each child that f lists is below slot s, with all that is below it
 abbrev pub ChildrenStand : ℕ → Cells → ℕ → Forest → Type 0
 ChildrenStand size T s none = Unit {0}
 ChildrenStand size T s (child l n f rest) = Node size T (below T s l) n (labels f) × ChildrenStand size T (below T s l) f × ChildrenStand size T s rest
 
--- slot s stands for the tree t
+-- slot s represents the tree t
 pub record Stands (size : ℕ) (T : Cells) (s : ℕ) (t : Tree) : Type 0 where
   pub head : Head
   pub number : number_of head ≡ t.number
   pub family : Family size T s head (labels t.children)
   pub lower : ChildrenStand size T s t.children
 
--- the root's slot stands for the tree with these children and no number
+-- the root's slot represents the tree with these children and no number
 abbrev pub RootStands : ℕ → Cells → Forest → Type 0
 RootStands size T f = Family size T 0 top (labels f) × ChildrenStand size T 0 f
 
@@ -40,8 +40,8 @@ abbrev pub Leads : Cells → List ℕ → Type 0
 Leads T [] = Unit {0}
 Leads T (l ∷ p) = (T.check (slot_at T (l ∷ p)) ≡ pos (slot_at T p)) × Leads T p
 
--- the slots stand for the tree with the children f: the root's slot does and has no owner, and the owner of each slot
--- that has one stands at the end of a path
+-- the slots represent the tree with the children f: the root's slot does and has no owner, and the owner of each slot
+-- that has one is at the end of a path
 pub record HoldsTree (size : ℕ) (T : Cells) (f : Forest) : Type 0 where
   pub stands : RootStands size T f
   pub root : (c : ℕ) → T.check 0 ≡ pos c → ⊥

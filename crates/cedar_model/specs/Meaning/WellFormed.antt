@@ -1,5 +1,6 @@
--- What holds of a table as a whole: its slots, blocks and lists, and the tree that it stands for.
-use Rattle.std.specs.Prelude.{◌≡◌, ℕ, Bool, true, ◌&&◌, int_le, ℤ, pos, negsuc, List, [], ◌∷◌, ◌++◌, length, cond}
+-- What holds of a table as a whole: its slots, blocks and lists, and the tree that it represents.
+use Rattle.std.specs.Prelude.{◌≡◌, ℕ, Bool, true, ◌&&◌, int_le, ℤ, pos, negsuc, List}
+use Rattle.std.specs.Prelude.{[], ◌∷◌, ◌++◌, length, cond}
 use Rattle.cedar_tree.specs.Tree.{Forest, none, child, Tree, IsSoundBelow, IsAscending, AllNumbers}
 use Rattle.cedar_tree.specs.Queries.{walk}
 use Rattle.cedar_model.specs.Table.Cells.{Cells, cells_of}
@@ -14,7 +15,7 @@ use Rattle.cedar_model.specs.Table.TableFields.{Fields, size_of}
 abbrev pub cells_in : Fields → Cells
 cells_in T = cells_of T.layout T.places
 
--- the tree that a table stands for
+-- the tree that a table represents
 abbrev pub tree_of : Fields → Tree
 tree_of T = tree_read (size_of T) (cells_in T)
 
@@ -26,8 +27,8 @@ TableHolds T f = HoldsTree (size_of T) (cells_in T) f
 abbrev pub is_value : ℤ → Bool
 is_value v = int_le (pos 0) v && int_le v (pos 2147483645)
 
--- a table that may have `slots` slots: its free slots stand in rings, its blocks in lists, the rest is blank, the
--- held slots stand for its tree, and that has a number or a child at each node, numbers in range, as many of them as
+-- a table that may have `slots` slots: its free slots are in rings, its blocks in lists, the rest is blank, the
+-- held slots represent its tree, and that has a number or a child at each node, numbers in range, as many of them as
 -- `entries` says, and labels that ascend if the table is ordered
 pub record IsWellFormed (slots : ℕ) (T : Fields) : Type 0 where
   pub table : IsTable slots T.places
@@ -42,7 +43,7 @@ pub record IsWellFormed (slots : ℕ) (T : Fields) : Type 0 where
 abbrev pub number_slots : Cells → ℕ → List ℕ
 number_slots T s = cond (has_number_slot T s) (below T s 0 ∷ []) []
 
--- the slots that stand for some children of slot s and for all that is below them, in the order of the walk
+-- the slots that represent some children of slot s and all that is below them, in the order of the walk
 abbrev pub slots_below : Cells → ℕ → Forest → List ℕ
 slots_below T s none = []
 slots_below T s (child l n f rest) =

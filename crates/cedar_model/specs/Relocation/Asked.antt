@@ -24,7 +24,7 @@ pub record MovesSlot (slots : ℕ) (T : Fields) (from to owner label : ℕ) : Ty
   pub node : (label ≡ 0 → ⊥) → IsNode (size_of T) (cells_in T) from
   pub alone : label ≡ 0 → OwnsNothing (cells_in T) from
 
--- the node stands in the tree below the root, and its slots outside block 0
+-- the node is in the tree below the root, and its slots outside block 0
 pub record StandsBelow (slots : ℕ) (T : Fields) (node : ℕ) : Type 0 where
   pub sound : IsTable slots T.places
   pub node_in : node < size_of T

@@ -1,5 +1,6 @@
 -- One table as another with its slots renamed.
-use Rattle.std.specs.Prelude.{◌≡◌, ℕ, ◌<◌, ◌≤◌, List, length, take, slice_index_or, pos, bit_xor, cond, nat_eq}
+use Rattle.std.specs.Prelude.{◌≡◌, ℕ, ◌<◌, ◌≤◌, List, length, take, slice_index_or}
+use Rattle.std.specs.Prelude.{pos, bit_xor, cond, nat_eq}
 use Rattle.cedar_model.specs.declared.layout.Stored.TheVariants.{AtBase}
 use Rattle.cedar_model.specs.Table.Cells.{Cells, Held, IsPlace}
 use Rattle.cedar_model.specs.Meaning.Family.{Among, base_of, below, Family, Head, owned_slots, top}
@@ -135,7 +136,7 @@ pub record Relocated (size : ℕ) (T T' : Cells) (p b : ℕ) : Type 0 where
   pub set : T'.stored p ≡ AtBase b
   pub stored : (q : ℕ) → Held T q → (q ≡ p → ⊥) → T'.stored (new_slot q) ≡ T.stored q
 
--- T', which may have more slots in use, holds the nodes of T, with the slots of p, which stood under the labels ls, at
+-- T', which may have more slots in use, holds the nodes of T, with the slots of p, which were under the labels ls, at
 -- base b: their old places are free, and so are those for the other labels of ws; each other node's base is as it was
 pub record SetMoved (size size' : ℕ) (T T' : Cells) (p b : ℕ) (ls ws : List ℕ) : Type 0 where
   pub new_slot : ℕ → ℕ

@@ -1,5 +1,6 @@
 -- The slots of a table as functions of the slot's number, and what the tree sees of a change.
-use Rattle.std.specs.Prelude.{All, bit_xor, Bool, ◌≡◌, ◌==◌, ◌||◌, ◌<◌, ◌≤◌, ◌*◌, ◌⊎◌, ℕ, ℤ, cond, int_lt, List, nat_lt, negsuc, not, pos}
+use Rattle.std.specs.Prelude.{All, bit_xor, Bool, ◌≡◌, ◌==◌, ◌||◌, ◌<◌, ◌≤◌, ◌*◌, ◌⊎◌, ℕ, ℤ, cond}
+use Rattle.std.specs.Prelude.{int_lt, List, nat_lt, negsuc, not, pos}
 use Rattle.cedar_model.specs.declared.layout.Stored.{Stored}
 use Rattle.cedar_model.specs.Table.Layouts.{LayoutKind, reading}
 use Rattle.cedar_slots.specs.Places.{PlaceFields}

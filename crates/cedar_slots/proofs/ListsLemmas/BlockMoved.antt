@@ -124,7 +124,7 @@ module _ (old new : BlockFields) (e : ℕ) (lists : BlockType → List ℕ) (hel
   kind_kept : (b : ℕ) → (b ≡ e → ⊥) → kind_of new.max_trial (counts_at new.records b) ≡ kind_of old.max_trial (counts_at old.records b)
   kind_kept b h = ap (λ z. kind_of z (counts_at new.records b)) max_trial ∙ ap (kind_of old.max_trial) (others b h)
 
-  -- the block is in the right list as it stands
+  -- the block is in the right list as it is
   pub BlockLists-stay : ListRings new lists → ((e ≡ 0) ⊎ (kind_of new.max_trial (counts_at new.records e) ≡ kind_of old.max_trial (counts_at old.records e))) → BlockLists new lists
   BlockLists-stay rings same = record {
     rings = rings;

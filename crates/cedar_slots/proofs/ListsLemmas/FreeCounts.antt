@@ -63,7 +63,7 @@ total_one x a (suc n) low high = elim (cases_eq a x) [
   | inr later ↦ omega (arith, is_one x a later, total_one x (a + 1) n (omega arith) (omega arith))
 ]
 
--- a list whose members lie among the n numbers from a on is as long as they stand in it
+-- a list whose members lie among the n numbers from a on is as long as they are in it
 pub total-occurs : (xs : List ℕ) (a n : ℕ) → ((s : ℕ) → 0 < occurs s xs → (a ≤ s) × (s < a + n)) → total (λ s. occurs s xs) a n ≡ length xs
 unfolding total
 total-occurs [] a n inside = total_none (λ s. 0) a n (λ s low high. refl)

@@ -130,7 +130,7 @@ module _ (old new : BlockFields) (k : BlockType) (e : ℕ) (lists : BlockType �
     apart : Apart (ring_of k before ++ e ∷ after)
     apart = subst Apart ring_is (ring_apart lists rings.apart k)
 
-    -- the neighbours of e stand in its ring
+    -- the neighbours of e are in its ring
     pub next_in_ring : 0 < occurs near.next (ring_of k (lists k))
     next_in_ring = rw ring_is (elim (cases_eq (length (after ++ ring_of k before)) 0) [
       | inl none ↦ rw (near.alone none).1 (omega (arith, occurs-append e (ring_of k before) (e ∷ after), occurs_same e after))
@@ -197,7 +197,7 @@ empty_list lists h k first = go k (lists k) (ring_apart lists h Full 0) (zero_no
     go k [] a p q = refl
     go k (x ∷ xs) a p q = absurd (omega (arith, p, subst (λ n. occurs n (x ∷ xs) ≡ 1 + occurs n xs) q (occurs_same x xs)))
 
--- what stands before the place at which a block comes to a list, and what stands after it
+-- what comes before the place at which a block comes to a list, and what comes after it
 pub record Gap (Link : ℕ → ℕ → Type 0) (k : BlockType) (xs : List ℕ) (last : ℕ) : Type 0 where
   pub into : Link last (first_of xs)
   pub last_in : 0 < occurs last (ring_of k xs)
@@ -241,7 +241,7 @@ module _ (old new : BlockFields) (k : BlockType) (e : ℕ) (lists : BlockType �
       alone Closed p step = step.made
       alone Full p step = absurd (p refl)
 
-  -- the block now stands before the head h of the list, and after last
+  -- the block now comes before the head h of the list, and after last
   pub pushed_linked : (last : ℕ) → Gap (BlockLink old.records) k (lists k) last → ((k ≡ Full) ⊎ (0 < length (lists k))) → e < length old.records → last < length old.records → first_of (lists k) < length old.records → new.records ≡ linked_blocks (linked_blocks old.records last e) e (first_of (lists k)) → ListRings new (lists_with lists k (e ∷ lists k))
   pushed_linked last gap some e_in last_in head_in records =
       let rs = old.records in

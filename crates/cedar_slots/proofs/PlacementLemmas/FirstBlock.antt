@@ -1,4 +1,4 @@
--- A new table: one block, in which the root alone is in use.
+-- A new table: one block, in which the root alone is held.
 use Rattle.std.proofs.Common.{◌≡◌, ℕ, ◌+◌, ◌/◌, ◌<◌, ◌≤◌, ◌≤ℤ◌, List, [], ◌∷◌, length, set, replicate, not, cond, eqb, true, int_lt, refl, sym, ap, subst, inl, inr, ◌∙◌, arith, ℤ, pos}
 use Rattle.std.proofs.lemmas.Int.{ints}
 use Rattle.std.proofs.lemmas.Bool.{cases_eq, cases_lt, ne_eqb, eq-eqb, and_from, and_left, and_right, cond-true, cond-false}

@@ -188,7 +188,7 @@ next_start table sound b slot next b_in is next_eq =
     let at : next ≡ ring.next = next_eq ∙ next_is nodes b slot ring.last ring.next near_slot in
     rw at (record { free = near_slot.next_free; here = near_slot.next_here })
 
--- each label's slot is free if the first one stands on a free slot, and those of the other labels are free
+-- each label's slot is free if the first one is on a free slot, and those of the other labels are free
 pub first_fits : (nodes : List NodeRecord) (slot first : ℕ) (labels others : List ℕ) → first ≡ get_or labels 0 0 → others ≡ drop 1 labels → is_free nodes slot ≡ true → AllFree nodes (bit_xor slot first) others → AllFree nodes (bit_xor slot (get_or labels 0 0)) labels
 first_fits nodes slot first [] others is rest free fits k d h = absurd (omega arith)
 first_fits nodes slot first (x ∷ xs) others is rest free fits zero d h =
@@ -274,7 +274,7 @@ IsOpen-kept old new e active max_trial others b other is = record {
   open_kind = ap (λ z. kind_of z (counts_at new.records b)) max_trial ∙ ap (kind_of old.max_trial) (others b other) ∙ is.open_kind;
 }
 
--- ---- the place that is answered
+-- ---- the place that is returned
 
 pub IsBase-start : (table : PlaceFields) (b slot label : ℕ) (labels : List ℕ) → 0 < b → b < table.blocks.active → IsStart table b slot labels → label ≡ get_or labels 0 0 → label < 256 → IsBase table (bit_xor slot label) labels
 IsBase-start table b slot label labels positive b_in start first small =

@@ -1,4 +1,4 @@
--- The ring of a block that is new: each of its slots is free, and stands before the next one.
+-- The ring of a block that is new: each of its slots is free, and comes before the next one.
 use Rattle.std.proofs.Common.{◌≡◌, ℕ, zero, suc, ◌+◌, ◌*◌, ◌/◌, ◌<◌, ◌≤◌, ◌⊎◌, List, [], ◌∷◌, length, not, true, int_lt, refl, sym, ap, subst, inl, inr, ◌∙◌, arith, pos}
 use Rattle.std.proofs.lemmas.Bool.{cases_eq, cases_lt, ne_eqb, eq-eqb, and_from, and_right, cond-true, cond-false}
 use Rattle.cedar_slots.specs.declared.records.NodeRecord.{NodeRecord}

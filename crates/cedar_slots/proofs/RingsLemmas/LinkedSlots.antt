@@ -182,7 +182,7 @@ module _ (nodes : List NodeRecord) (infos : List NInfoRecord) (b : ℕ) (xs : Li
     | inr fails ↦ omega (arith, ring.once s, cond-false {A = ℕ} (is_free nodes s && eqb (s / 256) b) 1 0 fails)
   ]
 
--- what is left of a ring xs once e, which stood before next, was taken out
+-- what is left of a ring xs once e, which was before next, was taken out
 pub record Less (e next : ℕ) (xs ys : List ℕ) : Type 0 where
   pub shorter : length xs ≡ length ys + 1
   pub head_taken : 0 < length ys → first_of xs ≡ e → first_of ys ≡ next

@@ -4,7 +4,7 @@ use Rattle.std.proofs.lemmas.List.{append-nil}
 use Rattle.std.proofs.lemmas.Bool.{eq-eqb, ne_eqb, cases_eq}
 use Rattle.cedar_slots.specs.Ring.{occurs, Chain, Ring, Relinked}
 
--- ---- how often a number stands in a list
+-- ---- how often a number occurs in a list
 
 pub occurs-append : (x : ℕ) (xs ys : List ℕ) → occurs x (xs ++ ys) ≡ occurs x xs + occurs x ys
 occurs-append x [] ys = omega arith
@@ -58,7 +58,7 @@ module _ (Before After : ℕ → ℕ → Type 0) (a b : ℕ) (step : Relinked Be
 
 -- ---- a member taken out of a ring, and a number put in
 
--- where e stands in xs
+-- where e is in xs
 pub record Place (e : ℕ) (xs : List ℕ) : Type 0 where
   pub before : List ℕ
   pub after : List ℕ
@@ -73,7 +73,7 @@ place_of e (x ∷ xs) h = elim (cases_eq e x) [
       record { before = x ∷ rest.before; after = rest.after; is = ap (λ ys. x ∷ ys) rest.is }
 ]
 
--- each number stands in xs once at most
+-- each number is in xs once at most
 abbrev pub Apart : List ℕ → Type 0
 Apart xs = (s : ℕ) → occurs s xs ≤ 1
 
@@ -174,7 +174,7 @@ occurs-le-length x (y ∷ xs) = elim (cases_eq x y) [
   | inr other ↦ omega (arith, occurs-le-length x xs, occurs_other x y xs other)
 ]
 
--- a list of numbers from low on and below low + n, none of which stands in it twice, has at most n members
+-- a list of numbers from low on and below low + n, none of which is in it twice, has at most n members
 pub length-le-range : (low n : ℕ) (xs : List ℕ) → Apart xs → ((s : ℕ) → 0 < occurs s xs → (low ≤ s) × (s < low + n)) → length xs ≤ n
 length-le-range low zero [] apart inside = omega arith
 length-le-range low zero (x ∷ xs) apart inside = let r = inside x (omega (arith, occurs_same x xs)) in absurd (omega (arith, r.0, r.1))
@@ -199,7 +199,7 @@ module _ (next : ℕ → ℕ) where
   walk x zero = []
   walk x (suc n) = x ∷ walk (next x) n
 
-  -- where the walk stands after n steps
+  -- where the walk is after n steps
   abbrev pub after_steps : ℕ → ℕ → ℕ
   after_steps x zero = x
   after_steps x (suc n) = after_steps (next x) n

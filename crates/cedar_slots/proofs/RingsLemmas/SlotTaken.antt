@@ -178,7 +178,7 @@ num_positive old e sound e_in free was read =
 
 -- ---- a slot given back
 
--- a block with a slot in use has at most 255 free slots, and block 0 counts at most 254 besides its root
+-- a block with a held slot has at most 255 free slots, and block 0 counts at most 254 besides its root
 pub room : (old : PlaceFields) (e : ℕ) (sound : Sound old) (e_in : e / 256 < old.blocks.active) → 0 < e → is_free old.slots.nodes e ≡ false → length (sound.free (e / 256) e_in).0 + cond (eqb (e / 256) 0) 1 0 < 256
 room old e sound e_in positive used =
     let b = e / 256 in
@@ -384,7 +384,7 @@ listed_head_free table sound k not_full b first some counts read slot slot_is =
         let there = member_free table.slots.nodes table.slots.infos b (x ∷ xs) here.ring x (omega (arith, occurs_same x xs)) in
         rw at_head (record { free = there.0; not_root = subst (λ n. 0 < n) (sym there.1) only.0; is_active = subst (λ n. n < table.blocks.active) (sym there.1) only.1 })
 
--- with neither an open nor a closed block, each slot outside block 0 is in use
+-- with neither an open nor a closed block, each slot outside block 0 is held
 pub none_free : (table : PlaceFields) (sound : Sound table) → unsigned_abs (head_of table.blocks Closed) ≡ 0 → unsigned_abs (head_of table.blocks Open) ≡ 0 → (slot : ℕ) → 0 < slot / 256 → slot / 256 < table.blocks.active → is_free table.slots.nodes slot ≡ false
 none_free table sound no_closed no_open slot positive active =
     let lists = sound.lists.0 in

@@ -21,7 +21,7 @@ comes_before-map : {X Y : Type 0} (f : X → Y) (xs : List X) (x y : X) → Come
 comes_before-map f xs x y c =
     (map f c.0, map f c.1, ap (map f) c.2 ∙ map-append f c.0 (x ∷ c.1), into_map f c.1 y c.3)
 
--- the entries under a label stand in one piece
+-- the entries under a label are in one piece
 walk_split : (f : Forest) (l : ℕ) → has_label f l ≡ true → (front : List Entry) × (back : List Entry) × (walk_forest f ≡ front ++ (map (under l) (walk (subtree f l)) ++ back))
 walk_split none l h = absurd (false≢true h)
 walk_split (child m n below rest) l h =

@@ -1,4 +1,4 @@
--- That what a sound tree holds stands at keys, and that its entries make it again.
+-- That what a sound tree holds is at keys, and that its entries make it again.
 use Rattle.std.proofs.Common.{List, None, Option, Some, [], arith, cond, false, get_or, length, not, refl, suc, sym, true, ℕ, ℤ, ◌+◌, ◌<◌, ◌==◌, ◌||◌, ◌∙◌, ◌∷◌, ◌≡◌, ◌≤◌}
 use Rattle.std.specs.List.{AllByRecursion, Contains, position_or_len}
 use Rattle.std.proofs.lemmas.Bool.{eqb-false, eqb-true, false≢true}
@@ -10,7 +10,7 @@ use Rattle.cedar_tree.proofs.WalkLemmas.{walk_ascends}
 use Rattle.cedar_tree.proofs.MemberLemmas.{contains_here, contains_later, held_from_walk}
 use Rattle.cedar_tree.proofs.EntryLemmas.Pairs.{asc_is_tree_of, one_tree_of}
 
-label_bounds : (f : Forest) (l : ℕ) → IsSoundBelow f → has_label f l ≡ true → (0 < l) × (l < 256)
+pub label_bounds : (f : Forest) (l : ℕ) → IsSoundBelow f → has_label f l ≡ true → (0 < l) × (l < 256)
 label_bounds none l s h = absurd (false≢true h)
 label_bounds (child m n below rest) l s h =
     (elim (m == l) as (λ b. (m == l) ≡ b → (b || has_label rest l) ≡ true → (0 < l) × (l < 256)) [
@@ -24,14 +24,14 @@ held_path t (l ∷ k) v s h =
     let bounds = label_bounds t.children l s (held_label t.children l k v h) in
     (bounds.0, bounds.1, held_path (subtree t.children l) k v (sound_subtree t.children l s) h)
 
--- what is held stands at a key
+-- what is held is at a key
 pub held_key : (t : Tree) (k : List ℕ) (v : ℤ) → IsSound t → number_at t k ≡ Some v → IsKey k
 held_key t [] v s h = absurd (none-some (sym s.0 ∙ h)) where
   none-some : ◌≡◌ {A = Option ℤ} None (Some v) → ⊥
   none-some e = cc
 held_key t (l ∷ k) v s h = held_path t (l ∷ k) v s.1 h
 
-all_contained : {X : Type 0} (P : X → Type 0) (xs : List X) → ((x : X) → Contains xs x → P x) → AllByRecursion P xs
+pub all_contained : {X : Type 0} (P : X → Type 0) (xs : List X) → ((x : X) → Contains xs x → P x) → AllByRecursion P xs
 all_contained P [] h = tt
 all_contained P (x ∷ xs) h = (h x (contains_here x xs), all_contained P xs (λ y c. h y (contains_later x xs y c)))
 

@@ -8,7 +8,7 @@ use Rattle.cedar_tree.proofs.TreeLemmas.{bare_empty, cut-empty, cut_not_held, ha
 use Rattle.cedar_tree.proofs.OrderLemmas.{ascending-insert, ascending-replace, ascending_subtree, number_of_node}
 use Rattle.cedar_tree.proofs.EntryLemmas.Steps.{bare_cut, changed, cut_below, edit_is_replace, leaf_is_put, same_number}
 
--- a leaf at the end of a longer path stands in the tree of the path's first label
+-- a leaf at the end of a longer path is in the tree of the path's first label
 pub leaf_below : (t : Tree) (ordered : Bool) (m : ℕ) (w : List ℕ) (l : ℕ) → with_leaf t ordered (m ∷ w) l ≡ record { number = t.number; children = replace t.children m (with_leaf (subtree t.children m) ordered w l) }
 leaf_below t ordered m w l =
     let f : Forest = t.children in

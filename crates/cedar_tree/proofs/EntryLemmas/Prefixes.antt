@@ -4,7 +4,7 @@ use Rattle.std.specs.List.{filter}
 use Rattle.std.proofs.lemmas.List.{length-map}
 use Rattle.std.proofs.lemmas.Bool.{eqb-true}
 use Rattle.cedar_tree.specs.Tree.{Forest, none, child, Tree, has_label, subtree, number_at, replace, insert_ascending, put_child, put, is_bare, without, cut, IsSoundBelow}
-use Rattle.cedar_tree.specs.Queries.{prefixes_forest, prefixes, used, node_at, IsFront}
+use Rattle.cedar_tree.specs.Queries.{prefixes_forest, prefixes, slots_of_tree, node_at, IsFront}
 use Rattle.cedar_tree.specs.Laws.{missing_nodes, bare_nodes, fronts}
 use Rattle.cedar_tree.proofs.TreeLemmas.{subtree_absent, bare-subtree, put_child_cases, settle, bare_empty, cut-empty, without_absent, held_label, sound_subtree, has_label-replace, subtree-settle_same}
 use Rattle.cedar_tree.proofs.OrderLemmas.{front_of_key, node_of_front}
@@ -92,10 +92,10 @@ pub length-prefixes-cut : (t : Tree) (k : List ℕ) → length (prefixes (cut t 
 length-prefixes-cut t k =
     ap (λ n. n + bare_nodes t k) (length-prefixes_forest (cut t k).children) ∙ nodes-cut t k ∙ sym (length-prefixes_forest t.children)
 
-pub used-put : (t : Tree) (ordered : Bool) (k : List ℕ) (v : ℤ) → used (put t ordered k v) ≡ used t + missing_nodes t k + cond (is_some (number_at t k)) 0 1
+pub used-put : (t : Tree) (ordered : Bool) (k : List ℕ) (v : ℤ) → slots_of_tree (put t ordered k v) ≡ slots_of_tree t + missing_nodes t k + cond (is_some (number_at t k)) 0 1
 used-put t ordered k v = omega (arith, length-prefixes-put t ordered k v, length-walk-put t ordered k v)
 
-pub used-cut : (t : Tree) (k : List ℕ) → used (cut t k) + bare_nodes t k + cond (is_some (number_at t k)) 1 0 ≡ used t
+pub used-cut : (t : Tree) (k : List ℕ) → slots_of_tree (cut t k) + bare_nodes t k + cond (is_some (number_at t k)) 1 0 ≡ slots_of_tree t
 used-cut t k = omega (arith, length-prefixes-cut t k, length-walk-cut t k)
 
 -- a path that is held has each of its nodes
@@ -151,7 +151,7 @@ missing-fronts t (l ∷ k) s =
     let label = missing_label t.children l s in
     omega arith
 
--- and a node stands just where a key that is held begins with the path
+-- and there is a node just where a key that is held begins with the path
 pub front_of_node : (t : Tree) (p : List ℕ) → IsSoundBelow t.children → 0 < length p → is_bare (node_at t p) ≡ false → IsFront t p
 front_of_node t p s long h = let key = front_of_key t p s h in (long, key.0, key.1, key.2)
 

@@ -6,8 +6,8 @@ use Rattle.std.proofs.Math.Seq.{take-add}
 use Rattle.std.proofs.lemmas.Slice.{drop-put_mid, take-put_mid}
 use Rattle.std.proofs.lemmas.List.{drop-append-le, drop-drop, drop-map, drop_all, length-drop, length-map, length-take-le, map-append, take-append-drop, take-append-le, take-map, take_all}
 use Rattle.std.proofs.lemmas.Bool.{cases_lt}
-use Rattle.cedar_tree.specs.Tree.{Tree}
-use Rattle.cedar_tree.specs.Queries.{exact}
+use Rattle.cedar_model.specs.Tree.{Tree}
+use Rattle.cedar_model.specs.Queries.{exact}
 use Rattle.cedar_walk.specs.Batch.{keys_of}
 use Rattle.cedar_walk.proofs.WalkLemmas.Lanes.{key_count}
 

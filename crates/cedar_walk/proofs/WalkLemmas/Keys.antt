@@ -1,8 +1,8 @@
 -- A key that a walk keeps in step with its node, and the room that it needs.
-use Rattle.std.proofs.Common.{◌≡◌, ℕ, zero, suc, ◌+◌, ◌-◌, ◌<◌, ◌≤◌, ℤ, List, [], ◌∷◌, ◌++◌, length, map, take, drop, None, Option, Some, Err, Ok, OnErr, Result, append_assoc, sym, ◌∙◌, ap, arith, refl, subst}
+use Rattle.std.proofs.Common.{◌≡◌, ℕ, zero, suc, ◌+◌, ◌-◌, ◌<◌, ◌≤◌, ℤ, List, [], ◌∷◌, ◌++◌, length, map, take, drop, None, Option, Some, append_assoc, sym, ◌∙◌, ap, arith, refl, subst}
 use Rattle.std.proofs.lemmas.List.{length-append, length-take-le, take-append-drop, take_at}
-use Rattle.cedar_tree.specs.Queries.{Entry, node_at}
-use Rattle.cedar_tree.specs.Walks.{forwards, Visit, visited_entries}
+use Rattle.cedar_model.specs.Queries.{Entry, node_at}
+use Rattle.cedar_model.specs.Walks.{forwards, Visit, visited_entries}
 use Rattle.cedar_model.specs.Table.TableFields.{Fields, size_of}
 use Rattle.cedar_model.specs.Meaning.Family.{below}
 use Rattle.cedar_model.specs.Meaning.WellFormed.{cells_in, IsWellFormed, tree_of}
@@ -52,11 +52,6 @@ key_goes_down slots T k start n s l slot front key new at is some child so_far l
     ∙ ap (λ x. front ++ path_to T (n + 1) x) (sym child)
 
 -- ---- the room for it
-
--- what holds anyway holds after a refusal
-pub on_err : {X E : Type 0} (r : Result X E) {P : Type 0} → P → OnErr r P
-on_err (Ok x) p = tt
-on_err (Err e) p = p
 
 -- what is longer than some room is longer than less
 pub outgrows_less : (room less : ℕ) (entries : List Entry) → less ≤ room → KeyOutgrows room entries → KeyOutgrows less entries

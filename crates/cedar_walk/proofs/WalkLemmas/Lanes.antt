@@ -5,8 +5,8 @@ use Rattle.std.proofs.Math.ListN.{get_or-map as map_at, length-set, replicate}
 use Rattle.std.proofs.lemmas.List.{drop_all, ext_get_or, get_or-map, get_or-replicate, length-map, get_or-set_other, get_or-set_same}
 use Rattle.std.proofs.lemmas.Bool.{cases_lt}
 use Rattle.std.specs.Borrow.{Bor}
-use Rattle.cedar_tree.specs.Tree.{Tree, has_label, subtree, number_at}
-use Rattle.cedar_tree.specs.Queries.{exact}
+use Rattle.cedar_model.specs.Tree.{Tree, has_label, subtree, number_at}
+use Rattle.cedar_model.specs.Queries.{exact}
 use Rattle.cedar_model.specs.Meaning.StandsFor.{Stands}
 use Rattle.cedar_model.specs.Meaning.WellFormed.{cells_in, IsWellFormed, tree_of}
 use Rattle.cedar_model.specs.Table.TableFields.{Fields, size_of}
@@ -79,14 +79,14 @@ round_misses T keys passed lane lanes h e r = record {
   rest = λ i j k. r.rest i (omega arith) k;
 }
 
--- answers one by one are the answers of all
+-- results one by one are the results of all
 pub answers_are : (t : Tree) (keys : List (List ℕ)) (answers : List (Option (ℤ × ℕ))) → length answers ≡ length keys
     → ((i : ℕ) → i < length keys → get_or answers i None ≡ exact t (get_or keys i [])) → answers ≡ map (exact t) keys
 answers_are t keys answers same each =
     ext_get_or None answers (map (exact t) keys) (same ∙ sym (length-map keys (exact t)))
     (λ i h. let inside : i < length keys = omega arith in each i inside ∙ sym (get_or-map (exact t) keys i [] None inside))
 
--- one answer more
+-- one result more
 pub answered_at : (t : Tree) (keys : List (List ℕ)) (answers : List (Option (ℤ × ℕ))) (n : ℕ) (answer : Option (ℤ × ℕ)) → n < length answers
     → ((i : ℕ) → i < n → get_or answers i None ≡ exact t (get_or keys i [])) → answer ≡ exact t (get_or keys n [])
     → (i : ℕ) → i < n + 1 → get_or (set answers n answer) i None ≡ exact t (get_or keys i [])

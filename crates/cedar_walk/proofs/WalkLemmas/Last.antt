@@ -1,11 +1,11 @@
 -- The way to the last node of a walk.
-use Rattle.std.proofs.Common.{◌≡◌, ℕ, suc, ◌+◌, ◌-◌, ◌<◌, ℤ, List, [], ◌∷◌, ◌++◌, length, map, None, Option, option_map, Some, append_assoc, sym, ◌∙◌, ap, refl, arith, true}
+use Rattle.std.proofs.Common.{◌≡◌, ℕ, suc, ◌+◌, ◌-◌, ℤ, List, [], ◌∷◌, ◌++◌, length, map, None, Option, option_map, Some, append_assoc, sym, ◌∙◌, ap, refl, arith, true}
 use Rattle.std.specs.Prelude.{pos, unsigned_abs}
 use Rattle.std.proofs.lemmas.List.{length-append}
 use Rattle.std.proofs.lemmas.List.Elements.{filter_map-append}
-use Rattle.cedar_tree.specs.Tree.{has_label}
-use Rattle.cedar_tree.specs.Queries.{Entry, node_at, walk}
-use Rattle.cedar_tree.specs.Walks.{behind, node_up, Visit, visit_from, visited_entries, visits_below}
+use Rattle.cedar_model.specs.Tree.{has_label}
+use Rattle.cedar_model.specs.Queries.{Entry, node_at, walk}
+use Rattle.cedar_model.specs.Walks.{behind, node_up, Visit, visit_from, visited_entries, visits_below}
 use Rattle.cedar_model.specs.Meaning.Family.{below}
 use Rattle.cedar_model.specs.Edit.NodeEdits.{IsAt}
 use Rattle.cedar_model.specs.Table.TableFields.{Fields}
@@ -24,12 +24,9 @@ entries_then vs ws = filter_map-append (λ (v : Visit). option_map (λ (x : ℤ)
 abbrev below_here : (T : Fields) (n s : ℕ) → List Visit
 below_here T n s = map (visit_from (path_to T n s)) (visits_below (node_up (tree_of T) (way_up (cells_in T) n s)).children)
 
-pub not_none : (n : ℕ) → 0 < n → n ≡ 0 → ⊥
-not_none n deep z = omega (arith, deep, z)
-
 module _ (slots : ℕ) (T : Fields) (k : IsWellFormed slots T) (place : Place) (on : IsOnLastWay T place) where
   some : place.depth ≡ 0 → ⊥
-  some = not_none place.depth on.deep
+  some z = omega (arith, on.deep, z)
 
   climb : Climbed T [] place.depth place.slot place.depth place.slot
   climb = climbed_none T [] place.depth place.slot on.below

@@ -1,16 +1,16 @@
 -- A walk along a query, a byte at a time.
 use Rattle.std.proofs.Common.{◌≡◌, ℕ, ◌+◌, ◌<◌, List, [], ◌∷◌, length, take, get_or, sym, ◌∙◌, ap, subst, arith, Option, Some, None, option_map, false, ℤ}
 use Rattle.std.specs.List.{cons_option}
-use Rattle.cedar_tree.specs.Tree.{Tree, has_label, subtree}
-use Rattle.cedar_tree.specs.Queries.{node_at}
-use Rattle.cedar_tree.specs.Walks.{front_from}
-use Rattle.cedar_tree.proofs.FrontFromLemmas.{front_more, front_off, node_more}
+use Rattle.cedar_model.specs.Tree.{Tree, has_label, subtree}
+use Rattle.cedar_model.specs.Queries.{node_at}
+use Rattle.cedar_model.specs.Walks.{front_from}
+use Rattle.cedar_model.proofs.FrontFromLemmas.{front_more, front_off, node_more}
 use Rattle.cedar_walk.specs.Fronts.{IsOnQuery}
 use Rattle.cedar_model.specs.Meaning.StandsFor.{Stands}
 use Rattle.cedar_model.specs.Table.TableFields.{Fields, size_of}
 use Rattle.cedar_model.specs.Meaning.WellFormed.{cells_in, IsWellFormed, tree_of}
 use Rattle.cedar_model.proofs.MeaningLemmas.TreeOf.{root_place}
-use Rattle.cedar_tree.proofs.OrderLemmas.{number_of_node}
+use Rattle.cedar_model.proofs.OrderLemmas.{number_of_node}
 
 module _ (T : Fields) (q : List ℕ) (n s : ℕ) (on : IsOnQuery T q n s) (less : n < length q) where
   -- one byte more

@@ -3,11 +3,11 @@ use Rattle.std.proofs.Common.{◌≡◌, ℕ, zero, suc, ◌+◌, ◌-◌, ◌<�
 use Rattle.std.specs.Prelude.{pos, unsigned_abs, cond}
 use Rattle.std.proofs.lemmas.List.{length-append, take-take, take_all, take_at}
 use Rattle.std.proofs.lemmas.Bool.Decides.{eqb_tells}
-use Rattle.cedar_tree.specs.Tree.{Forest, none, child, Tree, has_label, subtree, IsSoundBelow}
-use Rattle.cedar_tree.specs.Queries.{node_at}
-use Rattle.cedar_tree.specs.Walks.{behind, forwards, node_up, visits_after, visits_left}
-use Rattle.cedar_tree.proofs.OrderLemmas.{sound_node_at}
-use Rattle.cedar_tree.proofs.VisitLemmas.{goes_down, goes_past_leaf, goes_right, goes_up, has_behind, has_here, next_behind, node_up_is, subtree_here}
+use Rattle.cedar_model.specs.Tree.{Forest, none, child, Tree, has_label, subtree, IsSoundBelow}
+use Rattle.cedar_model.specs.Queries.{node_at}
+use Rattle.cedar_model.specs.Walks.{behind, forwards, node_up, visits_after, visits_left}
+use Rattle.cedar_model.proofs.OrderLemmas.{sound_node_at}
+use Rattle.cedar_model.proofs.VisitLemmas.{goes_down, goes_past_leaf, goes_right, goes_up, has_behind, has_here, next_behind, node_up_is, subtree_here}
 use Rattle.cedar_walk.specs.declared.visits.Visited.{Visited}
 use Rattle.cedar_model.specs.Table.Cells.{Cells}
 use Rattle.cedar_model.specs.Meaning.Family.{Among, base_of, below, Begins, Head, Links, own, plain, top, valued}
@@ -19,10 +19,11 @@ use Rattle.cedar_model.specs.Meaning.WellFormed.{cells_in, IsWellFormed, tree_of
 use Rattle.cedar_model.proofs.MeaningLemmas.NodeAtPath.{among_has, at_child, at_node, follow_last}
 use Rattle.cedar_model.proofs.MeaningLemmas.KeyPath.{tree_root}
 use Rattle.cedar_model.proofs.MeaningLemmas.OneNode.{labels_own, owned_label}
-use Rattle.cedar_model.proofs.EditLemmas.LeafAtPlace.{below_root, ends}
 use Rattle.cedar_model.proofs.MeaningLemmas.ReadBack.{path_short}
 use Rattle.cedar_model.proofs.MeaningLemmas.ExclusiveOr.{pos_injective, xor_back}
 use Rattle.cedar_model.proofs.MeaningLemmas.TreeOf.{in_use}
+use Rattle.cedar_model.proofs.GeneralLemmas.{positive}
+use Rattle.cedar_model.proofs.UpdateLemmas.TrimUpwards.{root_path}
 
 -- ---- chains
 
@@ -72,13 +73,6 @@ last_of T w l s at =
       is = is;
     }
 
--- the node below the root that is slot 0 is the root
-pub at_root : (T : Cells) → ((c : ℕ) → T.check 0 ≡ pos c → ⊥) → (w : List ℕ) → IsAt T w 0 → w ≡ []
-at_root T root [] at = refl
-at_root T root (j ∷ v) at =
-    let e = ends j v in
-    absurd (below_root T root e.0 e.1 (subst (OnPath T) e.2 at.0) (ap (slot_at T) (sym e.2) ∙ at.1))
-
 -- ---- the way up
 
 pub way_one_more : (T : Cells) (n s l : ℕ) → T.check (below T s l) ≡ pos s → way_up T (n + 1) (below T s l) ≡ l ∷ way_up T n s
@@ -124,7 +118,7 @@ module _ (slots : ℕ) (T : Fields) (k : IsWellFormed slots T) where
   pub root_first : (w : List ℕ) → IsAt (cells_in T) w 0 → (cells_in T).sibling 0 ≡ first_sibling_label (node_at (tree_of T) w).children
   root_first w at =
       links_first (cells_in T) 0 ((cells_in T).sibling 0) (tree_of T).children k.stands.stands.0.begins.2
-      ∙ ap (λ v. first_sibling_label (node_at (tree_of T) v).children) (sym (at_root (cells_in T) k.stands.root w at))
+      ∙ ap (λ v. first_sibling_label (node_at (tree_of T) v).children) (sym (root_path (cells_in T) w 0 k.stands.root at refl))
 
   -- a label that the node itself names is its first
   pub named_first : (w : List ℕ) (s : ℕ) → IsAt (cells_in T) w s → ((cells_in T).child s ≡ 0 → ⊥) → (cells_in T).child s ≡ first_sibling_label (node_at (tree_of T) w).children
@@ -197,10 +191,6 @@ module _ (slots : ℕ) (T : Fields) (k : IsWellFormed slots T) where
       omega (arith, short, follow_length (start ++ path_to T n s) [], length-append start (path_to T n s), path_length T n s)
 
 -- ---- what a walk comes to
-
-positive : (l : ℕ) → (l ≡ 0 → ⊥) → 0 < l
-positive zero some = absurd (some refl)
-positive (suc l) some = omega arith
 
 no_first : (f : Forest) → IsSoundBelow f → first_sibling_label f ≡ 0 → f ≡ none
 no_first none sound z = refl

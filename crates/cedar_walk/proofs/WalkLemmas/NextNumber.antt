@@ -4,13 +4,13 @@ use Rattle.std.specs.Prelude.{pos, bit_xor, is_none, ◌&&◌}
 use lib.Bits.{xor_zero_r}
 use Rattle.std.proofs.lemmas.Bool.{true≢false}
 use Rattle.std.proofs.lemmas.List.{append-nil, length-append}
-use Rattle.cedar_tree.specs.Tree.{Forest, none, child, Tree, has_label, is_bare, is_leafless, subtree}
-use Rattle.cedar_tree.specs.Queries.{node_at, walk}
-use Rattle.cedar_tree.specs.Walks.{visited_entries, forwards}
-use Rattle.cedar_tree.proofs.CutLemmas.{node_at-end}
-use Rattle.cedar_tree.proofs.OrderLemmas.{sound_node_at}
-use Rattle.cedar_tree.proofs.TreeLemmas.{bare-subtree}
-use Rattle.cedar_tree.proofs.VisitLemmas.{walk_visits}
+use Rattle.cedar_model.specs.Tree.{Forest, none, child, Tree, has_label, is_bare, is_leafless, subtree}
+use Rattle.cedar_model.specs.Queries.{node_at, walk}
+use Rattle.cedar_model.specs.Walks.{visited_entries, forwards}
+use Rattle.cedar_model.proofs.CutLemmas.{node_at-end}
+use Rattle.cedar_model.proofs.OrderLemmas.{sound_node_at}
+use Rattle.cedar_model.proofs.TreeLemmas.{bare-subtree}
+use Rattle.cedar_model.proofs.VisitLemmas.{walk_visits}
 use Rattle.cedar_walk.specs.declared.visits.Numbered.{Numbered}
 use Rattle.cedar_walk.specs.declared.visits.Place.{Place}
 use Rattle.cedar_model.specs.declared.layout.Stored.TheVariants.{AtBase, OwnNumber}
@@ -26,7 +26,8 @@ use Rattle.cedar_model.proofs.MeaningLemmas.Paths.{one_path}
 use Rattle.cedar_model.proofs.MeaningLemmas.SearchStep.{has_among, number_named}
 use Rattle.cedar_model.proofs.UpdateLemmas.MarksAfterUpdate.{follow_one}
 use Rattle.cedar_walk.specs.Visits.{ComesTo, ComesToNumber, entries_at, first_sibling_label, IsBelow, left_at, number_below, path_to, visited_at}
-use Rattle.cedar_walk.proofs.WalkLemmas.NextNode.{at_root, child_owned, comes_down, first_there, last_of, links_first, named_first, node_stands, path_length, way_one_more}
+use Rattle.cedar_walk.proofs.WalkLemmas.NextNode.{child_owned, comes_down, first_there, last_of, links_first, named_first, node_stands, path_length, way_one_more}
+use Rattle.cedar_model.proofs.UpdateLemmas.TrimUpwards.{root_path}
 
 -- ---- what is read of a node that has a number
 
@@ -61,7 +62,7 @@ module _ (size : ℕ) (T : Cells) (s : ℕ) (t : Tree) (k : Stands size T s t) (
       by_head (own u) f y n = let z : AtBase b ≡ OwnNumber u = sym e ∙ y.based in cc
       by_head top f y n = cc
 
-  -- where the number stands in the node's own field there is none
+  -- where the number is kept in the node's own field there is none
   pub none_held : (u : ℤ) → T.stored s ≡ OwnNumber u → 0 ≡ first_sibling_label t.children
   none_held u e = by_head k.head t.children k.family (k.number ∙ has)
     where
@@ -131,7 +132,7 @@ module _ (slots : ℕ) (T : Fields) (k : IsWellFormed slots T) (start : List ℕ
   -- what lies below another node is not the root
   pub deep_not_root : (n s : ℕ) → IsBelow (cells_in T) start n s → 0 < n → s ≡ 0 → ⊥
   deep_not_root n s at deep e =
-      let whole = at_root (cells_in T) k.stands.root (start ++ path_to T n s) (subst (IsAt (cells_in T) (start ++ path_to T n s)) e at) in
+      let whole = root_path (cells_in T) (start ++ path_to T n s) 0 k.stands.root (subst (IsAt (cells_in T) (start ++ path_to T n s)) e at) refl in
       let len : length (start ++ path_to T n s) ≡ 0 = ap length whole in
       omega (arith, len, deep, length-append start (path_to T n s), path_length T n s)
 
@@ -178,6 +179,6 @@ walk_at T query s =
 -- the root has no number
 pub root_walk : (slots : ℕ) (T : Fields) → IsWellFormed slots T → (query : List ℕ) (s : ℕ) → IsAt (cells_in T) query s → s ≡ 0 → walk (node_at (tree_of T) query) ≡ visited_entries (left_at T query 0 s)
 root_walk slots T k query s at z =
-    let whole = at_root (cells_in T) k.stands.root query (subst (IsAt (cells_in T) query) z at) in
+    let whole = root_path (cells_in T) query 0 k.stands.root (subst (IsAt (cells_in T) query) z at) refl in
     let number : (node_at (tree_of T) query).number ≡ None = ap (λ w. (node_at (tree_of T) w).number) whole ∙ ap (λ (t : Tree). t.number) (tree_root slots T k) in
     walk_visits (node_at (tree_of T) query) ∙ ap (λ (o : Option ℤ). visited_entries (([], o) ∷ left_at T query 0 s)) number

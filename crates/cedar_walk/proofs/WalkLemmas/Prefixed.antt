@@ -4,12 +4,12 @@ use Rattle.std.specs.List.{filter, starts_with}
 use Rattle.std.proofs.lemmas.Bool.{eqb-true}
 use Rattle.std.proofs.lemmas.List.{append-nil}
 use Rattle.std.proofs.lemmas.List.Elements.{filter-append}
-use Rattle.cedar_tree.specs.Tree.{Forest, none, child, Tree, subtree, IsSoundBelow}
-use Rattle.cedar_tree.specs.Queries.{Entry, own_entry, under, walk_forest, walk, node_at}
-use Rattle.cedar_tree.proofs.TreeLemmas.{subtree_absent}
-use Rattle.cedar_tree.proofs.OrderLemmas.{node_at-empty}
-use Rattle.cedar_tree.proofs.PredictLemmas.{filter-every, map-after}
-use Rattle.cedar_tree.proofs.WalkLemmas.{filter-map, eqb_turned, filter-none}
+use Rattle.cedar_model.specs.Tree.{Forest, none, child, Tree, subtree, IsSoundBelow}
+use Rattle.cedar_model.specs.Queries.{Entry, own_entry, under, walk_forest, walk, node_at}
+use Rattle.cedar_model.proofs.TreeLemmas.{subtree_absent}
+use Rattle.cedar_model.proofs.OrderLemmas.{node_at-empty}
+use Rattle.cedar_model.proofs.PredictLemmas.{filter-every, map-after}
+use Rattle.cedar_model.proofs.WalkLemmas.{filter-map, eqb_turned, filter-none}
 use Rattle.cedar_walk.specs.Ranges.{behind_path, entries_with}
 use Rattle.cedar_walk.proofs.WalkLemmas.Since.{behind_none}
 

@@ -1,15 +1,15 @@
 -- A walk over a range of keys in a table: where it begins, and the path of a node.
-use Rattle.std.proofs.Common.{◌≡◌, ◌⊎◌, inl, inr, ℕ, zero, suc, ◌+◌, ◌-◌, ◌<◌, ◌≤◌, ◌==◌, true, false, cond, ◌||◌, ℤ, List, [], ◌∷◌, ◌++◌, length, take, drop, set, get_or, Option, Some, None, MatchOption, append_assoc, sym, ◌∙◌, ap, refl, subst, arith}
+use Rattle.std.proofs.Common.{◌≡◌, ◌⊎◌, inl, inr, ℕ, zero, suc, ◌+◌, ◌-◌, ◌<◌, ◌≤◌, ◌==◌, true, false, cond, ℤ, List, [], ◌∷◌, ◌++◌, length, take, drop, set, get_or, Option, Some, None, MatchOption, append_assoc, sym, ◌∙◌, ap, refl, subst, arith}
 use Rattle.std.specs.Prelude.{pos, unsigned_abs}
-use Rattle.std.proofs.lemmas.Bool.{eqb-false, eqb-true, true≢false}
+use Rattle.std.proofs.lemmas.Bool.{eqb-false, eqb-true}
 use Rattle.std.proofs.lemmas.Bool.Decides.{eqb_tells}
 use Rattle.std.proofs.lemmas.List.{drop_more, drop-set, length-append, length-set, length-take-le, take_all, take-append-drop, take-set, take-take}
-use Rattle.cedar_tree.specs.Edits.{HasPath}
-use Rattle.cedar_tree.specs.Tree.{Forest, none, child, Tree, has_label, IsSoundBelow, subtree}
-use Rattle.cedar_tree.specs.Queries.{node_at, walk}
-use Rattle.cedar_tree.specs.Walks.{behind, visited_entries, forwards, node_up, visits_left}
-use Rattle.cedar_tree.proofs.OrderLemmas.{sound_node_at}
-use Rattle.cedar_tree.proofs.VisitLemmas.{node_up_is}
+use Rattle.cedar_model.specs.Edits.{HasPath}
+use Rattle.cedar_model.specs.Tree.{Forest, none, Tree, has_label, IsSoundBelow, subtree}
+use Rattle.cedar_model.specs.Queries.{node_at, walk}
+use Rattle.cedar_model.specs.Walks.{behind, visited_entries, forwards, node_up, visits_left}
+use Rattle.cedar_model.proofs.OrderLemmas.{sound_node_at}
+use Rattle.cedar_model.proofs.VisitLemmas.{node_up_is}
 use Rattle.cedar_model.specs.Meaning.Family.{Among, base_of, below}
 use Rattle.cedar_model.specs.Meaning.StandsFor.{labels}
 use Rattle.cedar_model.specs.Edit.NodeEdits.{IsAt}
@@ -29,15 +29,9 @@ use Rattle.cedar_walk.specs.RangePlaces.{AboveFrom, BeginsAt, IsReached, left_ab
 use Rattle.cedar_walk.proofs.WalkLemmas.NextNode.{child_is_at, child_owned, last_of, next_label, node_stands, parent_below, up_of, way_one_more}
 use Rattle.cedar_walk.proofs.WalkLemmas.NextNumber.{last_label, number_there}
 use Rattle.cedar_walk.proofs.WalkLemmas.Since.{above_first, above_label, above_none, above_on, ascending_at, at_up, since_missing, since_node, since_none}
+use Rattle.cedar_model.proofs.EntryLemmas.Keys.{label_bounds}
 
 -- ---- labels
-
-pub label_small : (f : Forest) (l : ℕ) → IsSoundBelow f → has_label f l ≡ true → (0 < l) × (l < 256)
-label_small none l s h = absurd (true≢false (sym h))
-label_small (child m n u rest) l s h = elim (eqb_tells m l) [
-  | inl e ↦ subst (λ x. (0 < x) × (x < 256)) e.1 (s.0, s.1)
-  | inr e ↦ label_small rest l s.5 (subst (λ b. (b || has_label rest l) ≡ true) e.0 h)
-]
 
 -- a byte that is no more than 255 steps from 0
 abbrev pub steps_left : ℕ → ℕ
@@ -68,7 +62,7 @@ module _ (slots : ℕ) (T : Fields) (k : IsWellFormed slots T) where
       let owned : (cells_in T).check (below (cells_in T) above l) ≡ pos above = ap (cells_in T).check is ∙ last.check ∙ ap pos same in
       let among : Among (labels f) l = owned_label (size_of T) (cells_in T) above l st.head (labels f) st.family last.label owned in (
         ap (below (cells_in T) above) (sym is) ∙ xor_back (base_of (cells_in T) above) l,
-        (label_small f l (sound_node_at (tree_of T) w k.sound) (has_among f l among)).1,
+        (label_bounds f l (sound_node_at (tree_of T) w k.sound) (has_among f l among)).1,
       )
 
   -- one label up
@@ -90,7 +84,7 @@ module _ (slots : ℕ) (T : Fields) (k : IsWellFormed slots T) where
       let f : Forest = (node_at (tree_of T) w).children in
       let sound : IsSoundBelow f = sound_node_at (tree_of T) w k.sound in
       let has : has_label f next ≡ true = above_label f m next sound above some in
-      let there = child_is_at slots T k w s next (label_small f next sound has).0 at has in
+      let there = child_is_at slots T k w s next (label_bounds f next sound has).0 at has in
       let first : sib ≡ first_sibling_label (behind f next) = read ∙ ap (cells_in T).sibling is ∙ next_label slots T k w next (below (cells_in T) s next) there in
       let on = above_on f m next sound (ascending_at (tree_of T) w (k.ascending ordered)) above some most in
       subst (λ x. AboveFrom f m x × ((x ≡ 0 → ⊥) → next < x)) (sym first) on
@@ -99,7 +93,7 @@ module _ (slots : ℕ) (T : Fields) (k : IsWellFormed slots T) where
   pub lacks : (w : List ℕ) (s l : ℕ) → IsAt (cells_in T) w s → (l ≡ 0) ⊎ ((cells_in T).check (below (cells_in T) s l) ≡ pos s → ⊥) → has_label (node_at (tree_of T) w).children l ≡ false
   lacks w s l at off = (elim (has_label (node_at (tree_of T) w).children l) as (λ b. has_label (node_at (tree_of T) w).children l ≡ b → b ≡ false) [
     | true ↦ λ e. absurd (elim off [
-      | inl z ↦ let positive = (label_small (node_at (tree_of T) w).children l (sound_node_at (tree_of T) w k.sound) e).0 in omega (arith, positive, z)
+      | inl z ↦ let positive = (label_bounds (node_at (tree_of T) w).children l (sound_node_at (tree_of T) w k.sound) e).0 in omega (arith, positive, z)
       | inr other ↦ other (child_owned slots T k w s l at e)
     ])
     | false ↦ λ e. refl
@@ -174,7 +168,7 @@ module _ (slots : ℕ) (T : Fields) (k : IsWellFormed slots T) (ordered : T.orde
       let has : has_label f next ≡ true = above_label f label next sound above some in
       let owned = child_owned slots T k (path_to T n s) s next at has in
       let way : way_up (cells_in T) place.depth place.slot ≡ next ∷ up = ap (λ d. way_up (cells_in T) d place.slot) deep ∙ ap (way_up (cells_in T) (n + 1)) slot ∙ way_one_more (cells_in T) n s next owned in
-      let there : IsAt (cells_in T) (path_to T n s ++ next ∷ []) place.slot = subst (IsAt (cells_in T) (path_to T n s ++ next ∷ [])) (sym slot) (child_is_at slots T k (path_to T n s) s next (label_small f next sound has).0 at has) in
+      let there : IsAt (cells_in T) (path_to T n s ++ next ∷ []) place.slot = subst (IsAt (cells_in T) (path_to T n s ++ next ∷ [])) (sym slot) (child_is_at slots T k (path_to T n s) s next (label_bounds f next sound has).0 at has) in
       let number : number_below T [] place.depth place.slot ≡ (subtree (node_up t up).children next).number =
       number_there slots T k [] n s next place.slot place.depth at has slot deep ∙ ap (λ g. (subtree g next).number) (at_up t up) in
       record {

@@ -3,21 +3,22 @@ use Rattle.std.proofs.Common.{◌≡◌, inl, inr, ℕ, ◌<◌, ◌≤◌, Less
 use Rattle.std.specs.List.{cons_option, filter}
 use Rattle.std.specs.Cmp.Lexicographic.{slice_cmp}
 use Rattle.std.specs.Ordering.{is_ge, nat_cmp, ordering_then}
-use Rattle.std.proofs.lemmas.Bool.{ltb-true, ltb-false, ne_eqb}
+use Rattle.std.proofs.lemmas.Bool.{ltb-true, ltb-false, ne_eqb, le-ltb, lt-ltb}
 use Rattle.std.proofs.lemmas.Bool.Decides.{eqb_tells}
 use Rattle.std.proofs.lemmas.List.{append-nil, map-append}
 use Rattle.std.proofs.lemmas.List.Elements.{filter-append, filter_map-append}
-use Rattle.cedar_tree.specs.Tree.{Forest, none, child, Tree, has_label, subtree, IsAscending, IsSoundBelow, AllAbove}
-use Rattle.cedar_tree.specs.Edits.{HasPath}
-use Rattle.cedar_tree.specs.Queries.{Entry, own_entry, under, walk_forest, walk, node_at}
-use Rattle.cedar_tree.specs.Walks.{Visit, behind, visited_entries, forwards, node_up, visit_from, visits_after, visits_below, visits_left}
-use Rattle.cedar_tree.proofs.OrderLemmas.{ascending_subtree}
-use Rattle.cedar_tree.proofs.PredictLemmas.{map-after}
-use Rattle.cedar_tree.proofs.VisitLemmas.{goes_down, goes_right, has_behind, has_here, next_behind, node_up_is, subtree_here, walk_visits}
-use Rattle.cedar_tree.proofs.WalkLemmas.{filter-map, filter-none, ltb-from_lt, nat_lt_itself}
+use Rattle.cedar_model.specs.Tree.{Forest, none, child, Tree, has_label, subtree, IsAscending, IsSoundBelow, AllAbove}
+use Rattle.cedar_model.specs.Edits.{HasPath}
+use Rattle.cedar_model.specs.Queries.{Entry, own_entry, under, walk_forest, walk, node_at}
+use Rattle.cedar_model.specs.Walks.{Visit, behind, visited_entries, forwards, node_up, visit_from, visits_after, visits_below, visits_left}
+use Rattle.cedar_model.proofs.OrderLemmas.{ascending_subtree, all_above_more}
+use Rattle.cedar_model.proofs.PredictLemmas.{map-after}
+use Rattle.cedar_model.proofs.VisitLemmas.{goes_down, goes_right, has_behind, has_here, next_behind, node_up_is, subtree_here, behind_here, entries_below}
+use Rattle.cedar_model.proofs.WalkLemmas.{filter-map, filter-none, nat_lt_itself}
 use Rattle.cedar_walk.specs.Visits.{first_sibling_label}
 use Rattle.cedar_walk.specs.RangePlaces.{AboveFrom, AreLast}
 use Rattle.cedar_walk.specs.Ranges.{behind_path, entries_since, siblings_above}
+use Rattle.cedar_model.proofs.GeneralLemmas.{filter-same}
 
 abbrev since : List ℕ → Entry → Bool
 since q e = is_ge (slice_cmp nat_cmp e.0 q)
@@ -28,27 +29,20 @@ cmp_same : (l : ℕ) → nat_cmp l l ≡ Equal
 cmp_same l = rw (nat_lt_itself l, eq-eqb l l refl) refl
 
 pub cmp_below : (l m : ℕ) → l < m → nat_cmp l m ≡ Less
-cmp_below l m h = rw (ltb-from_lt l m h) refl
-
-not_lt : (l m : ℕ) → m ≤ l → ltb l m ≡ false
-not_lt l m h = (elim (ltb l m) as (λ b. ltb l m ≡ b → b ≡ false) [ true ↦ λ e. let k : l < m = ltb-true l m e in absurd (omega arith) | false ↦ λ _. refl ]) refl
+cmp_below l m h = rw (lt-ltb l m h) refl
 
 pub cmp_above : (l m : ℕ) → m < l → nat_cmp l m ≡ Greater
-cmp_above l m h = rw (not_lt l m (omega arith), ne_eqb l m (λ e. omega (arith, e))) refl
+cmp_above l m h = rw (le-ltb l m (omega arith), ne_eqb l m (λ e. omega (arith, e))) refl
 
 filter_all : {X : Type 0} (p : X → Bool) (xs : List X) → ((x : X) → p x ≡ true) → filter p xs ≡ xs
 filter_all p [] h = refl
 filter_all p (x ∷ xs) h = rw (h x) (ap (λ r. x ∷ r) (filter_all p xs h))
 
-filter_like : {X : Type 0} (p q : X → Bool) (xs : List X) → ((x : X) → p x ≡ q x) → filter p xs ≡ filter q xs
-filter_like p q [] h = refl
-filter_like p q (x ∷ xs) h = λ i. cond (h x i) (x ∷ filter_like p q xs h i) (filter_like p q xs h i)
-
 -- the entries under a label, beside a path that begins with it, with a greater one and with a smaller one
 under_same : (m : ℕ) (q : List ℕ) (es : List Entry) → filter (since (m ∷ q)) (map (under m) es) ≡ map (under m) (filter (since q) es)
 under_same m q es =
     filter-map (under m) (since (m ∷ q)) es
-    ∙ ap (map (under m)) (filter_like (λ e. since (m ∷ q) (under m e)) (since q) es (λ e. ap (λ o. is_ge (ordering_then o (slice_cmp nat_cmp e.0 q))) (cmp_same m)))
+    ∙ ap (map (under m)) (filter-same (λ e. since (m ∷ q) (under m e)) (since q) es (λ e. ap (λ o. is_ge (ordering_then o (slice_cmp nat_cmp e.0 q))) (cmp_same m)))
 
 under_lower : (l m : ℕ) (q : List ℕ) (es : List Entry) → l < m → filter (since (m ∷ q)) (map (under l) es) ≡ []
 under_lower l m q es h =
@@ -69,10 +63,6 @@ all_higher m q (child l n below rest) a =
     filter-append (since (m ∷ q)) (map (under l) es) (walk_forest rest)
     ∙ ap (λ (x : List Entry). x ++ filter (since (m ∷ q)) (walk_forest rest)) (under_higher l m q es a.0)
     ∙ ap (λ (x : List Entry). map (under l) es ++ x) (all_higher m q rest a.1)
-
-above_less : (low high : ℕ) (f : Forest) → low < high → AllAbove high f → AllAbove low f
-above_less low high none h a = tt
-above_less low high (child l n below rest) h a = (omega (arith, a.0), above_less low high rest h a.1)
 
 above_has : (low : ℕ) (f : Forest) (m : ℕ) → AllAbove low f → has_label f m ≡ true → low < m
 above_has low none m a h = absurd (cc)
@@ -105,7 +95,7 @@ since_lacks : (m : ℕ) (q : List ℕ) (f : Forest) → IsAscending f → has_la
 since_lacks m q none s h = refl
 since_lacks m q (child l n below rest) s h =
     (elim (ltb m l) as (λ b. ltb m l ≡ b → filter (since (m ∷ q)) (walk_forest (child l n below rest)) ≡ walk_forest (cond b (child l n below rest) (siblings_above rest m))) [
-      | true ↦ λ e. let higher : m < l = ltb-true m l e in all_higher m q (child l n below rest) (higher, above_less m l rest higher s.0)
+      | true ↦ λ e. let higher : m < l = ltb-true m l e in all_higher m q (child l n below rest) (higher, all_above_more m l rest higher s.0)
       | false ↦ λ e.
           let most : l ≤ m = ltb-false m l e in
           (elim (eqb_tells l m) as (λ _. filter (since (m ∷ q)) (walk_forest (child l n below rest)) ≡ walk_forest (siblings_above rest m)) [
@@ -142,15 +132,6 @@ pub behind_none : (es : List Entry) → es ≡ map (behind_path []) es
 behind_none [] = refl
 behind_none (e ∷ es) = ap (λ r. e ∷ r) (behind_none es)
 
-visits_none : (vs : List Visit) → map (visit_from []) vs ≡ vs
-visits_none [] = refl
-visits_none (v ∷ vs) = ap (λ r. v ∷ r) (visits_none vs)
-
-below_entries : (f : Forest) → visited_entries (visits_below f) ≡ walk_forest f
-below_entries f =
-    ap visited_entries (sym (append-nil (map (visit_from []) (visits_below f)) ∙ visits_none (visits_below f)))
-    ∙ sym (walk_visits (record { number = None; children = f }))
-
 seen_entries : (p : List ℕ) (vs : List Visit) → visited_entries (map (visit_from p) vs) ≡ map (behind_path p) (visited_entries vs)
 seen_entries p [] = refl
 seen_entries p (v ∷ vs) =
@@ -163,7 +144,7 @@ seen_entries p (v ∷ vs) =
 level : (p : List ℕ) (f : Forest) (later : List Visit) → visited_entries (map (visit_from p) (visits_below f) ++ later) ≡ map (behind_path p) (walk_forest f) ++ visited_entries later
 level p f later =
     filter_map-append (λ (v : Visit). option_map (λ (x : ℤ). (v.0, x)) v.1) (map (visit_from p) (visits_below f)) later
-    ∙ ap (λ (x : List Entry). x ++ visited_entries later) (seen_entries p (visits_below f) ∙ ap (map (behind_path p)) (below_entries f))
+    ∙ ap (λ (x : List Entry). x ++ visited_entries later) (seen_entries p (visits_below f) ∙ ap (map (behind_path p)) (entries_below f))
 
 has_last : (t : Tree) (w : List ℕ) (l : ℕ) → HasPath t (w ++ l ∷ []) → HasPath t w × (has_label (node_at t w).children l ≡ true)
 has_last t [] l h = (tt, h.0)
@@ -217,9 +198,6 @@ since_missing t up m q s on lacks =
     ∙ ap (λ (x : List Entry). map (behind_path p) x ++ visited_entries (visits_after t up)) (tree_since m q (node_up t up) ∙ since_lacks m q f (subst IsAscending (at_up t up) (ascending_at t p s)) lacks)
     ∙ sym (level p (siblings_above f m) (visits_after t up))
 
-behind_here : (l : ℕ) (n : Option ℤ) (below rest : Forest) → behind (child l n below rest) l ≡ rest
-behind_here l n below rest = rw (eq-eqb l l refl) refl
-
 -- ---- from sibling to sibling, to the first above a label
 
 last_first : (f g : Forest) (c : ℕ) (n : Option ℤ) (below rest : Forest) → IsSoundBelow f → AreLast f g → g ≡ child c n below rest
@@ -263,7 +241,7 @@ above_on f m next s ascends a some most = by_rest a.rest refl
         let found = last_first f a.rest c n below rest s a.last e in
         let behind_is : behind f next ≡ rest = ap (behind f) is ∙ found.2 in
         let up : IsAscending (child c n below rest) = subst IsAscending e (last_ascend f a.rest ascends a.last) in
-        let passed : siblings_above (child c n below rest) m ≡ siblings_above rest m = ap (λ b. cond b (child c n below rest) (siblings_above rest m)) (not_lt m c (omega (arith, most, is))) in (
+        let passed : siblings_above (child c n below rest) m ≡ siblings_above rest m = ap (λ b. cond b (child c n below rest) (siblings_above rest m)) (le-ltb m c (omega (arith, most, is))) in (
           record {
             rest = behind f next;
             last = inr (next, ap (has_label f) is ∙ found.0, refl);
@@ -307,7 +285,7 @@ above_first t up m next s a higher = by_rest a.rest refl
     by_rest (child c n below rest) e =
         let is : next ≡ c = a.first ∙ ap first_sibling_label e in
         let found = last_first (node_up t up).children a.rest c n below rest s a.last e in
-        let kept : siblings_above (child c n below rest) m ≡ child c n below rest = ap (λ b. cond b (child c n below rest) (siblings_above rest m)) (ltb-from_lt m c (omega (arith, higher, is))) in
+        let kept : siblings_above (child c n below rest) m ≡ child c n below rest = ap (λ b. cond b (child c n below rest) (siblings_above rest m)) (lt-ltb m c (omega (arith, higher, is))) in
         let all : siblings_above (node_up t up).children m ≡ a.rest = a.same ∙ ap (λ g. siblings_above g m) e ∙ kept ∙ sym e in
         let number : n ≡ (subtree (node_up t up).children next).number = ap (λ (u : Tree). u.number) (sym found.1) ∙ ap (λ x. (subtree (node_up t up).children x).number) (sym is) in
         ap (λ g. map (visit_from (forwards up)) (visits_below g) ++ visits_after t up) all

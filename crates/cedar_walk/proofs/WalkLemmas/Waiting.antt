@@ -4,9 +4,9 @@ use Rattle.std.specs.Prelude.{pos, unsigned_abs, cond, get_or, length, set, bit_
 use Rattle.std.proofs.lemmas.Bool.Decides.{eqb_tells}
 use Rattle.std.proofs.lemmas.List.{get_or-set_other, get_or-set_same}
 use Rattle.std.proofs.lemmas.Nat.{xor_comm}
-use Rattle.cedar_tree.specs.Queries.{node_at}
-use Rattle.cedar_tree.specs.Tree.{has_label}
-use Rattle.cedar_tree.specs.Walks.{visited_entries}
+use Rattle.cedar_model.specs.Queries.{node_at}
+use Rattle.cedar_model.specs.Tree.{has_label}
+use Rattle.cedar_model.specs.Walks.{visited_entries}
 use Rattle.cedar_walk.specs.declared.pending.PendingSibling.{PendingSibling}
 use Rattle.cedar_walk.specs.declared.visits.Place.{Place}
 use Rattle.cedar_model.specs.Table.Cells.{Cells}

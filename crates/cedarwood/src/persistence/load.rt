@@ -1,7 +1,8 @@
 //! How a dictionary is loaded: from a watched reader, or from bytes in memory.
 
-ghost use Rattle.std.specs.Prelude.{◌*◌, ◌+◌};
-ghost use Rattle.cedarwood.specs.Words.{CountsWithin, default_load_limit, IsLimit, layout_byte, LoadsBy, need, TellsBreaks};
+ghost use Rattle.std.specs.Prelude.{◌*◌, ◌+◌, ◌≡◌, IfOk};
+ghost use Rattle.cedarwood.specs.Words.{CountsWithin, default_load_limit, IsLimit, layout_byte};
+ghost use Rattle.cedarwood.specs.Words.{LoadsBy, need, no_search_limit, TellsBreaks};
 
 use crate::counted::load_uncounted;
 use crate::{CedarPersistenceError, DEFAULT_LOAD_MEMORY_LIMIT, Layout, Source, Ticks, Trie};
@@ -48,13 +49,20 @@ impl<L: Layout, const SLOTS: usize, A: Allocator + Copy> Trie<L, SLOTS, A> {
         //  load_from_reader; by TellsBreaks]
         ensures told { TellsBreaks (S.broken reader.old) (S.broken reader.new) result }
 
+        //= A file has no search limit: nothing bounds the searches of what was loaded. [also load_from_reader_with_limit, load_from_reader,
+        //  load_from_path_with_limit, load_from_path]
+        ensures unbounded { IfOk result (λ trie. trie.search_limit ≡ no_search_limit) }
+
         //= By its counts, before the header has passed it allocates nothing and reads no record for the table's test. Then it allocates at
         //  most the need, and makes at most sixteen reads a slot and 1024 more. [with reads]
         ensures asked { CountsWithin (layout_byte L.kind) SLOTS memory_limit (S.remaining reader.old) need asked.old asked.new }
         ensures reads { CountsWithin (layout_byte L.kind) SLOTS memory_limit (S.remaining reader.old) (λ h. 16 * h.capacity + 1024) reads.old reads.new }
     {
         let table = load_table(alloc, reader, memory_limit, asked, reads)?;
-        Ok(Trie { table })
+        Ok(Trie {
+            table,
+            search_limit: usize::MAX,
+        })
     }
 
     /// Loads the dictionary that was saved, if it needs at most `memory_limit` bytes of memory. It allocates from `alloc`. A reader is
@@ -76,6 +84,7 @@ impl<L: Layout, const SLOTS: usize, A: Allocator + Copy> Trie<L, SLOTS, A> {
         requires limit { IsLimit SLOTS }
         ensures loads { LoadsBy (λ trie. trie.table) L.kind SLOTS memory_limit (S.remaining reader.old) (S.remaining reader.new) (S.failed reader.new) result }
         ensures told { TellsBreaks (S.broken reader.old) (S.broken reader.new) result }
+        ensures unbounded { IfOk result (λ trie. trie.search_limit ≡ no_search_limit) }
     {
         load_uncounted::<Brand, Brand, Self, A, S>(
             alloc,
@@ -106,6 +115,7 @@ impl<L: Layout, const SLOTS: usize, A: Allocator + Copy> Trie<L, SLOTS, A> {
         requires limit { IsLimit SLOTS }
         ensures loads { LoadsBy (λ trie. trie.table) L.kind SLOTS default_load_limit (S.remaining reader.old) (S.remaining reader.new) (S.failed reader.new) result }
         ensures told { TellsBreaks (S.broken reader.old) (S.broken reader.new) result }
+        ensures unbounded { IfOk result (λ trie. trie.search_limit ≡ no_search_limit) }
     {
         Self::load_from_reader_with_limit(alloc, reader, DEFAULT_LOAD_MEMORY_LIMIT)
     }

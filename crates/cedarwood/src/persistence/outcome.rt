@@ -27,7 +27,7 @@ pub struct SaveFailed {
 
 impl SaveFailed {
     /// A fault before a new file was written whole.
-    pub(crate) fn unwritten(error: CedarPersistenceError) -> SaveFailed
+    pub(crate) fn before_write(error: CedarPersistenceError) -> SaveFailed
         requires fault { FailsToWrite error }
         ensures fault { FailsToWrite result.error }
         ensures none { result.calls ≡ None }

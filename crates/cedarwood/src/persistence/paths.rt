@@ -1,6 +1,10 @@
 //! Files by their paths, through a buffer.
 
-ghost use Rattle.cedarwood.specs.Words.{default_load_limit, FailsToWrite, IfErr, IfOk, IsLimit, IsSavedAt, IsTableFile, IsUnsavedAt, IsWellFormed, LacksByPath, layout_byte, LoadsOpened, OnOk, PassesAgain, table_bytes};
+ghost use Rattle.std.specs.Prelude.{◌≡◌};
+ghost use Rattle.cedarwood.specs.Words.{default_load_limit, FailsToWrite, IfErr, IfOk, IsLimit};
+ghost use Rattle.cedarwood.specs.Words.{IsSavedAt, IsTableFile, IsUnsavedAt, IsWellFormed};
+ghost use Rattle.cedarwood.specs.Words.{LacksByPath, layout_byte, LoadsOpened, no_search_limit};
+ghost use Rattle.cedarwood.specs.Words.{OnOk, PassesAgain, table_bytes};
 
 use crate::persistence::replace::no_room;
 use crate::{
@@ -34,8 +38,8 @@ impl<L: Layout, const SLOTS: usize, A: Allocator + Copy> Trie<L, SLOTS, A> {
     /// `Io` if a call on a file failed, if the new one's path would have more than 4095 bytes, or if all its hundred names are taken;
     /// `AllocationFailed` with 8192 if there is no memory for the buffer, which is allocated once the new file is made.
     pub fn save_to_path<F: Files>(&self, files: &F, path: &str) -> Result<(), CedarPersistenceError>
-        //= A save to a path fails only with `Io`, or with `AllocationFailed` of the 8192 bytes of its buffer. [also save_v1_0_to_path; by
-        //  FailsToWrite]
+        //= A save to a path fails only with `Io`, or with `AllocationFailed` of the 8192 bytes of its buffer. [also
+        //  save_v1_0_to_path, save_to_path_noted, save_v1_0_to_path_noted; by FailsToWrite]
         ensures err { IfErr result FailsToWrite }
 
         // What was done at the path this result can't name: that of `save_to_path_noted` does.
@@ -48,7 +52,7 @@ impl<L: Layout, const SLOTS: usize, A: Allocator + Copy> Trie<L, SLOTS, A> {
         }
     }
 
-    /// `save_to_path`, which tells what it did: proofs about a caller can go by the calls that were made.
+    /// `save_to_path`, which returns what it did: proofs about a caller can go by the calls that were made.
     ///
     /// ```
     /// match cedar.save_to_path_noted(files, "words.cedar") {
@@ -148,6 +152,7 @@ impl<L: Layout, const SLOTS: usize, A: Allocator + Copy> Trie<L, SLOTS, A> {
         //= In a load by path, lack of memory is of the buffer's 8192 bytes, or of one of the four lists of a header that has passed, under
         //  the limit that the load was given. [also load_from_path; by LacksByPath]
         ensures lacks { IfErr result (LacksByPath (layout_byte L.kind) SLOTS memory_limit) }
+        ensures unbounded { IfOk result (λ trie. trie.search_limit ≡ no_search_limit) }
     {
         let file = File::open(files, path)?;
         Self::load_opened(alloc, file, memory_limit)
@@ -162,9 +167,10 @@ impl<L: Layout, const SLOTS: usize, A: Allocator + Copy> Trie<L, SLOTS, A> {
         requires limit { IsLimit SLOTS }
 
         //= A load by path does with the file that it has opened, from its first byte on, what a load from a reader promises: a table comes
-        //  only with just the file's bytes, as far as they are known, and these decide the answer; or there was no memory for the buffer.
+        //  only with just the file's bytes, as far as they are known, and these decide the result; or there was no memory for the buffer.
         //  No contract of the system's files says which bytes these are. [by LoadsOpened]
         ensures loads { LoadsOpened (λ trie. trie.table) L.kind SLOTS memory_limit (R.remaining file) result }
+        ensures unbounded { IfOk result (λ trie. trie.search_limit ≡ no_search_limit) }
     {
         let Ok(buffered) = BufReader::new(alloc, file) else {
             return Err(no_room());
@@ -190,6 +196,7 @@ impl<L: Layout, const SLOTS: usize, A: Allocator + Copy> Trie<L, SLOTS, A> {
         requires limit { IsLimit SLOTS }
         ensures formed { IfOk result (λ trie. IsWellFormed SLOTS trie.table) }
         ensures lacks { IfErr result (LacksByPath (layout_byte L.kind) SLOTS default_load_limit) }
+        ensures unbounded { IfOk result (λ trie. trie.search_limit ≡ no_search_limit) }
     {
         Self::load_from_path_with_limit(alloc, files, path, DEFAULT_LOAD_MEMORY_LIMIT)
     }

@@ -4,7 +4,9 @@ ghost use Rattle.std.specs.Prelude.{◌≡◌, ◌++◌, IfErr, IfOk, None, OnOk
 ghost use Rattle.cedar_disk.specs.PathFiles.{path_calls};
 ghost use Rattle.cedar_disk.specs.SpecialFiles.{sent_calls, special_told};
 ghost use Rattle.cedar_disk.specs.Words.{IsPlaced, told_after};
-ghost use Rattle.cedarwood.specs.Words.{AllocationFailed, Appends, FailsToWrite, IsSavedAt, IsTableFile, IsUnsavedAt, IsVersion, PassesAgain, table_bytes};
+ghost use Rattle.cedarwood.specs.Words.{AllocationFailed, Appends, FailsToWrite, IsSavedAt};
+ghost use Rattle.cedarwood.specs.Words.{IsTableFile, IsUnsavedAt, IsVersion, PassesAgain};
+ghost use Rattle.cedarwood.specs.Words.{table_bytes};
 
 use crate::persistence::unplaced::Unplaced;
 use crate::{CedarPersistenceError, Layout, SaveFailed, Saved, Trie, Watched};
@@ -35,7 +37,7 @@ impl<L: Layout, const SLOTS: usize, A: Allocator + Copy> Trie<L, SLOTS, A> {
         match special_at(files, path) {
             Ok(Some(special)) => Ok(Saved::Sent(self.send(special, minor)?)),
             Ok(None) => Ok(Saved::Placed(self.save_in_place(files, path, minor)?)),
-            Err(error) => Err(SaveFailed::unwritten(CedarPersistenceError::Io(error))),
+            Err(error) => Err(SaveFailed::before_write(CedarPersistenceError::Io(error))),
         }
     }
 
@@ -56,7 +58,7 @@ impl<L: Layout, const SLOTS: usize, A: Allocator + Copy> Trie<L, SLOTS, A> {
         let new = Unplaced::beside(files, path)?;
         match self.write_buffered(new, minor) {
             Ok(whole) => whole.put_in_place(),
-            Err(fault) => Err(SaveFailed::unwritten(told(fault))),
+            Err(fault) => Err(SaveFailed::before_write(persistence_error(fault))),
         }
     }
 
@@ -71,7 +73,7 @@ impl<L: Layout, const SLOTS: usize, A: Allocator + Copy> Trie<L, SLOTS, A> {
     {
         match self.write_buffered(special, minor) {
             Ok(whole) => Ok(whole.into_sent()),
-            Err(fault) => Err(SaveFailed::unwritten(told(fault))),
+            Err(fault) => Err(SaveFailed::before_write(persistence_error(fault))),
         }
     }
 
@@ -115,7 +117,7 @@ fn fault_of(error: CedarPersistenceError) -> Unwritten {
 }
 
 /// As an error of the dictionary's files.
-fn told(fault: Unwritten) -> CedarPersistenceError
+fn persistence_error(fault: Unwritten) -> CedarPersistenceError
     ensures { FailsToWrite result }
 {
     match fault {
@@ -124,7 +126,7 @@ fn told(fault: Unwritten) -> CedarPersistenceError
     }
 }
 
-/// What is told where there is no memory for a buffer.
+/// What is returned where there is no memory for a buffer.
 pub(crate) fn no_room() -> CedarPersistenceError
     ensures { result ≡ AllocationFailed 8192 }
 {

@@ -1,7 +1,8 @@
 //! How a dictionary is saved.
 
 ghost use Rattle.std.specs.Prelude.{◌≡◌, IfErr, OnOk, true};
-ghost use Rattle.cedarwood.specs.Words.{Appends, device_of, has_failed, IsIo, IsTableFile, PassesAgain, table_bytes};
+ghost use Rattle.cedarwood.specs.Words.{Appends, device_of, has_failed, IsIo, IsTableFile};
+ghost use Rattle.cedarwood.specs.Words.{PassesAgain, table_bytes};
 
 use crate::{CedarPersistenceError, Layout, Trie, Watched};
 use cedar_file::write_table;
@@ -30,7 +31,8 @@ impl<L: Layout, const SLOTS: usize, A: Allocator + Copy> Trie<L, SLOTS, A> {
         ensures bytes { OnOk result (Appends (W.contents (device_of writer.old)) (W.contents (device_of writer.new)) (table_bytes 1 self.now.table)) }
 
         //= The bytes that a save writes are the file of a well-formed table, which passes all steps of a load except those on memory, under
-        //  a limit of at least its need. [with passes; also save_v1_0_to_writer, save_to_path, save_v1_0_to_path]
+        //  a limit of at least its need. [with passes; also save_v1_0_to_writer, save_to_path, save_v1_0_to_path,
+        //  save_to_path_noted, save_v1_0_to_path_noted]
         ensures file { OnOk result (IsTableFile 1 SLOTS self.now.table (table_bytes 1 self.now.table)) }
         ensures passes { OnOk result (PassesAgain L.kind SLOTS 1 self.now.table) }
 

@@ -26,7 +26,7 @@ impl<'a, F: Files> Unplaced<'a, F> {
     {
         match NewFile::beside(files, path) {
             Ok(file) => Ok(Unplaced { file }),
-            Err(error) => Err(SaveFailed::unwritten(CedarPersistenceError::Io(error))),
+            Err(error) => Err(SaveFailed::before_write(CedarPersistenceError::Io(error))),
         }
     }
 
@@ -48,7 +48,7 @@ impl<'a, F: Files> Unplaced<'a, F> {
 }
 
 impl<F: Files> Write for Unplaced<'_, F> {
-    // The path stands before what was written: so whoever wrote through a buffer knows still whose place it is to take.
+    // The path comes before what was written: so whoever wrote through a buffer knows still whose place it is to take.
     ghost contents = { λ new. Some (address (new_path new.file) ++ new_bytes new.file) };
 
     fn write(&mut self, buf: &[u8]) -> io::Result<usize> {

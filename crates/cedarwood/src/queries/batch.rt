@@ -11,7 +11,7 @@ use std::sync::ledger::Blank;
 
 impl<L: Layout, const SLOTS: usize, A: Allocator + Copy> Trie<L, SLOTS, A> {
     /// Looks up many keys: `answers[i]` becomes what [`Trie::exact_match_search_bytes`] returns for `keys[i]`, for as many keys as there
-    /// are places; places after the last key stay as they are. It allocates nothing.
+    /// are elements; elements after the last key stay as they are. It allocates nothing.
     ///
     /// A few keys are looked up in step, so that their waits for memory can overlap if the table is large and the keys come in no order.
     ///
@@ -23,8 +23,8 @@ impl<L: Layout, const SLOTS: usize, A: Allocator + Copy> Trie<L, SLOTS, A> {
     /// assert_eq!(rt; answers, [Some((7, 3)), None]);
     /// ```
     pub fn exact_match_search_batch(&self, keys: &[&[u8]], answers: &mut [Option<(i32, usize)>])
-        //= Look-ups of many keys in one call: result i is `exact` of the tree and key i, for as many keys as there are places for results.
-        //  Places after the last key don't change.
+        //= Look-ups of many keys in one call: result i is `exact` of the tree and key i, for as many keys as there are elements for
+        //  results. Elements after the last key don't change.
         ensures { answers.new ≡ map (exact self.now.state.tree) (take (length answers.old) (keys_of keys.now)) ++ drop (length keys.now) answers.old }
     {
         search_batch_uncounted::<Brand, Self, A>(self, keys, answers, Blank::new(1));

@@ -65,6 +65,8 @@ impl<L: Layout, const SLOTS: usize, A: Allocator + Copy> Trie<L, SLOTS, A> {
         //= A prefix walk that counts gives `front` of the tree too, and counts from 0 on. [with ticks; also CountedPrefixIter.next_gives]
         ensures rest { result.rest ≡ front self.now.state.tree query.now }
         ensures ticks { result.ticks ≡ 0 }
+
+        //= The walk knows how many bytes its query has.
         ensures query { result.query ≡ length query.now }
     {
         CountedPrefixIter::new(self.common_prefix_iter_bytes(query), blank)

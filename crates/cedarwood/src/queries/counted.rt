@@ -1,7 +1,8 @@
 //! The prefix walk with a count of its own.
 
 ghost use Rattle.std.specs.Prelude.{◌*◌, ◌+◌, ◌≡◌, ◌≤◌};
-ghost use Rattle.cedarwood.specs.Words.{counted_walk_code, CountedWalk, IsBlankOf, item_count, YieldsFirst};
+ghost use Rattle.cedarwood.specs.Words.{counted_walk_code, CountedWalk, IsBlankOf};
+ghost use Rattle.cedarwood.specs.Words.{item_count, YieldsFirst};
 
 use crate::Ticks;
 use crate::queries::prefix::PrefixIter;

@@ -1,7 +1,11 @@
 //! A cursor over the entries of a range, which lends their keys.
 
-ghost use Rattle.std.specs.Prelude.{◌<◌, ◌∷◌, ◌≡◌, ◌≤◌, [], IfErr, IfOk, length, List, MatchOption, OnErr, option_map, Some, vec_capacity, ℕ};
-ghost use Rattle.cedarwood.specs.Words.{Cursor, cursor_code, cursor_entries, cursor_left, FindsNext, IsAtEnd, IsCursorEnd, IsCursorPlace, IsRangePlace, IsShortOf, IsWellFormed, KeyOutgrows, place_before, WritesNextKey};
+ghost use Rattle.std.specs.Prelude.{◌<◌, ◌∷◌, ◌≡◌, ◌≤◌, [], IfErr, IfOk, length, List, MatchOption};
+ghost use Rattle.std.specs.Prelude.{OnErr, option_map, Some, vec_capacity, ℕ};
+ghost use Rattle.cedarwood.specs.Words.{Cursor, cursor_code, cursor_entries, cursor_left};
+ghost use Rattle.cedarwood.specs.Words.{FindsNext, IsAtEnd, IsCursorEnd, IsCursorPlace};
+ghost use Rattle.cedarwood.specs.Words.{IsRangePlace, IsShortOf, IsWellFormed, KeyOutgrows};
+ghost use Rattle.cedarwood.specs.Words.{place_before, WritesNextKey};
 
 use crate::CedarError;
 use crate::queries::ranged::{RangeEntries, ends_at, write_key};

@@ -1,6 +1,7 @@
 //! The first entry and the last one.
 
-ghost use Rattle.std.specs.Prelude.{◌<◌, ◌≡◌, ◌≤◌, [], IfErr, IfOk, IfSome, length, MatchOption, OnErr, Some, vec_capacity};
+ghost use Rattle.std.specs.Prelude.{◌<◌, ◌≡◌, ◌≤◌, [], IfErr, IfOk, IfSome, length};
+ghost use Rattle.std.specs.Prelude.{MatchOption, OnErr, Some, vec_capacity};
 ghost use Rattle.cedarwood.specs.Words.{first_entry, KeyOutgrows, last_entry, walk};
 
 use crate::queries::ranged::write_key;

@@ -1,7 +1,10 @@
 //! All keys and their values.
 
-ghost use Rattle.std.specs.Prelude.{◌<◌, ◌↔◌, ◌∷◌, ◌≡◌, [], IfOk, IfSome, IsTrue, length, List, MatchOption, MatchResult, Some, string_bytes};
-ghost use Rattle.cedarwood.specs.Words.{entries_from, Entry, GoesToCopied, GoesToEntry, IsEntriesPlace, IsEntryError, IsWellFormed, IsWithinCount, item_count, Memory, tree_of, UpTo, walk};
+ghost use Rattle.std.specs.Prelude.{◌<◌, ◌↔◌, ◌∷◌, ◌≡◌, [], IfOk, IfSome, IsTrue, length, List};
+ghost use Rattle.std.specs.Prelude.{MatchOption, MatchResult, Some, string_bytes};
+ghost use Rattle.cedarwood.specs.Words.{entries_from, Entry, GoesToCopied, GoesToEntry};
+ghost use Rattle.cedarwood.specs.Words.{IsEntriesPlace, IsEntryError, IsWellFormed, IsWithinCount};
+ghost use Rattle.cedarwood.specs.Words.{item_count, Memory, tree_of, UpTo, walk};
 
 use crate::CedarError;
 use crate::queries::walked::Walked;
@@ -149,6 +152,8 @@ impl<'a, T: Walked, A: Allocator + Copy> Iterator for Entries<'a, T, A> {
     }
 
     fn size_hint(&self) -> (usize, Option<usize>)
+        //= How many items are left is within the size hint of each iteration. [with upper; also Utf8Entries::size_hint,
+        //  PrefixPredictIter::size_hint, PrefixIter::size_hint, RangeEntries::size_hint]
         ensures lower { IsWithinCount result.0 (item_count (λ (rest : List Entry). rest) self.now) }
         ensures upper { IfSome result.1 (UpTo (item_count (λ (rest : List Entry). rest) self.now)) }
         ensures hint { result ≡ (0, Some (length self.now)) }
@@ -180,7 +185,7 @@ fn next_copied<T: Walked, A: Allocator + Copy>(
 /// Why a text entry can't be given.
 #[derive(Clone, Copy, Debug, PartialEq, Eq)]
 pub enum EntryError {
-    /// The key isn't UTF-8. It has neither the key nor its value nor its place: [`Trie::entries`](crate::Trie::entries) gives each key as
+    /// The key isn't UTF-8. It has neither the key nor its value nor its index: [`Trie::entries`](crate::Trie::entries) gives each key as
     /// bytes.
     Utf8,
     /// An allocation was refused.

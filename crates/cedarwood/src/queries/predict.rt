@@ -1,7 +1,9 @@
 //! The prediction: the values of all keys that begin with a query.
 
 ghost use Rattle.std.specs.Prelude.{◌≡◌, [], IfSome, List, MatchOption, None, ℕ, ℤ, ⊤};
-ghost use Rattle.cedarwood.specs.Words.{GoesOnTo, IsPredictPlace, IsWellFormed, IsWithinCount, item_count, predict, predicted_from, tree_of, UpTo, YieldsFirst};
+ghost use Rattle.cedarwood.specs.Words.{GoesOnTo, IsPredictPlace, IsWellFormed};
+ghost use Rattle.cedarwood.specs.Words.{IsWithinCount, item_count, predict, predicted_from};
+ghost use Rattle.cedarwood.specs.Words.{tree_of, UpTo, YieldsFirst};
 
 use crate::queries::walked::Walked;
 use cedar_walk::{Numbered, PendingSiblings};

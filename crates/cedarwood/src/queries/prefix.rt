@@ -1,7 +1,9 @@
 //! The prefix walk: the values of the keys that a query begins with.
 
 ghost use Rattle.std.specs.Prelude.{◌*◌, ◌+◌, ◌-◌, ◌≡◌, ◌≤◌, IfSome, length, Some, ⊤};
-ghost use Rattle.cedarwood.specs.Words.{front, front_from, IsBlankOf, IsPrefixPlace, IsWellFormed, IsWithinCount, item_count, MakesProgress, prefix_walk_code, PrefixWalk, tree_of, UpTo, YieldsFirst};
+ghost use Rattle.cedarwood.specs.Words.{front, front_from, IsBlankOf, IsPrefixPlace, IsWellFormed};
+ghost use Rattle.cedarwood.specs.Words.{IsWithinCount, item_count, MakesProgress, prefix_walk_code};
+ghost use Rattle.cedarwood.specs.Words.{PrefixWalk, tree_of, UpTo, YieldsFirst};
 
 use crate::Ticks;
 use crate::queries::walked::Walked;

@@ -1,7 +1,13 @@
 //! The entries of a range of keys: those that begin with a prefix, those from a key on, and those between two keys.
 
-ghost use Rattle.std.specs.Prelude.{◌++◌, ◌+◌, ◌<◌, ◌↔◌, ◌∷◌, ◌≡◌, ◌≤◌, [], false, IfErr, IfOk, IfSome, IsTrue, length, List, MatchOption, MatchResult, OnErr, option_map, Some, true, vec_capacity};
-ghost use Rattle.cedarwood.specs.Words.{bounded, entries_between, entries_since, entries_with, Entry, GivesBetween, GivesRange, is_lt, IsEnd, IsNumberedBelow, IsRangePlace, IsWellFormed, IsWithinCount, item_count, KeyOutgrows, Memory, nat_cmp, Numbered, path_to, slice_cmp, tree_of, UpTo};
+ghost use Rattle.std.specs.Prelude.{◌++◌, ◌+◌, ◌<◌, ◌↔◌, ◌∷◌, ◌≡◌, ◌≤◌, [], false, IfErr, IfOk};
+ghost use Rattle.std.specs.Prelude.{IfSome, IsTrue, length, List, MatchOption, MatchResult, OnErr};
+ghost use Rattle.std.specs.Prelude.{option_map, Some, true, vec_capacity};
+ghost use Rattle.cedarwood.specs.Words.{entries_between, entries_left_before, entries_since};
+ghost use Rattle.cedarwood.specs.Words.{entries_with, Entry, GivesBetween, GivesRange, is_lt};
+ghost use Rattle.cedarwood.specs.Words.{IsEnd, IsNumberedBelow, IsRangePlace, IsWellFormed};
+ghost use Rattle.cedarwood.specs.Words.{IsWithinCount, item_count, KeyOutgrows, Memory, nat_cmp};
+ghost use Rattle.cedarwood.specs.Words.{Numbered, path_to, slice_cmp, tree_of, UpTo};
 
 use crate::queries::walked::Walked;
 use crate::{CedarError, Layout, Trie};
@@ -31,7 +37,7 @@ pub struct RangeEntries<'a, T: Walked, A: Allocator + Copy> {
 impl<'a, T: Walked, A: Allocator + Copy> Model for RangeEntries<'a, T, A> {
     ghost Value = { List Entry };
 
-    ghost view = { λ it. bounded (T.shown it.trie.now) it.start.now (option_map (λ to. to.now) it.to) it.next };
+    ghost view = { λ it. entries_left_before (T.shown it.trie.now) it.start.now (option_map (λ to. to.now) it.to) it.next };
 
     ghost invariant = { λ it. IsWellFormed T.slots (T.shown it.trie.now) × IsRangePlace (T.shown it.trie.now) it.start.now it.next × IsRangePlace (T.shown it.trie.now) it.start.now it.end
         × IsEnd (T.shown it.trie.now) it.start.now (option_map (λ to. to.now) it.to) it.next it.end };

@@ -1,7 +1,12 @@
 //! What walks that are under way read of a dictionary.
 
-ghost use Rattle.std.specs.Prelude.{◌*◌, ◌++◌, ◌+◌, ◌-◌, ◌<◌, ◌≡◌, ◌≤◌, [], IfOk, IfSome, length, List, MatchOption, OnErr, take, true, vec_capacity, ℕ};
-ghost use Rattle.cedarwood.specs.Words.{cells_in, ComesToFirst, entries_since, Fields, front_length, GoesToNode, GoesToNumber, IsBelow, IsNextFront, IsNumberedBelow, IsOnQuery, IsPending, IsWellFormed, KeyGoesOn, NextKeyOutgrows, node_at, path_to, tree_of, walk};
+ghost use Rattle.std.specs.Prelude.{◌*◌, ◌++◌, ◌+◌, ◌-◌, ◌<◌, ◌≡◌, ◌≤◌, [], IfOk, IfSome, length};
+ghost use Rattle.std.specs.Prelude.{List, MatchOption, OnErr, take, true, vec_capacity, ℕ};
+ghost use Rattle.cedarwood.specs.Words.{cells_in, ComesToFirst, entries_since, Fields};
+ghost use Rattle.cedarwood.specs.Words.{front_length, GoesToNode, GoesToNumber, IsBelow};
+ghost use Rattle.cedarwood.specs.Words.{IsNextFront, IsNumberedBelow, IsOnQuery, IsPending};
+ghost use Rattle.cedarwood.specs.Words.{IsWellFormed, KeyGoesOn, NextKeyOutgrows, node_at, path_to};
+ghost use Rattle.cedarwood.specs.Words.{tree_of, walk};
 
 use crate::{Layout, Ticks, Trie};
 use cedar_walk::{

@@ -192,7 +192,7 @@ pub fn expect_saved<L: Layout>(
     Ok(())
 }
 
-/// Expects a file whose slots are all in use to load in either version, to this many used slots and this at `a`.
+/// Expects a file whose slots are all in use to load in either version, to this many held slots and this at `a`.
 pub fn expect_loaded<L: Layout>(
     rt: &impl Abort,
     alloc: Global,

@@ -3,7 +3,7 @@
 use crate::calls::runs::is_made;
 use crate::lists::{Tries, ask, change, run};
 use cedar_calls::{Answer, Call, Change, Changed, Question, Reply};
-use cedarwood::{CedarBuilder, CedarError, DefaultLayout, Layout, ReducedLayout};
+use cedarwood::{CedarBuilder, CedarError, DefaultLayout, Layout, MOST_SLOTS, ReducedLayout};
 use std::alloc::Global;
 use std::process::Abort;
 use std::test::Fail;
@@ -61,7 +61,7 @@ fn expect_answers(rt: &impl Abort, answers: &[Answer<Global>]) {
 
 #[tactic(auto, using(cedarwood::proofs::DictionaryLemmas::default_limit))]
 fn expect_batches<L: Layout>(rt: &impl Abort, alloc: Global) -> Result<(), Fail> {
-    let mut tries: Tries<L, 1073741824, Global> = Vec::new(alloc);
+    let mut tries: Tries<L, MOST_SLOTS, Global> = Vec::new(alloc);
     let answers = run(alloc, &mut tries, &calls())?;
     expect_answers(rt, &answers);
     Ok(())

@@ -2,7 +2,7 @@
 use crate::calls::runs::is_made;
 use crate::lists::{Tries, ask, change, run};
 use cedar_calls::{Answer, Call, Change, Changed, Question, Reply};
-use cedarwood::{CedarBuilder, DefaultLayout, Layout, ReducedLayout};
+use cedarwood::{CedarBuilder, DefaultLayout, Layout, MOST_SLOTS, ReducedLayout};
 use std::alloc::Global;
 use std::process::Abort;
 use std::test::Fail;
@@ -41,7 +41,7 @@ fn expect_answers(rt: &impl Abort, answers: &[Answer<Global>]) {
 
 #[tactic(auto, using(cedarwood::proofs::DictionaryLemmas::default_limit))]
 fn expect_drops<L: Layout>(rt: &impl Abort, alloc: Global) -> Result<(), Fail> {
-    let mut tries: Tries<L, 1073741824, Global> = Vec::new(alloc);
+    let mut tries: Tries<L, MOST_SLOTS, Global> = Vec::new(alloc);
     let answers = run(alloc, &mut tries, &calls())?;
     expect_answers(rt, &answers);
     assert!(rt; tries.is_empty());

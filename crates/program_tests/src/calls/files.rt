@@ -4,7 +4,7 @@ use crate::lists::{Tries, ask, change, run};
 use cedar_calls::{Answer, Call, Change, Question, Reply};
 use cedarwood::{
     CedarBuilder, CedarPersistenceError, DEFAULT_LOAD_MEMORY_LIMIT, DefaultLayout, Layout,
-    ReducedLayout,
+    MOST_SLOTS, ReducedLayout,
 };
 use std::alloc::Global;
 use std::process::Abort;
@@ -57,7 +57,7 @@ fn expect_answers(rt: &impl Abort, answers: &[Answer<Global>]) {
 
 #[tactic(auto, using(cedarwood::proofs::DictionaryLemmas::default_limit))]
 fn expect_files<L: Layout>(rt: &impl Abort, alloc: Global) -> Result<(), Fail> {
-    let mut tries: Tries<L, 1073741824, Global> = Vec::new(alloc);
+    let mut tries: Tries<L, MOST_SLOTS, Global> = Vec::new(alloc);
     let answers = run(alloc, &mut tries, &calls_before())?;
     let Some(Answer::Replied(Reply::Saved(Ok(bytes)))) = answers.last() else {
         panic!(rt; "other answers");

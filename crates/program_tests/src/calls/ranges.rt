@@ -1,8 +1,8 @@
 //! Look-ups and ranges within runs, in both layouts.
 use crate::calls::runs::is_made;
 use crate::lists::{Tries, ask, change, run};
-use cedar_calls::{Answer, Call, Change, Changed, Question, Reply};
-use cedarwood::{CedarBuilder, DefaultLayout, Layout, ReducedLayout};
+use cedar_calls::{Answer, Call, Change, Changed, Figure, Question, Reply};
+use cedarwood::{CedarBuilder, DefaultLayout, Layout, MOST_SLOTS, ReducedLayout};
 use std::alloc::Global;
 use std::process::Abort;
 use std::test::Fail;
@@ -10,7 +10,7 @@ use std::test::Fail;
 const PAIRS: [(&[u8], i32); 3] = [(b"a", 3), (b"ab", 4), (b"b", 5)];
 
 // Queries one dictionary whose labels ascend, and one whose labels don't.
-fn calls() -> [Call<'static>; 11] {
+fn calls() -> [Call<'static>; 13] {
     let settings = CedarBuilder::new();
     let pairs = &PAIRS;
     [
@@ -20,6 +20,13 @@ fn calls() -> [Call<'static>; 11] {
             pairs,
         },
         change(0, Change::Reserve { blocks: 3 }),
+        change(0, Change::SetSearchLimit { blocks: 2 }),
+        ask(
+            0,
+            Question::Figure {
+                figure: Figure::SearchLimit,
+            },
+        ),
         ask(0, Question::Get { key: b"ab" }),
         ask(0, Question::ContainsKey { key: b"abc" }),
         ask(0, Question::Longest { text: b"abc" }),
@@ -75,6 +82,8 @@ fn expect_answers(rt: &impl Abort, answers: &[Answer<Global>]) {
         one,
         other,
         reserved,
+        bounded,
+        limit,
         get,
         held,
         longest,
@@ -89,6 +98,8 @@ fn expect_answers(rt: &impl Abort, answers: &[Answer<Global>]) {
     };
     assert!(rt; is_made(one) && is_made(other));
     assert!(rt; matches!(reserved, Answer::Changed(Changed::Reserved(Ok(())))));
+    assert!(rt; matches!(bounded, Answer::Changed(Changed::SearchLimitSet)));
+    assert!(rt; matches!(limit, Answer::Replied(Reply::Figure(2))));
     expect_lookups(rt, get, held, longest);
     expect_listed(rt, with, &PAIRS[..2]);
     expect_listed(rt, from, &PAIRS[1..]);
@@ -99,7 +110,7 @@ fn expect_answers(rt: &impl Abort, answers: &[Answer<Global>]) {
 
 #[tactic(auto, using(cedarwood::proofs::DictionaryLemmas::default_limit))]
 fn expect_ranges<L: Layout>(rt: &impl Abort, alloc: Global) -> Result<(), Fail> {
-    let mut tries: Tries<L, 1073741824, Global> = Vec::new(alloc);
+    let mut tries: Tries<L, MOST_SLOTS, Global> = Vec::new(alloc);
     let answers = run(alloc, &mut tries, &calls())?;
     expect_answers(rt, &answers);
     Ok(())

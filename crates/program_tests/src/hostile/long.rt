@@ -3,7 +3,7 @@ use crate::hostile::runs::one;
 use crate::lists::{Full, change, empty, run};
 use cedar_calls::{Answer, Change, Changed};
 use cedar_cli::{ScriptError, run_script};
-use cedarwood::{DefaultLayout, Layout, ReducedLayout, Watched};
+use cedarwood::{DefaultLayout, Layout, MOST_SLOTS, ReducedLayout, Watched};
 use std::alloc::{AllocError, Global};
 use std::process::Abort;
 use std::test::Fail;
@@ -56,7 +56,7 @@ fn expect_script<L: Layout>(rt: &impl Abort, alloc: Global) -> Result<(), Fail> 
 #[tactic(auto, using(cedarwood::proofs::DictionaryLemmas::default_limit))]
 fn expect_calls<L: Layout>(rt: &impl Abort, alloc: Global) -> Result<(), Fail> {
     let key = vec![in alloc; b'a'; LEN]?;
-    let mut tries = one::<L, 1073741824, Global>(alloc)?;
+    let mut tries = one::<L, MOST_SLOTS, Global>(alloc)?;
     let calls = [
         change(
             0,

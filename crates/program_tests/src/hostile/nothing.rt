@@ -1,7 +1,7 @@
 //! Lists without an item in answers to a list of calls: they need no memory.
-use crate::lists::{Tries, ask, built, change};
+use crate::lists::{Tries, ask, build_new, change};
 use cedar_calls::{Call, Change, Question, reserve_for_calls, run_calls};
-use cedarwood::{CedarBuilder, DefaultLayout, Layout, ReducedLayout};
+use cedarwood::{CedarBuilder, DefaultLayout, Layout, MOST_SLOTS, ReducedLayout};
 use std::alloc::Global;
 use std::process::Abort;
 use std::test::Fail;
@@ -36,8 +36,8 @@ fn calls() -> [Call<'static>; 11] {
 #[tactic(auto, using(cedarwood::proofs::DictionaryLemmas::default_limit))]
 fn expect_no_request<L: Layout>(rt: &impl Abort, alloc: Global) -> Result<(), Fail> {
     let memory = Refusing::new(alloc);
-    let mut tries: Tries<L, 1073741824, &Refusing<Global>> = Vec::new(&memory);
-    let trie = built(&memory, CedarBuilder::new())?;
+    let mut tries: Tries<L, MOST_SLOTS, &Refusing<Global>> = Vec::new(&memory);
+    let trie = build_new(&memory, CedarBuilder::new())?;
     tries.push(trie)?;
     let asked = calls();
     let mut answers = reserve_for_calls(&mut tries, &memory, &asked)?;

@@ -2,9 +2,9 @@
 ghost use Rattle.cedarwood.specs.Words.{IsSlotLimit};
 
 use crate::hostile::state::{state_of, update};
-use crate::lists::{Tries, ask, built, change, run};
+use crate::lists::{Tries, ask, build_new, change, run};
 use cedar_calls::{Answer, Call, Change, Changed, Question, Reply};
-use cedarwood::{CedarBuilder, CedarError, DefaultLayout, Layout, ReducedLayout, Trie};
+use cedarwood::{CedarBuilder, CedarError, DefaultLayout, Layout, MOST_SLOTS, ReducedLayout, Trie};
 use std::alloc::{Allocator, Global};
 use std::process::Abort;
 use std::test::Fail;
@@ -51,7 +51,7 @@ pub(crate) fn one<L: Layout, const SLOTS: usize, A: Allocator + Copy>(
 ) -> Result<Tries<L, SLOTS, A>, Fail>
     requires { IsSlotLimit SLOTS }
 {
-    let mut trie = built(alloc, CedarBuilder::new())?;
+    let mut trie = build_new(alloc, CedarBuilder::new())?;
     update(&mut trie, b"z", 1)?;
     let mut tries = Vec::new(alloc);
     tries.push(trie)?;
@@ -94,8 +94,8 @@ fn are_alike<L: Layout, const SLOTS: usize, A: Allocator + Copy>(
 #[tactic(auto, using(cedarwood::proofs::DictionaryLemmas::default_limit))]
 fn is_refused<L: Layout>(rt: &impl Abort, alloc: Global, request: u64) -> Result<bool, Fail> {
     let memory = Refusing::new(alloc);
-    let mut tries = one::<L, 1073741824, &Refusing<Global>>(&memory)?;
-    let mut model = one::<L, 1073741824, Global>(alloc)?;
+    let mut tries = one::<L, MOST_SLOTS, &Refusing<Global>>(&memory)?;
+    let mut model = one::<L, MOST_SLOTS, Global>(alloc)?;
     memory.refuse(request, request);
     let answers = run(&memory, &mut tries, &calls());
     let is_refused = memory.requests() >= request;

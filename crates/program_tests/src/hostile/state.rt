@@ -2,7 +2,7 @@
 use cedarwood::{CedarError, Layout, Trie};
 use std::alloc::{AllocError, Allocator, Global};
 
-/// The keys' values in the order of the walk, each with its key's length, and how many slots are used. The values are
+/// The keys' values in the order of the walk, each with its key's length, and how many slots are held. The values are
 /// distinct in each test, so they show which keys are held.
 #[derive(Debug, PartialEq, Eq, Drop)]
 pub(crate) struct State {

@@ -1,6 +1,6 @@
 use Rattle.std.proofs.Common.{◌≡◌, ◌<◌, ◌+◌, ◌∙◌, [], ◌∷◌, ◌++◌, arith, rules, subst, sym, refl, inl, inr, take, get_or, length, List, ℕ, zero, suc, true, Some}
 use Rattle.std.proofs.lemmas.List.{take_more}
-use Rattle.cedar_tree.specs.Edits.{add_leaf, edit_at}
+use Rattle.cedar_model.specs.Edits.{add_leaf, edit_at}
 use Rattle.cedar_model.specs.Edit.NodeEdits.{Above}
 use Rattle.cedar_model.specs.Meaning.Family.{Among}
 use Rattle.cedar_model.specs.Meaning.StandsFor.{HoldsTree}

@@ -1,8 +1,8 @@
 use Rattle.std.proofs.Common.{◌≡◌, ◌∙◌, arith, FitsSigned, inl, of_z, refl, rules, Some, sym, ap, subst, to_z, w32}
 use Rattle.std.specs.Prelude.{IfSome, List, true, ℕ}
 use Rattle.std.proofs.lemmas.Int.{to_z-of_z}
-use Rattle.cedar_tree.specs.Tree.{Forest}
-use Rattle.cedar_tree.specs.Edits.{edit_at}
+use Rattle.cedar_model.specs.Tree.{Forest}
+use Rattle.cedar_model.specs.Edits.{edit_at}
 use Rattle.cedar_model.specs.declared.layout.Stored.TheVariants.{OwnNumber}
 use Rattle.cedar_model.specs.Edit.NodeEdits.{IsAt, IsNodeOf}
 use Rattle.cedar_model.specs.Meaning.Family.{base_in}

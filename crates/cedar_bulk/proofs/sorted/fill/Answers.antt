@@ -1,6 +1,6 @@
 use Rattle.std.proofs.Common.{◌≡◌, ◌+◌, ◌<◌, arith, rules, ap, refl, inl, inr, length, List, []}
-use Rattle.cedar_tree.specs.Tree.{none}
-use Rattle.cedar_tree.specs.Queries.{Entry, prefixes_forest}
+use Rattle.cedar_model.specs.Tree.{none}
+use Rattle.cedar_model.specs.Queries.{Entry, prefixes_forest}
 use Rattle.cedar_bulk.specs.Sorted.{entries_by}
 use Rattle.cedar_bulk.specs.Spans.{parts_of}
 use Rattle.cedar_model.specs.Meaning.Family.{base_of}

@@ -1,6 +1,6 @@
 use Rattle.std.proofs.Common.{◌≡◌, ℕ, ◌++◌, None, length}
 use Rattle.std.specs.Prelude.{option_to_list}
-use Rattle.cedar_tree.specs.Tree.{Forest}
+use Rattle.cedar_model.specs.Tree.{Forest}
 use Rattle.cedar_bulk.specs.Packed.{Packed}
 use Rattle.cedar_bulk.specs.Spans.{Filling, parts_of, work}
 use Rattle.cedar_model.specs.Edit.Steps.{MakesBlocks}

@@ -1,7 +1,7 @@
 use Rattle.std.proofs.Common.{◌≡◌, ℕ, ◌+◌, ◌<◌, ◌≤◌, ◌∙◌, arith, rules, refl, sym, subst, inl, inr, length, List, [], ◌∷◌}
 use Rattle.std.specs.Prelude.{ℤ}
-use Rattle.cedar_tree.specs.Tree.{empty_tree, none, Tree}
-use Rattle.cedar_tree.specs.Queries.{asc, Entry, prefixes}
+use Rattle.cedar_model.specs.Tree.{empty_tree, none, Tree}
+use Rattle.cedar_model.specs.Queries.{asc, Entry, prefixes}
 use Rattle.cedar_model.specs.Meaning.StandsFor.{HoldsTree}
 use Rattle.cedar_bulk.specs.Sorted.{entries_by}
 use Rattle.cedar_bulk.specs.Packed.{IsPacked}

@@ -1,7 +1,7 @@
 use Rattle.std.proofs.Common.{◌≡◌, ◌<◌, ◌≤◌, ◌∙◌, arith, inl, inr, refl, rules, sym, ap, subst, drop, length, List, map}
 use Rattle.std.specs.Prelude.{IfSome, true}
-use Rattle.cedar_tree.specs.Tree.{none}
-use Rattle.cedar_tree.specs.Queries.{Entry}
+use Rattle.cedar_model.specs.Tree.{none}
+use Rattle.cedar_model.specs.Queries.{Entry}
 use Rattle.cedar_model.specs.Edit.NodeEdits.{Above}
 use Rattle.cedar_bulk.specs.Sorted.{entries_by, Fills, slot_labels}
 use Rattle.cedar_bulk.specs.SortedMarks.{KeepsOwn}

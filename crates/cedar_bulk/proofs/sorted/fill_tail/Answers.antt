@@ -1,7 +1,7 @@
 use Rattle.std.proofs.Common.{◌≡◌, ◌+◌, ◌<◌, ◌≤◌, ◌∙◌, arith, rules, refl, sym, ap, subst, get_or, length, FitsSigned, of_z, to_z, w32, Some, None, [], ◌∷◌}
 use Rattle.std.specs.Prelude.{IfSome, true}
 use Rattle.std.proofs.lemmas.Int.{to_z-of_z}
-use Rattle.cedar_tree.specs.Queries.{Entry}
+use Rattle.cedar_model.specs.Queries.{Entry}
 use Rattle.cedar_bulk.specs.Sorted.{entries_by, Fills}
 use Rattle.cedar_bulk.specs.SortedMarks.{KeepsOwn}
 use Rattle.cedar_bulk.specs.Spans.{IsTreeOfSpan, Part, part_of}

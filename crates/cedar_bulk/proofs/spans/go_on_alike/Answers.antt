@@ -1,5 +1,5 @@
 use Rattle.std.proofs.Common.{◌≡◌, ◌<◌, ◌-◌, ◌∙◌, arith, ap, drop, get_or, length, subst, sym, List}
-use Rattle.cedar_tree.specs.Queries.{Entry}
+use Rattle.cedar_model.specs.Queries.{Entry}
 use Rattle.cedar_bulk.specs.Sorted.{entries_by, run}
 use Rattle.cedar_bulk.specs.Spans.{first_label, IsDeeper, IsTreeOfSpan, Lists}
 use Rattle.cedar_bulk.proofs.BulkLemmas.OnePair.{first_then, lists_on}

@@ -1,18 +1,12 @@
-use Rattle.std.proofs.Common.{◌≡◌, ◌<◌, ◌∙◌, ℕ, List, arith, ap, get_or, length, subst, sym}
-use Rattle.std.specs.Prelude.{IsTrue, nat_eq, ℤ}
-use Rattle.std.proofs.lemmas.Bool.Decides.{nat_tests}
+use Rattle.std.proofs.Common.{◌≡◌, ◌<◌, ◌∙◌, ℕ, List, ap, get_or, length, subst, sym}
+use Rattle.std.specs.Prelude.{ℤ}
 use Rattle.std.proofs.lemmas.List.{get_or-map}
-use Rattle.cedar_tree.specs.Queries.{Entry}
+use Rattle.cedar_model.specs.Queries.{Entry}
 use Rattle.cedar_bulk.specs.Sorted.{entries_by, label_of}
 use Rattle.cedar_bulk.proofs.BulkLemmas.Runs.{run_inside, run_tells}
 use Rattle.cedar_bulk.proofs.BulkLemmas.Spans.{as_many}
+use Rattle.std.proofs.lemmas.Bool.{eqb-true, eq-eqb}
 use Rattle.cedar_bulk.proofs.spans.has_first_label.Goals as goal
-
-equal : (a b : ℕ) → IsTrue (nat_eq a b) → a ≡ b
-equal a b t = grind (arith, nat_tests)
-
-tested : (a b : ℕ) → a ≡ b → IsTrue (nat_eq a b)
-tested a b e = grind (arith, nat_tests)
 
 pub returns : goal.returns
 returns g c =
@@ -27,6 +21,6 @@ returns g c =
     let inside : i < length es = subst (λ n. i < n) (sym (as_many items c.args.pairs.now)) r.inside in
     let there : get_or es i e ≡ e = get_or-map (λ (q : _ × ℤ). (items q.0, q.1)) c.args.pairs.now i p e r.inside ∙ ap (λ (q : _ × ℤ). (items q.0, q.1)) (sym c.index-pairs-index.is) in
     let label : c.label_at.result ≡ label_of d (get_or es i e) = c.label_at.ensures ∙ ap (label_of d) (sym there) in (
-      λ t. run_tells d l es r.lists.0 i e r.lists.1 r.first inside (sym label ∙ equal c.label_at.result l t),
-      λ h. tested c.label_at.result l (label ∙ run_inside d l es i e h),
+      λ t. run_tells d l es r.lists.0 i e r.lists.1 r.first inside (sym label ∙ eqb-true c.label_at.result l t),
+      λ h. eq-eqb c.label_at.result l (label ∙ run_inside d l es i e h),
     )

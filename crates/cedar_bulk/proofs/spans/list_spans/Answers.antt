@@ -1,7 +1,7 @@
 use Rattle.std.proofs.Common.{◌≡◌, ℕ, suc, ◌<◌, ◌∙◌, arith, sym, ap, subst, drop, take, length, List, [], ◌∷◌, ◌++◌}
 use Rattle.std.proofs.lemmas.List.{drop-drop}
 use Rattle.std.specs.Int.Bits.{xor_zero_l}
-use Rattle.cedar_tree.specs.Queries.{Entry}
+use Rattle.cedar_model.specs.Queries.{Entry}
 use Rattle.cedar_bulk.specs.Sorted.{entries_by, run}
 use Rattle.cedar_bulk.specs.Spans.{first_label, IsDeeper, Lists, Part, parts_of}
 use Rattle.cedar_bulk.proofs.BulkLemmas.Pending.{parts_last}

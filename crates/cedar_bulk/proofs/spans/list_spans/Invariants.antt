@@ -1,5 +1,5 @@
 use Rattle.std.proofs.Common.{length, ◌-◌, drop}
-use Rattle.cedar_tree.specs.Tree.{Forest}
+use Rattle.cedar_model.specs.Tree.{Forest}
 use Rattle.cedar_bulk.specs.Sorted.{entries_by}
 use Rattle.cedar_bulk.specs.Spans.{Lists, parts_of}
 use Rattle.cedar_bulk.proofs.BulkLemmas.Spans.{Pushed, Scan}

@@ -1,5 +1,5 @@
 use Rattle.std.proofs.Common.{◌<◌, ◌-◌, arith, length, subst, sym, List}
-use Rattle.cedar_tree.specs.Queries.{Entry}
+use Rattle.cedar_model.specs.Queries.{Entry}
 use Rattle.cedar_bulk.specs.Sorted.{entries_by, run}
 use Rattle.cedar_bulk.proofs.BulkLemmas.Runs.{run_bounds}
 use Rattle.cedar_bulk.proofs.BulkLemmas.Spans.{as_many}

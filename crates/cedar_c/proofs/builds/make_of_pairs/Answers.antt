@@ -1,7 +1,7 @@
 use Rattle.std.proofs.Common.{rules, ◌≡◌, ◌∙◌, ◌⊎◌, ◌*◌, ◌≤◌, List, None, Err, IfSome, IfOk, IfErr, length, map, subst, ap}
 use Rattle.cedarwood.specs.declared.error.CedarError.TheVariants.{Memory, SlotLimit}
-use Rattle.cedar_tree.specs.Queries.{Entry, asc, prefixes}
-use Rattle.cedar_bulk.specs.Sorted.{entries_of}
+use Rattle.cedarwood.specs.Queries.{Entry, asc, prefixes}
+use Rattle.cedarwood.specs.Sorted.{entries_of}
 use Rattle.cedarwood.specs.Words.{IsSorted}
 use Rattle.cedar_c.specs.Pairs.{build_fault, entries_in, taken_pair}
 use Rattle.cedar_c.proofs.PairLemmas.{entries_taken, fault_answered}

@@ -5,7 +5,7 @@ use Rattle.cedar_c.specs.declared.scans.Found.{Found}
 use Rattle.cedar_c.proofs.CutLemmas.{token_written}
 use Rattle.cedar_c.proofs.cuts.write_whole.Goals as goal
 
--- the element that stands for none behind the end
+-- the element behind the end, which means none
 abbrev nothing : Token
 nothing = (0, 0, None)
 

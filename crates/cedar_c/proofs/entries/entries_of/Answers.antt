@@ -1,11 +1,11 @@
 use Rattle.std.proofs.Common.{◌≡◌, ◌<◌, true, [], ◌∙◌, ap, inl, inr, length, subst, sym}
-use Rattle.cedar_model.specs.Meaning.WellFormed.{tree_of}
-use Rattle.cedar_tree.specs.Queries.{node_at, walk}
+use Rattle.cedarwood.specs.WellFormed.{tree_of}
+use Rattle.cedarwood.specs.Queries.{node_at, walk}
 use Rattle.cedar_walk.specs.Ranges.{entries_with}
 use Rattle.cedar_walk.proofs.WalkLemmas.Prefixed.{entries_with_node}
 use Rattle.cedar_walk.proofs.WalkLemmas.Ranges.{empty_key, some_key}
 use Rattle.cedar_walk.proofs.WalkLemmas.Since.{behind_none}
-use Rattle.cedarwood.specs.RangeWalks.{ranged}
+use Rattle.cedarwood.specs.RangeWalks.{entries_left}
 use Rattle.cedarwood.proofs.RangeLemmas.{ranged_is}
 use Rattle.cedar_c.specs.Entries.{entries_behind_key, following, TellsPage}
 use Rattle.cedar_c.proofs.EntryLemmas.{following_behind}
@@ -19,7 +19,7 @@ returns-then-is_empty g c =
     let on = c.stands_on_its_table.ensures in
     let first = c.first_numbered-first.result in
     let empty : c.args.behind.now ≡ [] = empty_key c.args.behind.now (sym c.is_empty.ensures ∙ c.if-is_empty.true) in
-    let left : ranged T prefix first ≡ following s.tree prefix c.args.behind.now =
+    let left : entries_left T prefix first ≡ following s.tree prefix c.args.behind.now =
     ranged_is T prefix (walk (node_at (tree_of T) prefix)) first c.first_numbered-first.ensures
     ∙ sym (entries_with_node (tree_of T) prefix on.formed.sound)
     ∙ ap (λ x. entries_with x.tree prefix) (sym on.state)
@@ -40,7 +40,7 @@ returns g c =
     let first = c.first_behind-first.result in
     let ordered : s.ordered ≡ true = sym c.is_ordered.ensures ∙ c.if-not-is_ordered.false in
     let some : 0 < length key = some_key key (sym c.is_empty.ensures ∙ c.if-is_empty.false) in
-    let left : ranged T [] first ≡ following s.tree prefix key =
+    let left : entries_left T [] first ≡ following s.tree prefix key =
     ranged_is T [] (entries_behind_key (tree_of T) key) first c.first_behind-first.ensures
     ∙ sym (behind_none (entries_behind_key (tree_of T) key))
     ∙ ap (λ x. entries_behind_key x.tree key) (sym on.state)

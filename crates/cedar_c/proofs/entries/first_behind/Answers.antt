@@ -1,7 +1,7 @@
 use Rattle.std.proofs.Common.{[], ◌∙◌, sym, subst}
 use Rattle.std.proofs.lemmas.Bool.{true≢false}
-use Rattle.cedar_tree.specs.Walks.{visited_entries}
-use Rattle.cedar_model.specs.Meaning.WellFormed.{tree_of}
+use Rattle.cedarwood.specs.Words.{visited_entries}
+use Rattle.cedarwood.specs.WellFormed.{tree_of}
 use Rattle.cedar_walk.specs.Visits.{ComesToFirst, ComesToNumber, left_at, path_to}
 use Rattle.cedar_c.specs.Entries.{entries_behind_key}
 use Rattle.cedar_c.proofs.EntryLemmas.{held_first, lacking_since, none_behind}

@@ -1,6 +1,6 @@
 use Rattle.std.proofs.Common.{◌≤◌, ◌+◌, ◌∙◌, ap, arith, length, sym}
 use Rattle.std.proofs.lemmas.List.{length-append}
-use Rattle.cedar_model.specs.Table.TableFields.{size_of}
+use Rattle.cedarwood.specs.TableFields.{size_of}
 use Rattle.cedar_walk.specs.Visits.{path_to}
 use Rattle.cedar_walk.proofs.WalkLemmas.NextNode.{path_length, short_way}
 use Rattle.cedar_c.proofs.entries.key_length.Goals as goal

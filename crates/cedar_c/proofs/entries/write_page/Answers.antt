@@ -2,11 +2,11 @@ use Rattle.std.proofs.Common.{rules, ◌≡◌, ◌<◌, ◌≤◌, ◌+◌, ◌
 use mir.Val.{of_z, to_z}
 use Rattle.std.specs.List.{starts_with}
 use Rattle.std.proofs.lemmas.Int.{to_z-of_z}
-use Rattle.cedar_tree.specs.Queries.{Entry}
-use Rattle.cedar_tree.specs.Walks.{visited_entries}
+use Rattle.cedarwood.specs.Queries.{Entry}
+use Rattle.cedarwood.specs.Words.{visited_entries}
 use Rattle.cedar_walk.specs.Ranges.{behind_path}
 use Rattle.cedar_walk.specs.Visits.{left_at, path_to}
-use Rattle.cedarwood.specs.RangeWalks.{IsRangePlace, ranged}
+use Rattle.cedarwood.specs.RangeWalks.{entries_left, IsRangePlace}
 use Rattle.cedarwood.proofs.RangeLemmas.{range_place, ranged_is}
 use Rattle.cedar_c.specs.Entries.{page_of}
 use Rattle.cedar_c.specs.declared.scans.Found.{Found}
@@ -15,7 +15,7 @@ use Rattle.cedar_c.proofs.entries.write_page.Goals as goal
 
 pub loop-count-init : goal.loop-count-init
 loop-count-init g c =
-    (c.requires.place, none_written c.args.prefix.now (ranged (g.T.Walked.shown c.args.trie.now) c.args.start.now c.args.first) c.args.found.now c.args.bytes.now)
+    (c.requires.place, none_written c.args.prefix.now (entries_left (g.T.Walked.shown c.args.trie.now) c.args.start.now c.args.first) c.args.found.now c.args.bytes.now)
 
 pub returns-in_default : goal.returns-in_default
 returns-in_default g c =
@@ -25,8 +25,8 @@ returns-in_default g c =
     let l = c.loop-count in
     let places = length c.args.found.now - l.count in
     let room = length c.args.bytes.now - l.used in
-    let none : page_of prefix places room (ranged T start l.next) ≡ [] = ap (λ n. page_of prefix places room (ranged T start n)) c.in_default.is ∙ page_none prefix places room in
-    all_written prefix (ranged T start c.args.first) c.args.found.now c.args.bytes.now (ranged T start l.next) l.found l.bytes l.count l.used l.invariant.1 none
+    let none : page_of prefix places room (entries_left T start l.next) ≡ [] = ap (λ n. page_of prefix places room (entries_left T start n)) c.in_default.is ∙ page_none prefix places room in
+    all_written prefix (entries_left T start c.args.first) c.args.found.now c.args.bytes.now (entries_left T start l.next) l.found l.bytes l.count l.used l.invariant.1 none
 
 pub write_entry-requires-clause-below : goal.write_entry-requires-clause-below
 write_entry-requires-clause-below g c =
@@ -43,8 +43,8 @@ returns-in_default-write_entry g c =
     let prefix = c.args.prefix.now in
     let l = c.loop-count in
     let at = c.in-Some.at in
-    let entries = ranged T start c.args.first in
-    let left = ranged T start l.next in
+    let entries = entries_left T start c.args.first in
+    let left = entries_left T start l.next in
     let places = length c.args.found.now - l.count in
     let room = length c.args.bytes.now - l.used in
     let key = start ++ path_to T at.depth at.slot in
@@ -54,7 +54,7 @@ returns-in_default-write_entry g c =
     let ends : (length l.bytes - l.used < length key) ⊎ (starts_with nat_eq key prefix ≡ false) = c.in_default-write_entry.ensures.left refl in
     let stops : (room < length key) ⊎ (starts_with nat_eq key prefix ≡ false) =
     subst (λ n. (n - l.used < length key) ⊎ (starts_with nat_eq key prefix ≡ false)) l.invariant.1.size ends in
-    let none : page_of prefix places room left ≡ [] = ap (λ n. page_of prefix places room (ranged T start n)) c.in-Some.is ∙ page_ends prefix room (key, at.number) later places stops in
+    let none : page_of prefix places room left ≡ [] = ap (λ n. page_of prefix places room (entries_left T start n)) c.in-Some.is ∙ page_ends prefix room (key, at.number) later places stops in
     all_written prefix entries c.args.found.now c.args.bytes.now left l.found now l.count l.used
     (kept_written prefix entries c.args.found.now c.args.bytes.now left l.found l.bytes l.count l.used l.invariant.1 now kept.0 kept.1) none
 
@@ -68,15 +68,15 @@ loop-count-preserved g c =
     let start = c.args.start.now in
     let l = c.loop-count in
     let at = c.in-Some.at in
-    let entries = ranged T start c.args.first in
+    let entries = entries_left T start c.args.first in
     let key = start ++ path_to T at.depth at.slot in
     let e : Entry = (key, at.number) in
     let here = subst (IsRangePlace T start) c.in-Some.is l.invariant.0 in
     let next = c.next_numbered-next.result in
     let comes = c.next_numbered-next.ensures start here.0 in
     let left = visited_entries (left_at T start at.depth at.slot) in
-    let first : ranged T start l.next ≡ e ∷ ranged T start next =
-    ap (ranged T start) c.in-Some.is ∙ ap (λ (es : List Entry). e ∷ es) (sym (ranged_is T start left next comes)) in
+    let first : entries_left T start l.next ≡ e ∷ entries_left T start next =
+    ap (entries_left T start) c.in-Some.is ∙ ap (λ (es : List Entry). e ∷ es) (sym (ranged_is T start left next comes)) in
     let len = c.in-Some-write_entry.len in
     let told = c.in-Some-write_entry.ensures in
     let long : len ≡ length key = told.length.0 in
@@ -85,9 +85,9 @@ loop-count-preserved g c =
     let value = to_z-of_z w32 at.number fits in
     let spot : Found = record { place = l.used; length = len; value = to_z w32 (of_z w32 at.number) } in
     let within : l.used + length key ≤ length c.args.bytes.now = omega (arith, told.length.1, long, l.invariant.1.size) in
-    let one = one_written c.args.prefix.now entries c.args.found.now c.args.bytes.now (ranged T start l.next) l.found l.bytes l.count l.used l.invariant.1 e (ranged T start next) spot now first c.loop-count-test.true within told.begins
+    let one = one_written c.args.prefix.now entries c.args.found.now c.args.bytes.now (entries_left T start l.next) l.found l.bytes l.count l.used l.invariant.1 e (entries_left T start next) spot now first c.loop-count-test.true within told.begins
     (subst (λ n. take (l.used + n) now ≡ take l.used l.bytes ++ key) long told.written) told.kept.1 (λ i. record { place = l.used; length = long i; value = value i }) in
-    (range_place T start left next comes, subst (λ n. IsWritten c.args.prefix.now entries (ranged T start next) c.args.found.now (set l.found l.count spot) c.args.bytes.now now (l.count + 1) (l.used + n)) (sym long) one)
+    (range_place T start left next comes, subst (λ n. IsWritten c.args.prefix.now entries (entries_left T start next) c.args.found.now (set l.found l.count spot) c.args.bytes.now now (l.count + 1) (l.used + n)) (sym long) one)
 
 pub returns : goal.returns
 returns g c =
@@ -98,4 +98,4 @@ returns g c =
     let places = length c.args.found.now - l.count in
     let room = length c.args.bytes.now - l.used in
     let full : places ≡ 0 = omega (arith, c.loop-count-test.false, l.invariant.1.places) in
-    all_written prefix (ranged T start c.args.first) c.args.found.now c.args.bytes.now (ranged T start l.next) l.found l.bytes l.count l.used l.invariant.1 (page_full prefix places room (ranged T start l.next) full)
+    all_written prefix (entries_left T start c.args.first) c.args.found.now c.args.bytes.now (entries_left T start l.next) l.found l.bytes l.count l.used l.invariant.1 (page_full prefix places room (entries_left T start l.next) full)

@@ -1,13 +1,13 @@
 use Rattle.std.proofs.Common.{◌≡◌, ◌∙◌, ◌≤◌, List, [], ℕ, ap, arith, length, take}
-use Rattle.cedar_tree.specs.Queries.{walk}
-use Rattle.cedar_tree.specs.State.{State}
+use Rattle.cedarwood.specs.Queries.{walk}
+use Rattle.cedarwood.specs.State.{State}
 use Rattle.cedarwood.specs.Batches.{keys_erased}
 use Rattle.cedar_c.specs.Pairs.{named_keys}
 use Rattle.cedar_c.specs.declared.erasures.Key.{Key}
 use Rattle.cedar_c.proofs.ErasedLemmas.{erased_fewer, erased_more, told_more}
 use Rattle.cedar_c.proofs.erasures.erase_all.Goals as goal
 
--- what stands behind the keys
+-- what follows the keys
 abbrev blank : Key
 blank = record { key = record { ref_ptr = (0, 0); now = [] } }
 
@@ -24,6 +24,7 @@ loop-index-preserved g c =
       told_more s t keys i inside blank c.args.held.now c.loop-index.held c.tell.new.held c.erase_bytes-was_held.result so_far.0 e.answer so_far.1 c.tell.ensures,
       (e.size.0 ∙ so_far.2.0, e.size.1 ∙ so_far.2.1),
       e.max_trial ∙ so_far.3,
+      e.search_limit ∙ so_far.4,
     )
 
 pub overflow_sub-result : goal.overflow_sub-result

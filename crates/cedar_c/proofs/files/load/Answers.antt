@@ -1,7 +1,7 @@
 use Rattle.std.proofs.Common.{◌∙◌, Ok, Err, refl, sym}
 use Rattle.std.proofs.lemmas.Bool.{false≢true}
-use Rattle.cedar_model.specs.Table.Layouts.{layout_byte}
-use Rattle.cedar_format.specs.Format.{header_answer}
+use Rattle.cedarwood.specs.Layouts.{layout_byte}
+use Rattle.cedarwood.specs.Format.{header_answer}
 use Rattle.cedarwood.specs.Dictionary.{Dictionary}
 use Rattle.cedarwood.specs.Loading.{LoadAnswers}
 use Rattle.cedar_c.specs.Files.{early_refusal}

@@ -1,6 +1,6 @@
 use Rattle.std.proofs.Common.{rules}
-use Rattle.cedar_model.specs.Table.Layouts.{layout_byte}
-use Rattle.cedar_format.specs.Format.{header_answer}
+use Rattle.cedarwood.specs.Layouts.{layout_byte}
+use Rattle.cedarwood.specs.Format.{header_answer}
 use Rattle.cedar_c.specs.Files.{early_refusal}
 use Rattle.cedarwood.specs.Limits.{most_slots}
 use Rattle.cedar_c.specs.Layouts.{layout_if}

@@ -1,5 +1,5 @@
 use Rattle.std.proofs.Common.{◌≡◌, ◌++◌}
-use Rattle.cedar_tree.specs.Queries.{walk}
+use Rattle.cedarwood.specs.Queries.{walk}
 use Rattle.cedar_c.specs.Pairs.{keys_in}
 use Rattle.cedar_c.proofs.keys.keys_of.Given as goal
 

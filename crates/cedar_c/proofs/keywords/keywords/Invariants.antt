@@ -2,7 +2,7 @@ use Rattle.std.proofs.Common.{◌≡◌, ◌≤◌, ◌-◌, ◌⊎◌, length, 
 use Rattle.cedar_c.specs.Scans.{found_keywords, WritesPiece}
 use Rattle.cedar_c.proofs.keywords.keywords.Given as goal
 
--- what is told, and then the keywords of the rest, is all
+-- what is written, and then the keywords of the rest, is all
 abbrev pub invariant-loop-next : goal.invariant-loop-next
 invariant-loop-next g l =
     WritesPiece (found_keywords (g.T.LongestPrefix.tree l.fn.trie)) l.text l.fn.next l.next (take l.count l.found)

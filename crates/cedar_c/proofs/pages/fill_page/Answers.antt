@@ -1,5 +1,5 @@
 use Rattle.std.proofs.Common.{◌≡◌, ◌∷◌, ◌∙◌, ap, sym, subst}
-use Rattle.cedar_c.specs.Matches.{Fit, lengthened}
+use Rattle.cedar_c.specs.Matches.{all_longer, Fit}
 use Rattle.cedar_c.proofs.MatchLemmas.{all_written}
 use Rattle.cedar_c.proofs.pages.fill_page.Goals as goal
 
@@ -13,4 +13,4 @@ pub returns-in_default-clause-filled : goal.returns-in_default-clause-filled
 returns-in_default-clause-filled g c =
     let left = g.F.Finds.left c.loop-count.walk in
     let more = c.args.more in
-    sym (all_written c.loop-count.matches c.loop-count.count (lengthened more left) (ap (lengthened more) c.in_default.ensures)) ∙ c.loop-count.invariant.0
+    sym (all_written c.loop-count.matches c.loop-count.count (all_longer more left) (ap (all_longer more) c.in_default.ensures)) ∙ c.loop-count.invariant.0

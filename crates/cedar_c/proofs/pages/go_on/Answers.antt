@@ -1,5 +1,5 @@
 use Rattle.std.proofs.Common.{◌∙◌, ap, sym, subst}
-use Rattle.cedar_c.specs.Matches.{Fit, filled_matches, lengthened}
+use Rattle.cedar_c.specs.Matches.{Fit, filled_matches, all_longer}
 use Rattle.cedar_c.proofs.LengthLemmas.{fit_drop}
 use Rattle.cedar_c.proofs.MatchLemmas.{nothing_filled}
 use Rattle.cedar_c.proofs.pages.go_on.Goals as goal
@@ -11,4 +11,4 @@ fill_page-count-requires g c =
 pub returns-then-not-pass-clause-filled : goal.returns-then-not-pass-clause-filled
 returns-then-not-pass-clause-filled g c =
     let matches = c.args.matches.now in
-    sym (ap (λ l. filled_matches matches (lengthened c.args.more l)) (c.pass.ensures.ended c.if-not-pass.true) ∙ nothing_filled matches)
+    sym (ap (λ l. filled_matches matches (all_longer c.args.more l)) (c.pass.ensures.ended c.if-not-pass.true) ∙ nothing_filled matches)

@@ -1,8 +1,7 @@
 use Rattle.std.proofs.Common.{rules, ◌<◌, ◌^◌, ◌∙◌, ap, sym, subst, drop, length, arith}
 use Rattle.std.proofs.lemmas.List.{drop-map}
-use Rattle.cedarwood.specs.Queries.{predict, walk}
-use Rattle.cedar_tree.specs.Queries.{prefixes}
-use Rattle.cedar_c.specs.Matches.{Fit, filled_matches, lengthened, longer}
+use Rattle.cedarwood.specs.Queries.{predict, walk, prefixes}
+use Rattle.cedar_c.specs.Matches.{Fit, filled_matches, all_longer, longer}
 use Rattle.cedar_c.proofs.LengthLemmas.{predicted_fit, predicted_whole, prefixes_are_few}
 use Rattle.cedar_c.proofs.MatchLemmas.{predictions_fit}
 use Rattle.cedar_c.proofs.pages.go_on_predictions.Goals as goal
@@ -26,5 +25,5 @@ returns-clause-filled g c =
     let next = c.args.next.now in
     let tree = c.args.trie.now.state.tree in
     c.go_on.ensures.filled
-    ∙ ap (λ l. filled_matches matches (lengthened (length text) (drop next l))) c.common_prefix_predict_iter_bytes.ensures
+    ∙ ap (λ l. filled_matches matches (all_longer (length text) (drop next l))) c.common_prefix_predict_iter_bytes.ensures
     ∙ ap (filled_matches matches) (sym (drop-map (longer (length text)) next (predict tree text)) ∙ ap (drop next) (predicted_whole tree text))

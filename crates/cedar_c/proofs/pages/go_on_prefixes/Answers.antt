@@ -1,7 +1,7 @@
 use Rattle.std.proofs.Common.{rules, ◌<◌, ◌^◌, ◌∙◌, ap, sym, subst, drop, length}
 use Rattle.std.proofs.lemmas.List.{drop-map}
 use Rattle.cedarwood.specs.Queries.{front}
-use Rattle.cedar_c.specs.Matches.{Fit, filled_matches, lengthened, longer}
+use Rattle.cedar_c.specs.Matches.{Fit, filled_matches, all_longer, longer}
 use Rattle.cedar_c.proofs.MatchLemmas.{fronts_fit}
 use Rattle.cedar_c.proofs.ScanLemmas.{fronts_are_short}
 use Rattle.cedar_c.proofs.pages.go_on_prefixes.Goals as goal
@@ -21,5 +21,5 @@ returns-clause-filled g c =
     let matches = c.args.matches.now in
     let next = c.args.next.now in
     c.go_on.ensures.filled
-    ∙ ap (λ l. filled_matches matches (lengthened 1 (drop next l))) c.common_prefix_iter_bytes.ensures.rest
+    ∙ ap (λ l. filled_matches matches (all_longer 1 (drop next l))) c.common_prefix_iter_bytes.ensures.rest
     ∙ ap (filled_matches matches) (sym (drop-map (longer 1) next (front c.args.trie.now.state.tree c.args.text.now)))

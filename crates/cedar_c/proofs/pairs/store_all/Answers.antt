@@ -1,6 +1,6 @@
 use Rattle.std.proofs.Common.{rules, ◌≡◌, ◌∙◌, List, None, Err, IsSome, IfSome, IfErr, OnOk, map, subst, ap}
-use Rattle.cedar_tree.specs.Queries.{Entry}
-use Rattle.cedar_bulk.specs.Sorted.{entries_of}
+use Rattle.cedarwood.specs.Queries.{Entry}
+use Rattle.cedarwood.specs.Sorted.{entries_of}
 use Rattle.cedarwood.specs.Builds.{all_stored, first_fault, IsRefusedBuild}
 use Rattle.cedar_c.specs.Pairs.{entries_in, taken_pair}
 use Rattle.cedar_c.proofs.PairLemmas.{all_in_use, entries_taken, faulty_keeps, first_no_shortage, front_stored, part_stored, refused_shortage}

@@ -2,7 +2,7 @@ use Rattle.std.proofs.Common.{◌≡◌, ◌≤◌, ◌-◌, ◌⊎◌, ◌++◌
 use Rattle.cedar_c.specs.Scans.{found_tokens}
 use Rattle.cedar_c.proofs.scans.cut.Given as goal
 
--- what is told, and then the tokens of the rest, is all
+-- what is written, and then the tokens of the rest, is all
 abbrev pub invariant-loop-next : goal.invariant-loop-next
 invariant-loop-next g l =
     (found_tokens (g.T.LongestPrefix.tree l.fn.trie) l.fn.next (drop l.fn.next l.text) ≡ take l.count l.found ++ found_tokens (g.T.LongestPrefix.tree l.fn.trie) l.next (drop l.next l.text))

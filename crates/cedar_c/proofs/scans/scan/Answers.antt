@@ -1,6 +1,6 @@
 use Rattle.std.proofs.Common.{rules, inl, ◌≡◌, ◌∙◌, ◌<◌, ◌≤◌, ◌++◌, ap, drop, length, map, take, arith}
 use Rattle.std.proofs.lemmas.List.{length-drop}
-use Rattle.cedar_tree.specs.Queries.{front}
+use Rattle.cedarwood.specs.Queries.{front}
 use Rattle.cedar_c.specs.Scans.{found_spot}
 use Rattle.cedar_words.proofs.SpotLemmas.{rest_of}
 use Rattle.cedar_c.proofs.ScanLemmas.{place_told}

@@ -2,7 +2,7 @@ use Rattle.std.proofs.Common.{◌≡◌, ◌≤◌, ◌-◌, ◌⊎◌, ◌++◌
 use Rattle.cedar_c.specs.Scans.{found_spots}
 use Rattle.cedar_c.proofs.scans.scan.Given as goal
 
--- what is told, and then what stands in the rest, is all
+-- what is written, and then what is in the rest, is all
 abbrev pub invariant-loop-next : goal.invariant-loop-next
 invariant-loop-next g l =
     (found_spots (g.T.Scanned.scanned l.fn.trie) l.fn.next (drop l.fn.next l.text) ≡ take l.count l.found ++ found_spots (g.T.Scanned.scanned l.fn.trie) l.next (drop l.next l.text))

@@ -1,6 +1,6 @@
 use Rattle.std.proofs.Common.{rules, ◌≡◌, ◌∙◌, None, ap, sym, length}
 use Rattle.cedarwood.specs.Queries.{front}
-use Rattle.cedar_c.specs.Matches.{filled_matches, front_keys, lengthened}
+use Rattle.cedar_c.specs.Matches.{all_longer, filled_matches, front_keys}
 use Rattle.cedar_c.specs.Readings.{shown_in}
 use Rattle.cedar_c.proofs.ClosedLemmas.{closed_is_empty}
 use Rattle.cedar_c.proofs.MatchLemmas.{no_fronts, nothing_filled}
@@ -16,4 +16,4 @@ returns-then-not-is_open-clause-filled c =
     let closed : shown_in c.args.handle.now ≡ None = search rules in
     let matches = c.args.matches.now in
     sym (ap (λ t. filled_matches matches (front_keys t c.args.text.now)) (closed_is_empty (shown_in c.args.handle.now) closed)
-    ∙ ap (λ l. filled_matches matches (lengthened 1 l)) (no_fronts c.args.text.now) ∙ nothing_filled matches)
+    ∙ ap (λ l. filled_matches matches (all_longer 1 l)) (no_fronts c.args.text.now) ∙ nothing_filled matches)

@@ -1,7 +1,6 @@
 use Rattle.std.proofs.Common.{rules, ◌<◌, ◌^◌, ◌∙◌, ap, sym, subst, length, arith}
-use Rattle.cedarwood.specs.Queries.{walk}
-use Rattle.cedar_tree.specs.Queries.{prefixes}
-use Rattle.cedar_c.specs.Matches.{Fit, filled_matches, lengthened}
+use Rattle.cedarwood.specs.Queries.{walk, prefixes}
+use Rattle.cedar_c.specs.Matches.{Fit, filled_matches, all_longer}
 use Rattle.cedar_c.proofs.LengthLemmas.{predicted_fit, predicted_whole, prefixes_are_few}
 use Rattle.cedar_c.proofs.MatchLemmas.{predictions_fit}
 use Rattle.cedar_c.proofs.walks.fill_predictions.Goals as goal
@@ -23,5 +22,5 @@ returns-clause-filled g c =
     let matches = c.args.matches.now in
     let text = c.args.text.now in
     c.fill.ensures.filled
-    ∙ ap (λ l. filled_matches matches (lengthened (length text) l)) c.common_prefix_predict_iter_bytes.ensures
+    ∙ ap (λ l. filled_matches matches (all_longer (length text) l)) c.common_prefix_predict_iter_bytes.ensures
     ∙ ap (filled_matches matches) (predicted_whole c.args.trie.now.state.tree text)

@@ -4,7 +4,8 @@ use Rattle.std.proofs.lemmas.Result.{err_from_is_err_and}
 use Rattle.std.proofs.Math.Seq.{take-length}
 use Rattle.cedarwood.specs.Batches.{held_in_turn, IsErasures, keys_erased}
 use Rattle.cedarwood.specs.Words.{keys_of}
-use Rattle.cedar_calls.proofs.BatchLemmas.{all_asked, each_filled, length-held_in_turn, none_erased}
+use Rattle.cedar_calls.proofs.BatchLemmas.{all_asked, each_filled, none_erased}
+use Rattle.cedarwood.proofs.BatchLemmas.{length-held_in_turn}
 use Rattle.cedar_calls.proofs.change.erase_batch.Goals as goal
 
 pub returns-in_err-held : goal.returns-in_err-held
@@ -38,5 +39,6 @@ returns g c =
       state = e.after ∙ ap (keys_erased state) all;
       size = e.size;
       max_trial = e.max_trial;
+      search_limit = e.search_limit;
       refused = tt;
     }

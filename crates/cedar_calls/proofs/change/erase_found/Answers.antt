@@ -5,7 +5,7 @@ use Rattle.cedar_calls.proofs.change.erase_found.Goals as goal
 pub returns-in_err-found : goal.returns-in_err-found
 returns-in_err-found g c =
     let e = c.in_err-found.ensures.absent refl in
-    record { told = c.from_residual.ensures ∙ sym c.in_err-found.ensures.found; erased = record { state = e.state; marks = e.marks; size = e.size; max_trial = e.max_trial } }
+    record { told = c.from_residual.ensures ∙ sym c.in_err-found.ensures.found; erased = record { state = e.state; marks = e.marks; size = e.size; max_trial = e.max_trial; search_limit = e.search_limit } }
 
 pub returns : goal.returns
 returns g c =
@@ -14,5 +14,5 @@ returns g c =
     let fits : FitsSigned w32 found.value = search rules in
     record {
       told = ap Some (to_z-of_z w32 found.value fits) ∙ sym c.in_ok-found.ensures.found.value;
-      erased = record { state = e.state; marks = e.marks; size = e.size; max_trial = e.max_trial };
+      erased = record { state = e.state; marks = e.marks; size = e.size; max_trial = e.max_trial; search_limit = e.search_limit };
     }

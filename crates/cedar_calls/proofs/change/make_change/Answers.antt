@@ -30,7 +30,7 @@ pub returns-in-UpdateBatch : goal.returns-in-UpdateBatch
 returns-in-UpdateBatch g c =
     let e = c.update_batch.ensures in
     subst (λ change. IsChange {A = g.row.A.Denot} g.L.Layout.kind g.row.SLOTS c.args.trie.now change (changed.UpdatedBatch c.update_batch.result) c.update_batch.new.self) (sym c.in-UpdateBatch.is)
-    (record { updates = e.updates; stored = e.stored; refused = e.refused; max_trial = e.max_trial })
+    (record { updates = e.updates; stored = e.stored; refused = e.refused; max_trial = e.max_trial; search_limit = e.search_limit })
 
 pub returns-in-Reserve : goal.returns-in-Reserve
 returns-in-Reserve g c =
@@ -40,6 +40,7 @@ returns-in-Reserve g c =
       state = e.state;
       marked = e.marked;
       max_trial = e.max_trial;
+      search_limit = e.search_limit;
       size = e.size;
       capacity = e.capacity;
       spare = e.spare;
@@ -49,3 +50,7 @@ returns-in-Reserve g c =
       refused = e.refused;
       unchanged = e.unchanged;
     })
+
+pub returns-in-SetSearchLimit : goal.returns-in-SetSearchLimit
+returns-in-SetSearchLimit g c =
+    subst (λ change. IsChange {A = g.row.A.Denot} g.L.Layout.kind g.row.SLOTS c.args.trie.now change changed.SearchLimitSet c.set_search_limit.new.self) (sym c.in-SetSearchLimit.is) c.set_search_limit.ensures

@@ -1,7 +1,7 @@
 use Rattle.std.proofs.Common.{rules, arith, ◌≡◌, ◌<◌, length, refl, sym, ◌∙◌}
 use Rattle.std.proofs.lemmas.List.{length-map}
 use Rattle.std.proofs.lemmas.Result.{err_from_is_err_and}
-use Rattle.cedar_tree.specs.Queries.{exact}
+use Rattle.cedarwood.specs.Queries.{exact}
 use Rattle.cedarwood.specs.Words.{keys_of}
 use Rattle.cedar_calls.proofs.BatchLemmas.{all_filled}
 use Rattle.cedar_calls.proofs.reply.batch.Goals as goal

@@ -1,5 +1,5 @@
 use Rattle.std.proofs.Common.{◌<◌, length, sym, subst, ◌∙◌}
-use Rattle.cedar_tree.specs.Queries.{predict}
+use Rattle.cedarwood.specs.Queries.{predict}
 use Rattle.cedar_calls.proofs.CollectLemmas.{no_first, some_first, some_listed}
 use Rattle.cedar_calls.proofs.reply.predictions.Goals as goal
 

@@ -1,5 +1,5 @@
 use Rattle.std.proofs.Common.{rules}
-use Rattle.cedar_format.specs.Tables.{IsTableFile}
+use Rattle.cedarwood.specs.Tables.{IsTableFile}
 use Rattle.cedar_calls.proofs.reply.save.Goals as goal
 use Rattle.cedar_calls.proofs.reply.save.Goals.{then-in_1_0, else-in_1_0}
 

@@ -1,6 +1,6 @@
 use Rattle.std.proofs.Common.{◌≡◌, ◌+◌, ◌≤◌, ◌++◌, length, map, vec_len}
 use Rattle.std.specs.Vec.{vec_capacity}
-use Rattle.cedar_tree.specs.Queries.{walk}
+use Rattle.cedarwood.specs.Queries.{walk}
 use Rattle.cedar_calls.proofs.reply.some_entries.Given as goal
 
 -- what was collected and what is left are all entries, for which there is room

@@ -1,5 +1,5 @@
 use Rattle.std.proofs.Common.{rules, arith, ◌≡◌, ◌+◌, [], ◌∷◌, map, length, option_map, string_bytes, sym, subst, append-nil}
-use Rattle.cedar_tree.specs.Queries.{walk}
+use Rattle.cedarwood.specs.Queries.{walk}
 use Rattle.cedarwood.specs.Walks.{IsEntryError}
 use Rattle.cedarwood.specs.declared.queries.entries.EntryError.TheVariants.{Utf8}
 use Rattle.cedar_calls.specs.Replies.{AreTexts}

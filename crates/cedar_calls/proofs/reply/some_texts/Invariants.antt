@@ -1,10 +1,10 @@
 use Rattle.std.proofs.Common.{◌+◌, ◌≤◌, ◌++◌, List, Option, ℕ, ℤ, length, map, option_map, vec_len, string_bytes}
 use Rattle.std.specs.Vec.{vec_capacity}
-use Rattle.cedar_tree.specs.Queries.{walk}
+use Rattle.cedarwood.specs.Queries.{walk}
 use Rattle.cedar_calls.specs.Replies.{AreTexts}
 use Rattle.cedar_calls.proofs.reply.some_texts.Given as goal
 
--- whatever texts stand for the entries that are left, those that were collected and these stand for all entries; and there is room
+-- whatever texts represent the entries that are left, those that were collected and these represent all entries; and there is room
 abbrev pub invariant-loop-entry : goal.invariant-loop-entry
 invariant-loop-entry g l =
     ((later : List (Option (List ℕ × ℤ))) → AreTexts later l.entry-iterator

@@ -1,5 +1,5 @@
 use Rattle.std.proofs.Common.{map, option_map, string_bytes}
-use Rattle.cedar_tree.specs.Queries.{walk}
+use Rattle.cedarwood.specs.Queries.{walk}
 use Rattle.cedar_calls.specs.Replies.{AreTexts}
 use Rattle.cedar_calls.proofs.CollectLemmas.{some_collected, some_if_not_empty}
 use Rattle.cedar_calls.proofs.reply.text_entries.Goals as goal

@@ -2,7 +2,8 @@ use Rattle.std.proofs.Common.{rules, ◌≡◌, ◌<◌, ◌≤◌, length, sym,
 use Rattle.std.specs.List.{slice_get}
 use Rattle.cedar_calls.specs.declared.answer.Answer.TheVariants as answer
 use Rattle.cedar_calls.specs.Runs.{IsStep}
-use Rattle.cedar_calls.proofs.PlaceLemmas.{none_at, stands_at}
+use Rattle.cedar_calls.proofs.PlaceLemmas.{stands_at}
+use Rattle.std.proofs.lemmas.Option.{slice_get_past}
 use Rattle.cedar_calls.proofs.run.make_call.Goals as goal
 
 pub returns-in-Sorted-clause-step : goal.returns-in-Sorted-clause-step
@@ -30,7 +31,7 @@ pub returns-in-None-clause-step : goal.returns-in-None-clause-step
 returns-in-None-clause-step g c =
     let found = c.in-None.ensures.lookup in
     let i = c.in-Clone.index in
-    let missed : slice_get c.args.tries.now.items i ≡ None = subst (λ xs. slice_get xs i ≡ None) c.deref.ensures.value (none_at c.deref.result.now i found.3) in
+    let missed : slice_get c.args.tries.now.items i ≡ None = subst (λ xs. slice_get xs i ≡ None) c.deref.ensures.value (slice_get_past c.deref.result.now i found.3) in
     subst (λ call. IsStep {A = g.row.A.Denot} g.L.Layout.kind g.row.SLOTS c.args.tries.now.items call answer.Missing c.args.tries.now.items) (sym c.in-Clone.is) (missed, refl)
 
 pub returns-in-Some-get_mut-clause-step : goal.returns-in-Some-get_mut-clause-step
@@ -45,7 +46,7 @@ pub returns-in-None-get_mut-clause-step : goal.returns-in-None-get_mut-clause-st
 returns-in-None-get_mut-clause-step g c =
     let i = c.in-Change.index in
     let past : length c.args.tries.now.items ≤ i = search rules in
-    subst (λ call. IsStep {A = g.row.A.Denot} g.L.Layout.kind g.row.SLOTS c.args.tries.now.items call answer.Missing c.args.tries.now.items) (sym c.in-Change.is) (none_at c.args.tries.now.items i past, refl)
+    subst (λ call. IsStep {A = g.row.A.Denot} g.L.Layout.kind g.row.SLOTS c.args.tries.now.items call answer.Missing c.args.tries.now.items) (sym c.in-Change.is) (slice_get_past c.args.tries.now.items i past, refl)
 
 pub returns-in-Some-get-clause-step : goal.returns-in-Some-get-clause-step
 returns-in-Some-get-clause-step g c =
@@ -59,5 +60,5 @@ pub returns-in-None-get-clause-step : goal.returns-in-None-get-clause-step
 returns-in-None-get-clause-step g c =
     let found = c.in-None-get.ensures.lookup in
     let i = c.in-Ask.index in
-    let missed : slice_get c.args.tries.now.items i ≡ None = subst (λ xs. slice_get xs i ≡ None) c.deref-in-Ask.ensures.value (none_at c.deref-in-Ask.result.now i found.3) in
+    let missed : slice_get c.args.tries.now.items i ≡ None = subst (λ xs. slice_get xs i ≡ None) c.deref-in-Ask.ensures.value (slice_get_past c.deref-in-Ask.result.now i found.3) in
     subst (λ call. IsStep {A = g.row.A.Denot} g.L.Layout.kind g.row.SLOTS c.args.tries.now.items call answer.Missing c.args.tries.now.items) (sym c.in-Ask.is) (missed, refl)

@@ -1,7 +1,7 @@
 use Rattle.std.proofs.Common.{length}
 use Rattle.std.proofs.lemmas.Bool.{false≢true}
 use Rattle.std.proofs.lemmas.Result.{err_from_is_err_and}
-use Rattle.cedar_calls.proofs.CollectLemmas.{positive}
+use Rattle.cedarwood.proofs.GeneralLemmas.{positive}
 use Rattle.cedar_calls.proofs.run.reserve_for_calls.Goals as goal
 
 pub returns-in_err-answers-clause-refused : goal.returns-in_err-answers-clause-refused

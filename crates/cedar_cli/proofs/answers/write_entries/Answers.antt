@@ -1,7 +1,7 @@
 use Rattle.std.proofs.Common.{rules, w32, to_z, of_z, FitsSigned, ap, sym, subst, ◌∙◌, ◌≡◌, ◌++◌, ◌∷◌, [], append_assoc, List}
 use Rattle.std.proofs.lemmas.Int.{to_z-of_z}
 use Rattle.std.specs.Io.KnownBytes.{Appends}
-use Rattle.cedar_tree.specs.Queries.{Entry}
+use Rattle.cedarwood.specs.Queries.{Entry}
 use Rattle.cedarwood.specs.WatchedDevice.{device_of}
 use Rattle.cedar_cli.specs.Script.{hex_entry_line, hex_entry_lines}
 use Rattle.text_lines.specs.Written.{WritesFront}

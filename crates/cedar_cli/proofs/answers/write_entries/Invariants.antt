@@ -1,6 +1,6 @@
 use Rattle.std.proofs.Common.{◌≡◌, ◌++◌, List}
 use Rattle.std.specs.Io.KnownBytes.{Appends}
-use Rattle.cedar_tree.specs.Queries.{Entry}
+use Rattle.cedarwood.specs.Queries.{Entry}
 use Rattle.cedarwood.specs.WatchedDevice.{device_of, has_failed}
 use Rattle.cedar_cli.specs.Script.{hex_entry_lines}
 use Rattle.cedar_cli.proofs.answers.write_entries.Given as goal

@@ -5,8 +5,9 @@ use Rattle.cedarwood.specs.WatchedDevice.{device_of, has_failed}
 use Rattle.cedar_cli.specs.Options.{empty, request_in}
 use Rattle.cedar_cli.specs.Statuses.{EndsBy}
 use Rattle.cedar_cli.specs.View.{view_of}
-use Rattle.cedar_cli.proofs.Begun.{begins_empty, on_ok}
+use Rattle.cedar_cli.proofs.Begun.{begins_empty}
 use Rattle.cedar_cli.proofs.Runs.{none_front}
+use Rattle.cedarwood.proofs.GeneralLemmas.{on_ok}
 use Rattle.cedar_cli.proofs.program.run_options.Goals as goal
 
 pub returns-then-not-fits-clause-begun : goal.returns-then-not-fits-clause-begun

@@ -5,12 +5,12 @@ use Rattle.cedar_cli.specs.Command.{order_of}
 use Rattle.cedar_cli.specs.Script.{LineMayLackMemory, Obeys, Disobeys, Advances, Stops}
 use Rattle.cedar_cli.specs.View.{view_of}
 use Rattle.cedar_cli.specs.declared.script.ScriptError.TheVariants.{Memory}
-use Rattle.cedar_cli.proofs.Begun.{on_ok}
 use Rattle.cedar_cli.proofs.BlockCounts.{no_blocks, within_more}
 use Rattle.cedar_cli.proofs.Bytes.{line_done, line_left, may_stop, not_begun, that_fault}
 use Rattle.cedar_cli.proofs.Runs.{short_line}
 use Rattle.cedar_cli.proofs.Newlines.{long_line_stop, open_append, taken_on_ok, stopped_on_err}
 use Rattle.cedar_cli.proofs.Faults.{fault_on, memory_fault, memory_no_limit, no_success}
+use Rattle.cedarwood.proofs.GeneralLemmas.{on_ok}
 use Rattle.cedar_cli.proofs.script.end_line.Goals as goal
 
 pub returns-then-is_empty : goal.returns-then-is_empty

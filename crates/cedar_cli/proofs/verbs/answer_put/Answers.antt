@@ -1,7 +1,7 @@
 use Rattle.std.proofs.Common.{arith, length, sym, Some, ap, subst, ◌∙◌, ◌++◌, ◌∷◌, [], ◌≡◌, None, ℤ, to_z, of_z, w32, Err}
 use Rattle.std.proofs.lemmas.Int.{to_z-of_z}
 use Rattle.std.specs.Prelude.{Result}
-use Rattle.cedar_tree.specs.State.{stored}
+use Rattle.cedarwood.specs.State.{after_put}
 use Rattle.cedarwood.specs.declared.error.CedarError.{CedarError}
 use Rattle.cedarwood.specs.declared.error.CedarError.TheVariants.{Memory, SlotLimit}
 use Rattle.cedarwood.specs.Fault.{fault, IsShortage}
@@ -13,8 +13,9 @@ use Rattle.cedar_cli.specs.declared.script.ScriptError.TheVariants.{Memory as No
 use Rattle.cedar_cli.proofs.BlockCounts.{within_further, back_blocks, held_after}
 use Rattle.cedar_cli.proofs.Bytes.{Obeys-on_ok}
 use Rattle.cedar_cli.proofs.Faults.{memory_no_limit, limit_no_memory, writers_fault, memory_fault, limit_fault}
-use Rattle.cedar_cli.proofs.Orders.{no_fault, pair_kind, refused_by, taken_back, Disobeys-if_err, Disobeys-unanswered, no_shortage, on_not_ok, if_not_err, write_alone, never_memory, told}
+use Rattle.cedar_cli.proofs.Orders.{pair_kind, refused_by, taken_back, Disobeys-if_err, Disobeys-unanswered, no_shortage, on_not_ok, if_not_err, write_alone, never_memory, told}
 use Rattle.cedar_cli.proofs.SlotsInView.{put_obeyed, put_refused, seen_same}
+use Rattle.cedarwood.proofs.FaultLemmas.{fault_free}
 use Rattle.cedar_cli.proofs.verbs.answer_put.Goals as goal
 
 pub returns-then-is_err : goal.returns-then-is_err
@@ -24,7 +25,7 @@ returns-then-is_err g c =
     let old = before.state in
     let u = c.in-Ok.ensures.updated in
     let same = to_z-of_z w32 c.args.value c.ranges.value in
-    let clean : fault key c.args.value ≡ None = subst (λ (v : ℤ). fault key v ≡ None) same (no_fault (fault key (to_z w32 (of_z w32 c.args.value))) tt u.faulty) in
+    let clean : fault key c.args.value ≡ None = subst (λ (v : ℤ). fault key v ≡ None) same (fault_free (fault key (to_z w32 (of_z w32 c.args.value))) tt u.faulty) in
     let written = c.write_whole-written.result in
     let writer = c.write_whole-written.ensures.faults in
     let alone = write_alone _ written writer.cause in
@@ -38,7 +39,7 @@ returns-then-is_err g c =
             writer.cause
             (λ _. taken_back c.in-Ok.before old c.insert_bytes.new.self.state c.take_back.new.trie.state key c.args.value
             c.in-Ok.ensures.held c.in-Ok.ensures.sound c.in-Ok.ensures.in_range clean
-            (u.ok ∙ ap (λ v. stored old key v) same) c.take_back.ensures.state)
+            (u.ok ∙ ap (λ v. after_put old key v) same) c.take_back.ensures.state)
             (ap (λ f. put_text f ++ 10 ∷ []) (sym clean)) c.write_whole-written.ensures.err;
       };
       faults = writers_fault (has_failed c.args.writer.now) (has_failed c.write_whole-written.new.writer) written writer;
@@ -56,7 +57,7 @@ returns-else-is_err g c =
     let layout = g.L.Layout.kind in
     let u = c.in-Ok.ensures.updated in
     let same = to_z-of_z w32 c.args.value c.ranges.value in
-    let clean : fault key c.args.value ≡ None = subst (λ (v : ℤ). fault key v ≡ None) same (no_fault (fault key (to_z w32 (of_z w32 c.args.value))) tt u.faulty) in
+    let clean : fault key c.args.value ≡ None = subst (λ (v : ℤ). fault key v ≡ None) same (fault_free (fault key (to_z w32 (of_z w32 c.args.value))) tt u.faulty) in
     let written = c.write_whole-written.result in
     let writer = c.write_whole-written.ensures.faults in
     let alone = write_alone _ written writer.cause in
@@ -64,7 +65,7 @@ returns-else-is_err g c =
     record {
       answer = record {
         ok = Obeys-on_ok written (Some (Put c.args.value, key)) (view_of layout before) (view_of layout after) (g.W.Write.contents (device_of c.args.writer.now)) (g.W.Write.contents (device_of c.write_whole-written.new.writer)) (111 ∷ 107 ∷ 10 ∷ [])
-            (put_obeyed layout before after key c.args.value clean c.in-Ok.ensures.sound (u.ok ∙ ap (λ v. stored before.state key v) same) u.marked u.marks)
+            (put_obeyed layout before after key c.args.value clean c.in-Ok.ensures.sound (u.ok ∙ ap (λ v. after_put before.state key v) same) u.marked u.marks)
             (ap (λ f. put_text f ++ 10 ∷ []) (sym clean)) c.write_whole-written.ensures.ok;
         err = if_not_err _ written (sym c.is_err.ensures.value ∙ c.if-is_err.false);
       };

@@ -13,4 +13,4 @@ returns c =
     let size : c.len.result ≡ length mark.result.bytes = c.len.ensures.value in
     let keeps : KeepsFront more pieces.result.2.now c.kept_front.result.now = record { front = kept.front; room = kept.room; whole = kept.whole; other = kept.other } in
     beside_of c.args.path.now pieces.result.0.now pieces.result.1.now pieces.result.2.now c.kept_front.result.now c.as_str.result.now c.args.number more
-    c.joined.result pieces.ensures.whole pieces.ensures.last c.requires.number (text ∙ mark.ensures.mark) (omega (arith, size, ap length text)) keeps c.joined.ensures
+    c.join_parts.result pieces.ensures.whole pieces.ensures.last c.requires.number (text ∙ mark.ensures.mark) (omega (arith, size, ap length text)) keeps c.join_parts.ensures

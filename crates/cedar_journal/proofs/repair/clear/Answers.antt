@@ -1,16 +1,16 @@
 use Rattle.std.proofs.Common.{◌≡◌, ℕ, List, [], ◌∷◌, sym, ◌∙◌, ap, subst}
 use Rattle.std.specs.Prelude.{Some}
 use Rattle.cedar_journal.specs.Device.{Holds, Only, Torn, Cut}
-use Rattle.cedar_journal.specs.Files.{recovered}
+use Rattle.cedar_journal.specs.Files.{file_payloads}
 use Rattle.cedar_journal.proofs.Moments.{started, goes_on}
 use Rattle.cedar_journal.proofs.HeaderCrash.{cut_leaves, torn_byte}
 use Rattle.cedar_journal.proofs.repair.clear.Goals as goal
 
 pub returns-in_err-cut-clause-any_moment : goal.returns-in_err-cut-clause-any_moment
 returns-in_err-cut-clause-any_moment g c =
-    let P : List ℕ → Type 0 = λ f. recovered f ≡ Some [] in
+    let P : List ℕ → Type 0 = λ f. file_payloads f ≡ Some [] in
     let at_start = started g.D.Device.moment g.D.Device.left_since c.args.device.now P
-    (λ f left. ap recovered (c.requires.restarted f (g.met.D.Device.only_now c.args.device.now f left)) ∙ c.requires.begun.stands) in
+    (λ f left. ap file_payloads (c.requires.restarted f (g.met.D.Device.only_now c.args.device.now f left)) ∙ c.requires.begun.stands) in
     let after_cut : (f : List ℕ) → g.D.Device.may_leave c.cut.new.self f → P f = λ f now.
     let from = c.cut.ensures.crash f now in
     cut_leaves (g.D.Device.seen c.args.device.now) f 0 c.requires.begun (subst (λ d. Cut 0 d f) (c.requires.restarted from.0 from.1) from.2) in
@@ -19,9 +19,9 @@ returns-in_err-cut-clause-any_moment g c =
 
 pub returns-in_err-sync-clause-any_moment : goal.returns-in_err-sync-clause-any_moment
 returns-in_err-sync-clause-any_moment g c =
-    let P : List ℕ → Type 0 = λ f. recovered f ≡ Some [] in
+    let P : List ℕ → Type 0 = λ f. file_payloads f ≡ Some [] in
     let at_start = started g.D.Device.moment g.D.Device.left_since c.args.device.now P
-    (λ f left. ap recovered (c.requires.restarted f (g.met.D.Device.only_now c.args.device.now f left)) ∙ c.requires.begun.stands) in
+    (λ f left. ap file_payloads (c.requires.restarted f (g.met.D.Device.only_now c.args.device.now f left)) ∙ c.requires.begun.stands) in
     let after_cut : (f : List ℕ) → g.D.Device.may_leave c.cut.new.self f → P f = λ f now.
     let from = c.cut.ensures.crash f now in
     cut_leaves (g.D.Device.seen c.args.device.now) f 0 c.requires.begun (subst (λ d. Cut 0 d f) (c.requires.restarted from.0 from.1) from.2) in
@@ -31,9 +31,9 @@ returns-in_err-sync-clause-any_moment g c =
 
 pub returns-in_err-write_at-clause-any_moment : goal.returns-in_err-write_at-clause-any_moment
 returns-in_err-write_at-clause-any_moment g c =
-    let P : List ℕ → Type 0 = λ f. recovered f ≡ Some [] in
+    let P : List ℕ → Type 0 = λ f. file_payloads f ≡ Some [] in
     let at_start = started g.D.Device.moment g.D.Device.left_since c.args.device.now P
-    (λ f left. ap recovered (c.requires.restarted f (g.met.D.Device.only_now c.args.device.now f left)) ∙ c.requires.begun.stands) in
+    (λ f left. ap file_payloads (c.requires.restarted f (g.met.D.Device.only_now c.args.device.now f left)) ∙ c.requires.begun.stands) in
     let after_cut : (f : List ℕ) → g.D.Device.may_leave c.cut.new.self f → P f = λ f now.
     let from = c.cut.ensures.crash f now in
     cut_leaves (g.D.Device.seen c.args.device.now) f 0 c.requires.begun (subst (λ d. Cut 0 d f) (c.requires.restarted from.0 from.1) from.2) in
@@ -47,9 +47,9 @@ returns-in_err-write_at-clause-any_moment g c =
 
 pub returns-in_err-sync-2-clause-any_moment : goal.returns-in_err-sync-2-clause-any_moment
 returns-in_err-sync-2-clause-any_moment g c =
-    let P : List ℕ → Type 0 = λ f. recovered f ≡ Some [] in
+    let P : List ℕ → Type 0 = λ f. file_payloads f ≡ Some [] in
     let at_start = started g.D.Device.moment g.D.Device.left_since c.args.device.now P
-    (λ f left. ap recovered (c.requires.restarted f (g.met.D.Device.only_now c.args.device.now f left)) ∙ c.requires.begun.stands) in
+    (λ f left. ap file_payloads (c.requires.restarted f (g.met.D.Device.only_now c.args.device.now f left)) ∙ c.requires.begun.stands) in
     let after_cut : (f : List ℕ) → g.D.Device.may_leave c.cut.new.self f → P f = λ f now.
     let from = c.cut.ensures.crash f now in
     cut_leaves (g.D.Device.seen c.args.device.now) f 0 c.requires.begun (subst (λ d. Cut 0 d f) (c.requires.restarted from.0 from.1) from.2) in
@@ -64,9 +64,9 @@ returns-in_err-sync-2-clause-any_moment g c =
 
 pub returns-clause-any_moment : goal.returns-clause-any_moment
 returns-clause-any_moment g c =
-    let P : List ℕ → Type 0 = λ f. recovered f ≡ Some [] in
+    let P : List ℕ → Type 0 = λ f. file_payloads f ≡ Some [] in
     let at_start = started g.D.Device.moment g.D.Device.left_since c.args.device.now P
-    (λ f left. ap recovered (c.requires.restarted f (g.met.D.Device.only_now c.args.device.now f left)) ∙ c.requires.begun.stands) in
+    (λ f left. ap file_payloads (c.requires.restarted f (g.met.D.Device.only_now c.args.device.now f left)) ∙ c.requires.begun.stands) in
     let after_cut : (f : List ℕ) → g.D.Device.may_leave c.cut.new.self f → P f = λ f now.
     let from = c.cut.ensures.crash f now in
     cut_leaves (g.D.Device.seen c.args.device.now) f 0 c.requires.begun (subst (λ d. Cut 0 d f) (c.requires.restarted from.0 from.1) from.2) in

@@ -1,6 +1,6 @@
 use Rattle.std.proofs.Common.{◌≡◌, ℕ, List, [], ◌∷◌, take, sym, ◌∙◌, ap, subst}
 use Rattle.cedar_journal.specs.Device.{Holds, Only, Torn, Cut}
-use Rattle.cedar_journal.specs.Files.{recovered}
+use Rattle.cedar_journal.specs.Files.{file_payloads}
 use Rattle.cedar_journal.proofs.Moments.{started, goes_on}
 use Rattle.cedar_journal.proofs.Crash.{closed_same, cut_keeps, file_size, settled_at, torn_end, written_end}
 use Rattle.cedar_journal.proofs.repair.close_behind.Goals as goal
@@ -8,8 +8,8 @@ use Rattle.cedar_journal.proofs.repair.close_behind.Goals as goal
 pub returns-in_err-cut-clause-any_moment : goal.returns-in_err-cut-clause-any_moment
 returns-in_err-cut-clause-any_moment g c =
     let file = g.D.Device.seen c.args.device.now in
-    let P : List ℕ → Type 0 = λ f. recovered f ≡ recovered (g.D.Device.seen c.args.device.now) in
-    let at_start = started g.D.Device.moment g.D.Device.left_since c.args.device.now P (λ f left. ap recovered (c.requires.restarted f (g.met.D.Device.only_now c.args.device.now f left))) in
+    let P : List ℕ → Type 0 = λ f. file_payloads f ≡ file_payloads (g.D.Device.seen c.args.device.now) in
+    let at_start = started g.D.Device.moment g.D.Device.left_since c.args.device.now P (λ f left. ap file_payloads (c.requires.restarted f (g.met.D.Device.only_now c.args.device.now f left))) in
     let after_cut : (f : List ℕ) → g.D.Device.may_leave c.cut.new.self f → P f = λ f now.
     let from = c.cut.ensures.crash f now in
     cut_keeps file c.args.format c.args.end c.requires.records f (subst (λ d. Cut c.args.end d f) (c.requires.restarted from.0 from.1) from.2) in
@@ -19,8 +19,8 @@ returns-in_err-cut-clause-any_moment g c =
 pub returns-in_err-sync-clause-any_moment : goal.returns-in_err-sync-clause-any_moment
 returns-in_err-sync-clause-any_moment g c =
     let file = g.D.Device.seen c.args.device.now in
-    let P : List ℕ → Type 0 = λ f. recovered f ≡ recovered (g.D.Device.seen c.args.device.now) in
-    let at_start = started g.D.Device.moment g.D.Device.left_since c.args.device.now P (λ f left. ap recovered (c.requires.restarted f (g.met.D.Device.only_now c.args.device.now f left))) in
+    let P : List ℕ → Type 0 = λ f. file_payloads f ≡ file_payloads (g.D.Device.seen c.args.device.now) in
+    let at_start = started g.D.Device.moment g.D.Device.left_since c.args.device.now P (λ f left. ap file_payloads (c.requires.restarted f (g.met.D.Device.only_now c.args.device.now f left))) in
     let after_cut : (f : List ℕ) → g.D.Device.may_leave c.cut.new.self f → P f = λ f now.
     let from = c.cut.ensures.crash f now in
     cut_keeps file c.args.format c.args.end c.requires.records f (subst (λ d. Cut c.args.end d f) (c.requires.restarted from.0 from.1) from.2) in
@@ -31,8 +31,8 @@ returns-in_err-sync-clause-any_moment g c =
 pub returns-in_err-write_at-clause-any_moment : goal.returns-in_err-write_at-clause-any_moment
 returns-in_err-write_at-clause-any_moment g c =
     let file = g.D.Device.seen c.args.device.now in
-    let P : List ℕ → Type 0 = λ f. recovered f ≡ recovered (g.D.Device.seen c.args.device.now) in
-    let at_start = started g.D.Device.moment g.D.Device.left_since c.args.device.now P (λ f left. ap recovered (c.requires.restarted f (g.met.D.Device.only_now c.args.device.now f left))) in
+    let P : List ℕ → Type 0 = λ f. file_payloads f ≡ file_payloads (g.D.Device.seen c.args.device.now) in
+    let at_start = started g.D.Device.moment g.D.Device.left_since c.args.device.now P (λ f left. ap file_payloads (c.requires.restarted f (g.met.D.Device.only_now c.args.device.now f left))) in
     let after_cut : (f : List ℕ) → g.D.Device.may_leave c.cut.new.self f → P f = λ f now.
     let from = c.cut.ensures.crash f now in
     cut_keeps file c.args.format c.args.end c.requires.records f (subst (λ d. Cut c.args.end d f) (c.requires.restarted from.0 from.1) from.2) in
@@ -48,8 +48,8 @@ returns-in_err-write_at-clause-any_moment g c =
 pub returns-in_err-sync-2-clause-any_moment : goal.returns-in_err-sync-2-clause-any_moment
 returns-in_err-sync-2-clause-any_moment g c =
     let file = g.D.Device.seen c.args.device.now in
-    let P : List ℕ → Type 0 = λ f. recovered f ≡ recovered (g.D.Device.seen c.args.device.now) in
-    let at_start = started g.D.Device.moment g.D.Device.left_since c.args.device.now P (λ f left. ap recovered (c.requires.restarted f (g.met.D.Device.only_now c.args.device.now f left))) in
+    let P : List ℕ → Type 0 = λ f. file_payloads f ≡ file_payloads (g.D.Device.seen c.args.device.now) in
+    let at_start = started g.D.Device.moment g.D.Device.left_since c.args.device.now P (λ f left. ap file_payloads (c.requires.restarted f (g.met.D.Device.only_now c.args.device.now f left))) in
     let after_cut : (f : List ℕ) → g.D.Device.may_leave c.cut.new.self f → P f = λ f now.
     let from = c.cut.ensures.crash f now in
     cut_keeps file c.args.format c.args.end c.requires.records f (subst (λ d. Cut c.args.end d f) (c.requires.restarted from.0 from.1) from.2) in
@@ -66,8 +66,8 @@ returns-in_err-sync-2-clause-any_moment g c =
 pub returns-clause-any_moment : goal.returns-clause-any_moment
 returns-clause-any_moment g c =
     let file = g.D.Device.seen c.args.device.now in
-    let P : List ℕ → Type 0 = λ f. recovered f ≡ recovered (g.D.Device.seen c.args.device.now) in
-    let at_start = started g.D.Device.moment g.D.Device.left_since c.args.device.now P (λ f left. ap recovered (c.requires.restarted f (g.met.D.Device.only_now c.args.device.now f left))) in
+    let P : List ℕ → Type 0 = λ f. file_payloads f ≡ file_payloads (g.D.Device.seen c.args.device.now) in
+    let at_start = started g.D.Device.moment g.D.Device.left_since c.args.device.now P (λ f left. ap file_payloads (c.requires.restarted f (g.met.D.Device.only_now c.args.device.now f left))) in
     let after_cut : (f : List ℕ) → g.D.Device.may_leave c.cut.new.self f → P f = λ f now.
     let from = c.cut.ensures.crash f now in
     cut_keeps file c.args.format c.args.end c.requires.records f (subst (λ d. Cut c.args.end d f) (c.requires.restarted from.0 from.1) from.2) in

@@ -2,7 +2,7 @@ use Rattle.std.proofs.Common.{◌≡◌, ℕ, List, [], ◌∷◌, sym, ◌∙�
 use Rattle.std.specs.Prelude.{Some}
 use Rattle.cedar_journal.specs.Device.{Holds, Only, Torn}
 use Rattle.cedar_journal.specs.declared.format.Format.TheVariants.{Summed}
-use Rattle.cedar_journal.specs.Files.{header_frame, journal_header, recovered}
+use Rattle.cedar_journal.specs.Files.{file_payloads, header_frame, journal_header}
 use Rattle.cedar_journal.proofs.Moments.{started, goes_on}
 use Rattle.cedar_journal.proofs.Crash.{settled_at}
 use Rattle.cedar_journal.proofs.Headers.{byte_stands, header_is_front, header_stands}
@@ -11,9 +11,9 @@ use Rattle.cedar_journal.proofs.repair.write_header.Goals as goal
 
 pub returns-in_err-write_at-clause-any_moment : goal.returns-in_err-write_at-clause-any_moment
 returns-in_err-write_at-clause-any_moment g c =
-    let P : List ℕ → Type 0 = λ f. recovered f ≡ Some [] in
+    let P : List ℕ → Type 0 = λ f. file_payloads f ≡ Some [] in
     let at_start = started g.D.Device.moment g.D.Device.left_since c.args.device.now P
-    (λ f left. ap recovered (c.requires.durable f (g.met.D.Device.only_now c.args.device.now f left) ∙ c.requires.cleared) ∙ byte_stands 0) in
+    (λ f left. ap file_payloads (c.requires.durable f (g.met.D.Device.only_now c.args.device.now f left) ∙ c.requires.cleared) ∙ byte_stands 0) in
     let after_write : (f : List ℕ) → g.D.Device.may_leave c.write_at.new.self f → P f = λ f now.
     let from = c.write_at.ensures.crash f now in
     torn_frame f (subst (λ d. Torn 1 13 d f) (c.requires.durable from.0 from.1 ∙ c.requires.cleared) from.2) in
@@ -22,9 +22,9 @@ returns-in_err-write_at-clause-any_moment g c =
 
 pub returns-in_err-sync-clause-any_moment : goal.returns-in_err-sync-clause-any_moment
 returns-in_err-sync-clause-any_moment g c =
-    let P : List ℕ → Type 0 = λ f. recovered f ≡ Some [] in
+    let P : List ℕ → Type 0 = λ f. file_payloads f ≡ Some [] in
     let at_start = started g.D.Device.moment g.D.Device.left_since c.args.device.now P
-    (λ f left. ap recovered (c.requires.durable f (g.met.D.Device.only_now c.args.device.now f left) ∙ c.requires.cleared) ∙ byte_stands 0) in
+    (λ f left. ap file_payloads (c.requires.durable f (g.met.D.Device.only_now c.args.device.now f left) ∙ c.requires.cleared) ∙ byte_stands 0) in
     let after_write : (f : List ℕ) → g.D.Device.may_leave c.write_at.new.self f → P f = λ f now.
     let from = c.write_at.ensures.crash f now in
     torn_frame f (subst (λ d. Torn 1 13 d f) (c.requires.durable from.0 from.1 ∙ c.requires.cleared) from.2) in
@@ -34,9 +34,9 @@ returns-in_err-sync-clause-any_moment g c =
 
 pub returns-in_err-write_at-2-clause-any_moment : goal.returns-in_err-write_at-2-clause-any_moment
 returns-in_err-write_at-2-clause-any_moment g c =
-    let P : List ℕ → Type 0 = λ f. recovered f ≡ Some [] in
+    let P : List ℕ → Type 0 = λ f. file_payloads f ≡ Some [] in
     let at_start = started g.D.Device.moment g.D.Device.left_since c.args.device.now P
-    (λ f left. ap recovered (c.requires.durable f (g.met.D.Device.only_now c.args.device.now f left) ∙ c.requires.cleared) ∙ byte_stands 0) in
+    (λ f left. ap file_payloads (c.requires.durable f (g.met.D.Device.only_now c.args.device.now f left) ∙ c.requires.cleared) ∙ byte_stands 0) in
     let after_write : (f : List ℕ) → g.D.Device.may_leave c.write_at.new.self f → P f = λ f now.
     let from = c.write_at.ensures.crash f now in
     torn_frame f (subst (λ d. Torn 1 13 d f) (c.requires.durable from.0 from.1 ∙ c.requires.cleared) from.2) in
@@ -52,9 +52,9 @@ returns-in_err-write_at-2-clause-any_moment g c =
 
 pub returns-in_err-sync-2-clause-any_moment : goal.returns-in_err-sync-2-clause-any_moment
 returns-in_err-sync-2-clause-any_moment g c =
-    let P : List ℕ → Type 0 = λ f. recovered f ≡ Some [] in
+    let P : List ℕ → Type 0 = λ f. file_payloads f ≡ Some [] in
     let at_start = started g.D.Device.moment g.D.Device.left_since c.args.device.now P
-    (λ f left. ap recovered (c.requires.durable f (g.met.D.Device.only_now c.args.device.now f left) ∙ c.requires.cleared) ∙ byte_stands 0) in
+    (λ f left. ap file_payloads (c.requires.durable f (g.met.D.Device.only_now c.args.device.now f left) ∙ c.requires.cleared) ∙ byte_stands 0) in
     let after_write : (f : List ℕ) → g.D.Device.may_leave c.write_at.new.self f → P f = λ f now.
     let from = c.write_at.ensures.crash f now in
     torn_frame f (subst (λ d. Torn 1 13 d f) (c.requires.durable from.0 from.1 ∙ c.requires.cleared) from.2) in
@@ -71,9 +71,9 @@ returns-in_err-sync-2-clause-any_moment g c =
 
 pub returns-clause-any_moment : goal.returns-clause-any_moment
 returns-clause-any_moment g c =
-    let P : List ℕ → Type 0 = λ f. recovered f ≡ Some [] in
+    let P : List ℕ → Type 0 = λ f. file_payloads f ≡ Some [] in
     let at_start = started g.D.Device.moment g.D.Device.left_since c.args.device.now P
-    (λ f left. ap recovered (c.requires.durable f (g.met.D.Device.only_now c.args.device.now f left) ∙ c.requires.cleared) ∙ byte_stands 0) in
+    (λ f left. ap file_payloads (c.requires.durable f (g.met.D.Device.only_now c.args.device.now f left) ∙ c.requires.cleared) ∙ byte_stands 0) in
     let after_write : (f : List ℕ) → g.D.Device.may_leave c.write_at.new.self f → P f = λ f now.
     let from = c.write_at.ensures.crash f now in
     torn_frame f (subst (λ d. Torn 1 13 d f) (c.requires.durable from.0 from.1 ∙ c.requires.cleared) from.2) in
@@ -105,4 +105,4 @@ returns-clause-none g c =
     subst (λ f. Holds f 1 (header_frame Summed) (seen c.write_at.new.self)) c.requires.cleared c.in_ok-write_at.ensures.written in
     let is : seen c.sync-2.new.self ≡ 1 ∷ header_frame Summed =
     c.sync-2.ensures.seen ∙ subst (λ f. Holds f 0 (1 ∷ []) (seen c.write_at-2.new.self)) (c.sync.ensures.seen ∙ written) c.in_ok-write_at-2.ensures.written in
-    ap recovered is ∙ header_stands
+    ap file_payloads is ∙ header_stands

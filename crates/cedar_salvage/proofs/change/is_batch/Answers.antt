@@ -1,6 +1,7 @@
 use Rattle.std.proofs.Common.{◌-◌, length, take, drop, refl, ◌∙◌, ap, sym, arith, length-drop}
 use Rattle.cedar_store.proofs.Payloads.{rest_is}
-use Rattle.cedar_salvage.proofs.Changes.{batch_at, ended, goes_on, longer, no_batch, stops}
+use Rattle.cedar_salvage.proofs.Changes.{batch_at, goes_on, longer, no_batch, stops}
+use Rattle.cedar_store.proofs.Batched.{ended}
 use Rattle.cedar_salvage.proofs.change.is_batch.Goals as goal
 
 pub loop-part-init : goal.loop-part-init

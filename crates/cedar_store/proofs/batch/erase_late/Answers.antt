@@ -1,5 +1,5 @@
 use Rattle.std.proofs.Common.{◌≡◌, ◌+◌, ◌∙◌, ap, cond, drop, sym, get_or}
-use Rattle.cedar_tree.specs.State.{erased}
+use Rattle.cedarwood.specs.State.{after_erase}
 use Rattle.cedar_store.specs.Batches.{change_at, late_erased}
 use Rattle.cedar_store.specs.Told.{change_told, changes_told}
 use Rattle.cedar_store.proofs.Withdrawn.{blank, told_at}
@@ -19,5 +19,5 @@ returns-in-Erase g c =
     let i = c.args.index in
     let there : change_at cs i ≡ change_told (get_or c.args.changes.now i blank) = told_at c.args.changes.now i c.requires.inside in
     c.erase_unless.ensures
-    ∙ ap (λ b. cond b s (erased s c.in-Erase.key.now)) c.is_put.ensures
+    ∙ ap (λ b. cond b s (after_erase s c.in-Erase.key.now)) c.is_put.ensures
     ∙ sym (ap (λ d. late_erased s d (drop (i + 1) cs)) (there ∙ ap change_told c.in-Erase.is))

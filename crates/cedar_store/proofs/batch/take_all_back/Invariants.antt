@@ -1,5 +1,5 @@
 use Rattle.std.proofs.Common.{◌≡◌, ◌≤◌, length, take}
-use Rattle.cedar_tree.specs.State.{State}
+use Rattle.cedarwood.specs.State.{State}
 use Rattle.cedar_store.specs.Batches.{AreHeld, all_updated}
 use Rattle.cedar_store.specs.Told.{changes_told}
 use Rattle.cedar_store.proofs.batch.take_all_back.Given as goal

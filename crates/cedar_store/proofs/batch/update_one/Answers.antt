@@ -3,10 +3,10 @@ use Rattle.std.proofs.Common.{◌≡◌, ◌∙◌, ap, refl, rules, subst, sym}
 use Rattle.std.proofs.lemmas.Int.{to_z-of_z}
 use mir.Val.{of_z, to_z}
 use mir.Syntax.{w32}
-use Rattle.cedar_tree.specs.Tree.{number_at}
-use Rattle.cedar_tree.specs.State.{stored}
-use Rattle.cedar_tree.proofs.EntryLemmas.Keys.{held_key}
-use Rattle.cedar_tree.proofs.TreeLemmas.{number_at-put_same}
+use Rattle.cedarwood.specs.Tree.{number_at}
+use Rattle.cedarwood.specs.State.{after_put}
+use Rattle.cedarwood.proofs.EntryLemmas.Keys.{held_key}
+use Rattle.cedarwood.proofs.TreeLemmas.{number_at-put_same}
 use Rattle.cedarwood.specs.Fault.{fault}
 use Rattle.cedar_store.specs.Batches.{HasKey, IsFaultless, IsHeld, only_updated}
 use Rattle.cedar_store.specs.Told.{change_told}
@@ -23,7 +23,7 @@ returns-in_ok-held-in-Update g c =
     let same = to_z-of_z w32 v fits in
     let told = sym c.in-Update.is in
     let e = c.in_ok-held-in-Update.ensures in
-    let made : t ≡ stored s key v = e.updated.ok ∙ ap (stored s key) same in
+    let made : t ≡ after_put s key v = e.updated.ok ∙ ap (after_put s key) same in
     let sound : fault key v ≡ None = ap (fault key) (sym same) ∙ sound_pair (fault key (to_z w32 (of_z w32 v))) (Ok tt) e.updated.faulty refl in
     record {
       updated = subst (λ d. t ≡ only_updated s (change_told d)) told made;

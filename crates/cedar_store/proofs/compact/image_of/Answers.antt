@@ -4,18 +4,18 @@ use Rattle.std.proofs.Common.{◌≡◌, ◌∙◌, [], ◌∷◌, ap, arith, le
 use Rattle.std.proofs.lemmas.Int.{to_z-of_z}
 use mir.Syntax.{w32}
 use Rattle.cedar_journal.specs.Image.{payloads_of}
-use Rattle.cedar_tree.specs.Queries.{Entry}
-use Rattle.cedar_tree.specs.State.{new_state}
+use Rattle.cedarwood.specs.Queries.{Entry}
+use Rattle.cedarwood.specs.State.{new_state}
 use Rattle.cedarwood.specs.Builds.{all_stored}
 use Rattle.cedarwood.specs.Fault.{fault}
-use Rattle.cedar_store.specs.Changes.{changes_of, put_at, replayed}
+use Rattle.cedar_store.specs.Changes.{after_payloads, changes_of, put_at}
 use Rattle.cedar_store.specs.Compactions.{compacted_length}
 use Rattle.cedar_store.proofs.Compacted.{none_left, one_put}
 use Rattle.cedar_store.proofs.compact.image_of.Goals as goal
 
 pub loop-entry-init : goal.loop-entry-init
 loop-entry-init g c = record {
-  made = ap (λ ps. option_map (λ s. all_stored s c.args.entries) (replayed new_state ps)) c.in_ok-image.ensures.none;
+  made = ap (λ ps. option_map (λ s. all_stored s c.args.entries) (after_payloads new_state ps)) c.in_ok-image.ensures.none;
   size = omega (arith, c.in_ok-image.ensures.length);
   count = omega (arith, ap length c.in_ok-image.ensures.none);
   sound = c.requires;
@@ -44,7 +44,7 @@ loop-entry-preserved g c =
     record {
       made =
           one_put before (payloads_of c.push_entry.new.image) put.payload e.0 e.1 later put.behind change
-          ∙ ap (λ l. option_map (λ s. all_stored s l) (replayed new_state before)) (sym step)
+          ∙ ap (λ l. option_map (λ s. all_stored s l) (after_payloads new_state before)) (sym step)
           ∙ i.made;
       size = omega (arith, i.size, c.in_ok-push_entry.ensures.longer, ap length same, ap compacted_length step);
       count = omega (arith, i.count, ap length put.behind, length-append before (put.payload ∷ []), ap length step);
@@ -54,7 +54,7 @@ loop-entry-preserved g c =
 pub returns-clause-made : goal.returns-clause-made
 returns-clause-made g c =
     let ended : c.loop-entry.entries ≡ [] = search rules in
-    let held = replayed new_state (payloads_of c.loop-entry.image) in
+    let held = after_payloads new_state (payloads_of c.loop-entry.image) in
     sym (none_left held) ∙ ap (λ l. option_map (λ s. all_stored s l) held) (sym ended) ∙ c.loop-entry.invariant.made
 
 pub returns-clause-length : goal.returns-clause-length

@@ -5,8 +5,9 @@ use Rattle.cedar_store.specs.Batches.{IsFaultless, batch_length, change_length, 
 use Rattle.cedar_store.specs.Changes.{changes_of, erase_at}
 use Rattle.cedar_store.specs.Told.{change_told, changes_told}
 use Rattle.cedar_store.proofs.Payloads.{handed_on}
-use Rattle.cedar_store.proofs.Recorded.{AreRecorded, batch_recorded, longer_cause, longest, none_recorded, one_of, one_recorded}
+use Rattle.cedar_store.proofs.Recorded.{AreRecorded, batch_recorded, longer_cause, longest, none_recorded, one_recorded}
 use Rattle.cedar_store.proofs.Withdrawn.{as_many, blank, told_at}
+use Rattle.cedarwood.proofs.GeneralLemmas.{all_at}
 use Rattle.cedar_store.proofs.frames.batch_payload.Goals as goal
 
 pub loop-index-init : goal.loop-index-init
@@ -22,7 +23,7 @@ push_change-requires g c =
     let many = as_many c.args.changes.now in
     let low : i < length cs = omega (arith, many, c.loop-index-test.true) in
     let there : change_at cs i ≡ change_told (get_or c.args.changes.now i blank) = told_at c.args.changes.now i c.loop-index-test.true in
-    subst IsFaultless there (one_of IsFaultless cs i (erase_at []) low c.requires)
+    subst IsFaultless there (all_at IsFaultless cs i (erase_at []) low c.requires)
 
 pub loop-index-preserved : goal.loop-index-preserved
 loop-index-preserved g c =

@@ -1,6 +1,6 @@
 use Rattle.std.proofs.Common.{◌≡◌, ◌+◌, ◌-◌, length, take, drop, refl, ◌∙◌, ap, sym, subst, arith, length-drop}
 use Rattle.cedar_journal.specs.Formats.{AreUndamaged, payloads_read, overhead, records_read}
-use Rattle.cedar_store.specs.Changes.{replayed}
+use Rattle.cedar_store.specs.Changes.{after_payloads}
 use Rattle.cedar_store.proofs.Payloads.{handed_on, rest_is}
 use Rattle.cedar_store.proofs.Reading.{ended, next_sound, one_turn, stopped}
 use Rattle.cedar_store.proofs.replay.replay.Goals as goal
@@ -25,7 +25,7 @@ loop-payload-preserved g c =
     record {
       within = omega (arith, before.within, size, fits, ap length (rest_is at bytes), length-drop at bytes);
       sound = subst (λ k. AreUndamaged f (drop (at + k) bytes)) (sym size) sound;
-      same = ap (λ k. replayed (g.T.Words.state c.apply.new.words) (payloads_read (records_read f (drop (at + k) bytes)))) size ∙ turn;
+      same = ap (λ k. after_payloads (g.T.Words.state c.apply.new.words) (payloads_read (records_read f (drop (at + k) bytes)))) size ∙ turn;
     }
 
 pub returns-in_err-apply-clause-cause : goal.returns-in_err-apply-clause-cause
@@ -37,7 +37,7 @@ returns-in_err-apply-clause-cause g c =
     let b = take (length bytes - at) (drop at bytes) in
     let p = c.in-Some.payload.now in
     handed_on c.from_residual.result c.in_err-apply.field-0.0 _ c.from_residual.ensures.1
-    (stopped bytes b p f at (overhead f + length p) (rest_is at bytes) before.sound (c.in-Some.ensures.read (subst (AreUndamaged f) (sym (rest_is at bytes)) before.sound)) (g.T.Words.state c.loop-payload.words) (replayed (g.T.Words.state c.args.words.now) (payloads_read (records_read f bytes))) c.in_err-apply.field-0.0 before.same c.in_err-apply.ensures.cause)
+    (stopped bytes b p f at (overhead f + length p) (rest_is at bytes) before.sound (c.in-Some.ensures.read (subst (AreUndamaged f) (sym (rest_is at bytes)) before.sound)) (g.T.Words.state c.loop-payload.words) (after_payloads (g.T.Words.state c.args.words.now) (payloads_read (records_read f bytes))) c.in_err-apply.field-0.0 before.same c.in_err-apply.ensures.cause)
 
 pub returns-clause-state : goal.returns-clause-state
 returns-clause-state g c =

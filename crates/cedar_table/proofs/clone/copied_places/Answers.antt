@@ -9,4 +9,4 @@ returns g c =
     let closed : to_z w32 (of_z w32 blocks.closed_head) ≡ blocks.closed_head = search rules in
     let opened : to_z w32 (of_z w32 blocks.open_head) ≡ blocks.open_head = search rules in
     let trials : to_z w32 (of_z w32 blocks.max_trial) ≡ blocks.max_trial = search rules in
-    same_places blocks.active c.in_ok-copied.ensures.items c.in_ok-copied-2.ensures.items c.in_ok-copied-3.ensures.items full closed opened trials c.in_ok-copy_of.ensures
+    same_places blocks.active c.in_ok-try_copy.ensures.items c.in_ok-try_copy-2.ensures.items c.in_ok-try_copy-3.ensures.items full closed opened trials c.in_ok-copy_of.ensures

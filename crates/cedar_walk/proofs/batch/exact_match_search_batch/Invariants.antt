@@ -1,5 +1,5 @@
 use Rattle.std.proofs.Common.{◌-◌, ◌≡◌, ◌≤◌, ◌++◌, drop, map, take}
-use Rattle.cedar_tree.specs.Queries.{exact}
+use Rattle.cedar_model.specs.Queries.{exact}
 use Rattle.cedar_walk.specs.Batch.{keys_of}
 use Rattle.cedar_table.specs.Table.Views.{fields}
 use Rattle.cedar_model.specs.Meaning.WellFormed.{tree_of}

@@ -1,7 +1,7 @@
 use Rattle.std.proofs.Common.{◌+◌, ◌-◌, ◌∙◌, ap, arith, rules, sym, take, ℤ, w32, FitsSigned, ◌∷◌}
 use Rattle.std.proofs.lemmas.Int.{to_z-of_z}
-use Rattle.cedar_tree.specs.Queries.{node_at}
-use Rattle.cedar_tree.specs.Walks.{front_from}
+use Rattle.cedar_model.specs.Queries.{node_at}
+use Rattle.cedar_model.specs.Walks.{front_from}
 use Rattle.cedar_table.specs.Table.Views.{fields}
 use Rattle.cedar_model.specs.Meaning.WellFormed.{tree_of}
 use Rattle.cedar_walk.proofs.WalkLemmas.NextFront.{front_gone, front_held, front_passed, on_child}

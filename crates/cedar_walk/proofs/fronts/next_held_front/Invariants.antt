@@ -1,5 +1,5 @@
 use Rattle.std.proofs.Common.{◌≡◌, ◌+◌, ◌*◌, ◌-◌, ◌≤◌, length}
-use Rattle.cedar_tree.specs.Walks.{front_from}
+use Rattle.cedar_model.specs.Walks.{front_from}
 use Rattle.cedar_walk.specs.Fronts.{IsOnQuery}
 use Rattle.cedar_table.specs.Table.Views.{fields}
 use Rattle.cedar_model.specs.Meaning.WellFormed.{tree_of}

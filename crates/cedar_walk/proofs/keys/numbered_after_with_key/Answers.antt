@@ -1,11 +1,12 @@
 use Rattle.std.proofs.Common.{◌≡◌, ◌-◌, ap, arith, length, rules, subst, sym, vec_capacity}
-use Rattle.cedar_tree.specs.Walks.{visited_entries}
+use Rattle.cedar_model.specs.Walks.{visited_entries}
 use Rattle.cedar_table.specs.Table.Views.{fields}
 use Rattle.cedar_walk.specs.Keys.{NextKeyOutgrows}
 use Rattle.cedar_walk.specs.Visits.{ComesToNumber, entries_at, left_at, visited_at}
-use Rattle.cedar_walk.proofs.WalkLemmas.Keys.{first_outgrows, key_turns, next_outgrows, on_err, outgrows_less}
+use Rattle.cedar_walk.proofs.WalkLemmas.Keys.{first_outgrows, key_turns, next_outgrows, outgrows_less}
 use Rattle.cedar_walk.proofs.WalkLemmas.NextNode.{path_length}
 use Rattle.cedar_walk.proofs.WalkLemmas.NextNumber.{deep_not_root}
+use Rattle.cedar_model.proofs.GeneralLemmas.{on_err}
 use Rattle.cedar_walk.proofs.keys.numbered_after_with_key.Goals as goal
 
 pub overflow_sub-place : goal.overflow_sub-place

@@ -6,9 +6,10 @@ use Rattle.cedar_model.specs.Meaning.Family.{below}
 use Rattle.cedar_model.proofs.MeaningLemmas.SearchStep.{never_nothing}
 use Rattle.cedar_walk.specs.Keys.{FirstKeyOutgrows}
 use Rattle.cedar_walk.specs.Visits.{path_to}
-use Rattle.cedar_walk.proofs.WalkLemmas.Keys.{down_outgrows, key_goes_down, on_err}
+use Rattle.cedar_walk.proofs.WalkLemmas.Keys.{down_outgrows, key_goes_down}
 use Rattle.cedar_walk.proofs.WalkLemmas.NextNode.{node_inside, node_stands, short_way}
 use Rattle.cedar_walk.proofs.WalkLemmas.NextNumber.{Descended, descended_on, descended_to, leaf_number}
+use Rattle.cedar_model.proofs.GeneralLemmas.{on_err}
 use Rattle.cedar_walk.proofs.keys.numbered_from_with_key.Goals as goal
 
 pub child-label-requires : goal.child-label-requires

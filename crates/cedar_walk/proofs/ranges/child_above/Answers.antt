@@ -1,15 +1,16 @@
 use Rattle.std.proofs.Common.{◌<◌, ◌≤◌, arith, rules}
-use Rattle.cedar_tree.specs.Queries.{node_at}
-use Rattle.cedar_tree.specs.Tree.{Forest, IsSoundBelow}
-use Rattle.cedar_tree.proofs.OrderLemmas.{sound_node_at}
+use Rattle.cedar_model.specs.Queries.{node_at}
+use Rattle.cedar_model.specs.Tree.{Forest, IsSoundBelow}
+use Rattle.cedar_model.proofs.OrderLemmas.{sound_node_at}
 use Rattle.cedar_model.specs.Meaning.Family.{below}
 use Rattle.cedar_model.specs.Meaning.WellFormed.{tree_of}
 use Rattle.cedar_model.specs.Table.TableFields.{size_of}
 use Rattle.cedar_model.proofs.MeaningLemmas.SearchStep.{never_nothing}
 use Rattle.cedar_table.specs.Table.Views.{cells, fields}
 use Rattle.cedar_walk.proofs.WalkLemmas.NextNode.{child_inside, node_inside, node_stands}
-use Rattle.cedar_walk.proofs.WalkLemmas.Ranges.{fewer_left, label_small, sibling_on}
+use Rattle.cedar_walk.proofs.WalkLemmas.Ranges.{fewer_left, sibling_on}
 use Rattle.cedar_walk.proofs.WalkLemmas.Since.{above_label}
+use Rattle.cedar_model.proofs.EntryLemmas.Keys.{label_bounds}
 use Rattle.cedar_walk.proofs.ranges.child_above.Goals as goal
 
 pub slot_below-requires : goal.slot_below-requires
@@ -42,7 +43,7 @@ loop-next-smaller g c =
     let most : c.loop-next.next ≤ c.args.label = omega (arith, c.if-next-label.false) in
     let on = sibling_on _ T k c.requires.ordered w c.args.node c.args.label c.loop-next.next c.slot_below.result c.sibling-next.result at (c.loop-next.invariant w at) c.loop-next-test.true most c.slot_below.ensures c.sibling-next.ensures in
     let byte : c.sibling-next.result < 256 = omega (arith, c.sibling-next.type_inv) in
-    fewer_left c.loop-next.next c.sibling-next.result c.loop-next-test.true (label_small f c.loop-next.next sound has).1 byte on.1
+    fewer_left c.loop-next.next c.sibling-next.result c.loop-next-test.true (label_bounds f c.loop-next.next sound has).1 byte on.1
 
 pub loop-next-preserved : goal.loop-next-preserved
 loop-next-preserved g c = λ w at.

@@ -1,5 +1,5 @@
 use Rattle.std.proofs.Common.{◌<◌, ◌∙◌, [], ap, arith, length, MatchOption, rules, subst, sym, ◌≡◌}
-use Rattle.cedar_tree.specs.Walks.{visited_entries}
+use Rattle.cedar_model.specs.Walks.{visited_entries}
 use Rattle.cedar_table.specs.Table.Views.{fields}
 use Rattle.cedar_model.specs.Meaning.WellFormed.{tree_of}
 use Rattle.cedar_walk.specs.Ranges.{entries_since}

@@ -1,5 +1,5 @@
 use Rattle.std.proofs.Common.{◌<◌, ◌≤◌, [], arith, inl, inr, rules}
-use Rattle.cedar_tree.proofs.OrderLemmas.{sound_node_at}
+use Rattle.cedar_model.proofs.OrderLemmas.{sound_node_at}
 use Rattle.cedar_model.specs.Meaning.WellFormed.{tree_of}
 use Rattle.cedar_model.specs.Table.TableFields.{size_of}
 use Rattle.cedar_table.specs.Table.Views.{fields}

@@ -1,6 +1,6 @@
 use Rattle.std.proofs.Common.{[], ◌++◌, ◌∙◌, ap, rules, subst, sym}
 use Rattle.std.proofs.lemmas.List.{append-nil}
-use Rattle.cedar_tree.specs.Walks.{visited_entries}
+use Rattle.cedar_model.specs.Walks.{visited_entries}
 use Rattle.cedar_model.specs.Edit.NodeEdits.{IsAt}
 use Rattle.cedar_table.specs.Table.Views.{cells, fields}
 use Rattle.cedar_walk.specs.Visits.{ComesToNumber}

@@ -1,6 +1,6 @@
 use Rattle.std.proofs.Common.{◌<◌, ◌∙◌, arith, rules, subst, sym}
 use lib.Bits.{xor_zero_r}
-use Rattle.cedar_tree.specs.Queries.{node_at}
+use Rattle.cedar_model.specs.Queries.{node_at}
 use Rattle.cedar_model.specs.Meaning.WellFormed.{tree_of}
 use Rattle.cedar_table.specs.Table.Views.{cells, fields}
 use Rattle.cedar_model.specs.Table.TableFields.{size_of}

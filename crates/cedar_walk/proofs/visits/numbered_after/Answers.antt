@@ -1,5 +1,5 @@
 use Rattle.std.proofs.Common.{◌++◌, ap, rules, subst, sym}
-use Rattle.cedar_tree.specs.Walks.{visited_entries}
+use Rattle.cedar_model.specs.Walks.{visited_entries}
 use Rattle.cedar_table.specs.Table.Views.{fields}
 use Rattle.cedar_walk.specs.Visits.{ComesToNumber, path_to}
 use Rattle.cedar_walk.proofs.WalkLemmas.NextNumber.{deep_not_root}

@@ -50,9 +50,9 @@ pub returns-clause-well_formed : goal.returns-clause-well_formed
 returns-clause-well_formed g c = c.loop-found.invariant.formed
 
 pub returns-clause-erased : goal.returns-clause-erased
-returns-clause-erased g c =
+returns-clause-erased g c = λ n.
     let U = fields c.loop-found.table in
     let q = c.args.prefix.now in
     let i = c.loop-found.invariant in
-    erases_all g.row.SLOTS (fields c.args.table.now) U q c.requires i (found_none g.row.SLOTS U q i.formed c.in_default.ensures) (c.entries-before.result - c.entries.result)
+    erases_all g.row.SLOTS (fields c.args.table.now) U q c.requires i (found_none g.row.SLOTS U q i.formed c.in_default.ensures) n (c.entries-before.result - c.entries.result)
     (omega (arith, c.entries-before.ensures, c.entries.ensures))

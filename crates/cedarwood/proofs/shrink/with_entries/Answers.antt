@@ -8,4 +8,4 @@ put_entries-requires g c = (search rules, (c.requires.well_formed, (c.requires.p
 pub returns : goal.returns
 returns g c =
     let e = c.in_ok-made.ensures.made in
-    put_as_asked g.L.Layout.kind _ c.args.builder.ordered _ c.args.builder.max_trial _ _ _ e.ordered e.max_trial (sym c.requires.places.same) c.in_ok-put_entries.ensures
+    put_as_asked g.L.Layout.kind _ c.args.builder.ordered _ c.args.builder.max_trial _ c.args.builder.search_limit _ _ _ e.ordered e.max_trial e.search_limit (sym c.requires.places.same) c.in_ok-put_entries.ensures

@@ -6,8 +6,9 @@ use Rattle.cedar_words.specs.Words.{Token}
 use Rattle.text_lines.specs.Written.{WritesFront}
 use Rattle.word_lists.specs.Texts.{body_of, line_cut}
 use Rattle.word_lists.specs.declared.write.ListError.TheVariants.{Write}
-use Rattle.word_lists.proofs.Answered.{as_lines, of_err, ok_then}
+use Rattle.word_lists.proofs.Answered.{as_lines, of_err}
 use Rattle.word_lists.proofs.Texts.{is_cheapest}
+use Rattle.std.proofs.lemmas.Result.{on_ok_weaker}
 use Rattle.word_lists.proofs.cut.write_cheapest_cut.Goals as goal
 
 pub returns-clause-ok : goal.returns-clause-ok
@@ -18,7 +19,7 @@ returns-clause-ok g c =
     let sign = c.args.sign.now in
     let tokens = c.in-Ok.tokens.items in
     let found = is_cheapest c.args.trie.now.state.tree c.args.unknown (body_of line) c.body.result.now tokens c.body.ensures.body c.in-Ok.ensures.cut c.in-Ok.ensures.least c.in-Ok.ensures.capped c.in-Ok.ensures.ahead in
-    ok_then c.write_line_tokens.result (λ (written : Appends held holds (line_cut sign line tokens)). (tokens, found, written))
+    on_ok_weaker c.write_line_tokens.result (λ (written : Appends held holds (line_cut sign line tokens)). (tokens, found, written))
     (subst (λ (t : List Token). OnOk c.write_line_tokens.result (Appends held holds (line_cut sign line t))) c.deref.ensures.value c.write_line_tokens.ensures.ok)
 
 pub returns-clause-err : goal.returns-clause-err

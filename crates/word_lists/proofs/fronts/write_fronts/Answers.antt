@@ -1,6 +1,6 @@
 use Rattle.std.proofs.Common.{rules, ◌≡◌, ℕ, ℤ, List, length, map, subst}
 use Rattle.std.specs.Prelude.{IfOk, OnErr, ltb}
-use Rattle.cedar_tree.specs.Queries.{front}
+use Rattle.cedarwood.specs.Queries.{front}
 use Rattle.cedarwood.specs.WatchedDevice.{device_of}
 use Rattle.text_lines.specs.Written.{WritesFront}
 use Rattle.word_lists.specs.Lines.{entry_lines}

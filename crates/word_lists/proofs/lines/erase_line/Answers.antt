@@ -1,7 +1,7 @@
 use Rattle.std.proofs.Common.{rules, ◌≡◌, ◌∙◌, ap, sym, subst}
 use Rattle.std.specs.Prelude.{IsSome, IsTrue, ◌↔◌}
-use Rattle.cedar_tree.specs.State.{erased}
-use Rattle.cedar_tree.specs.Tree.{number_at}
+use Rattle.cedarwood.specs.State.{after_erase}
+use Rattle.cedarwood.specs.Tree.{number_at}
 use Rattle.word_lists.specs.Stored.{absent_of, word_of}
 use Rattle.word_lists.proofs.Figures.{filled_unless, unfilled_if}
 use Rattle.word_lists.proofs.Refusals.{absent_none, erased_none, erased_word, held_is, word_held}
@@ -19,7 +19,7 @@ pub returns-clause-ok : goal.returns-clause-ok
 returns-clause-ok g c =
     let filled = filled_unless c.args.line.now (sym c.if-is_empty.false ∙ c.is_empty.ensures) in
     let key : c.deref.result.now ≡ word_of c.args.line.now = search rules in
-    c.erase_bytes.ensures.after ∙ ap (erased c.args.trie.now.state) key ∙ erased_word c.args.trie.now.state c.args.line.now filled
+    c.erase_bytes.ensures.after ∙ ap (after_erase c.args.trie.now.state) key ∙ erased_word c.args.trie.now.state c.args.line.now filled
 
 pub returns-clause-absent : goal.returns-clause-absent
 returns-clause-absent g c =

@@ -1,8 +1,8 @@
 use Rattle.std.proofs.Common.{rules, w32, FitsSigned, ◌≡◌, ◌∙◌, ℤ, Option, is_some, ap, subst, sym}
 use Rattle.std.proofs.lemmas.Int.{to_z-of_z}
 use Rattle.std.specs.Prelude.{IfOk, OnOk}
-use Rattle.cedar_tree.specs.State.{State}
-use Rattle.cedar_tree.specs.Tree.{number_at}
+use Rattle.cedarwood.specs.State.{State}
+use Rattle.cedarwood.specs.Tree.{number_at}
 use Rattle.cedarwood.specs.Fault.{fault}
 use Rattle.word_lists.specs.Stored.{line_stored, line_told, number_of_line, number_with, stored_by, told_by}
 use Rattle.word_lists.specs.declared.lines.LineFault.{LineFault as Fault}

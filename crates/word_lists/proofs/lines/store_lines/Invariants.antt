@@ -2,7 +2,7 @@ use Rattle.std.proofs.Common.{◌≡◌, ◌+◌, ℕ, List, length}
 use Rattle.word_lists.specs.Stored.{Adds, TakesLines, lines_stored, lines_told}
 use Rattle.word_lists.proofs.lines.store_lines.Given as goal
 
--- the lines that came are stored and told
+-- the lines that came are stored and reported
 abbrev pub invariant-loop-number : goal.invariant-loop-number
 invariant-loop-number g l =
     (came : List (List ℕ)) × TakesLines (g.R.Read.remaining l.fn.reader) (g.R.Read.remaining l.reader) came

@@ -1,7 +1,7 @@
 use Rattle.std.proofs.Common.{rules, w32, to_z, of_z, FitsSigned, ◌≡◌, ◌<◌, ◌++◌, ◌∷◌, ◌∙◌, [], ap, append_assoc, length, refl, subst, sym}
 use Rattle.std.proofs.lemmas.Int.{to_z-of_z}
-use Rattle.cedar_tree.specs.Queries.{Entry}
-use Rattle.cedar_tree.specs.State.{State, stored}
+use Rattle.cedarwood.specs.Queries.{Entry}
+use Rattle.cedarwood.specs.State.{after_put, State}
 use Rattle.text_lines.proofs.Bytes.{on_err}
 use Rattle.word_lists.proofs.SignedLines.{stored_more}
 use Rattle.word_lists.proofs.pairs.store_entries.Goals as goal
@@ -19,8 +19,8 @@ loop-value-preserved g c =
     let same : (c.deref.result.now, to_z w32 (of_z w32 c.in-Some.value)) ≡ e = λ k. (c.deref.ensures.value k, to_z-of_z w32 c.in-Some.value fits k) in (
       came ++ e ∷ [],
       i.1 ∙ ap (λ l. came ++ l) step ∙ sym (append_assoc came (e ∷ []) c.next_stored.new.entries),
-      subst (λ (x : Entry). c.store_pair.new.trie.state ≡ stored c.loop-value.trie.state x.0 x.1) same c.in_ok-store_pair.ensures.ok
-          ∙ ap (λ (s : State). stored s e.0 e.1) i.2 ∙ sym (stored_more c.args.trie.now.state came e),
+      subst (λ (x : Entry). c.store_pair.new.trie.state ≡ after_put c.loop-value.trie.state x.0 x.1) same c.in_ok-store_pair.ensures.ok
+          ∙ ap (λ (s : State). after_put s e.0 e.1) i.2 ∙ sym (stored_more c.args.trie.now.state came e),
       c.store_pair.ensures.max_trial ∙ i.3,
     )
 

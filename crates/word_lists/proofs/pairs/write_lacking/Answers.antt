@@ -2,10 +2,10 @@ use Rattle.std.proofs.Common.{rules, w32, to_z, of_z, FitsSigned, ◌≡◌, ◌
 use Rattle.std.specs.Prelude.{Err, ltb}
 use Rattle.std.proofs.lemmas.Int.{to_z-of_z}
 use Rattle.std.specs.Io.KnownBytes.{Appends}
-use Rattle.cedar_tree.specs.Queries.{Entry}
+use Rattle.cedarwood.specs.Queries.{Entry}
 use Rattle.cedarwood.specs.WatchedDevice.{device_of, has_failed}
 use Rattle.text_lines.specs.Written.{WritesFront}
-use Rattle.word_lists.specs.Lines.{lacking, signed_lines}
+use Rattle.word_lists.specs.Lines.{entries_missing, signed_lines}
 use Rattle.word_lists.specs.declared.write.ListError.TheVariants.{Write}
 use Rattle.word_lists.proofs.Answered.{broken_lines, memory_told, starved_lines, whole_lines}
 use Rattle.text_lines.proofs.Bytes.{Appends-append, Appends-none, on_err}
@@ -24,14 +24,14 @@ loop-value-preserved g c =
     let step : c.loop-value.entries ≡ e ∷ c.next_entry.new.entries = search rules in
     let fits : FitsSigned w32 c.in-Some.value = search rules in
     let same : (c.deref.result.now, to_z w32 (of_z w32 c.in-Some.value)) ≡ e = λ k. (c.deref.ensures.value k, to_z-of_z w32 c.in-Some.value fits k) in
-    let one = c.in_ok-any.ensures.any ∙ ap (λ (x : Entry). ltb 0 (length (lacking tree (x ∷ [])))) same in
+    let one = c.in_ok-any.ensures.any ∙ ap (λ (x : Entry). ltb 0 (length (entries_missing tree (x ∷ [])))) same in
     let held = g.W.Write.contents (device_of c.args.writer.now) in
     let begun = g.W.Write.contents (device_of c.loop-value.writer) in
     let holds = g.W.Write.contents (device_of c.write_unless_held.new.writer) in (
       came ++ e ∷ [],
       i.1 ∙ ap (λ l. came ++ l) step ∙ sym (append_assoc came (e ∷ []) c.next_entry.new.entries),
-      subst (Appends held holds) (sym (lacking_lines c.args.sign.now tree came (e ∷ []))) (Appends-append held begun holds (signed_lines c.args.sign.now (lacking tree came)) (signed_lines c.args.sign.now (lacking tree (e ∷ []))) i.2
-          (subst (λ (x : Entry). Appends begun holds (signed_lines c.args.sign.now (lacking tree (x ∷ [])))) same c.in_ok-any.ensures.ok)),
+      subst (Appends held holds) (sym (lacking_lines c.args.sign.now tree came (e ∷ []))) (Appends-append held begun holds (signed_lines c.args.sign.now (entries_missing tree came)) (signed_lines c.args.sign.now (entries_missing tree (e ∷ []))) i.2
+          (subst (λ (x : Entry). Appends begun holds (signed_lines c.args.sign.now (entries_missing tree (x ∷ [])))) same c.in_ok-any.ensures.ok)),
       c.in_ok-any.ensures.faults.unfailed ∙ i.3,
       ap₂ (λ (a b : Bool). a || b) i.4 one ∙ sym (lacking_some tree came (e ∷ [])),
     )
@@ -54,8 +54,8 @@ returns-in_err-any-clause-err g c =
     let begun = g.W.Write.contents (device_of c.loop-value.writer) in
     let holds = g.W.Write.contents (device_of c.write_unless_held.new.writer) in
     on_err c.from_residual-in_err-any.result
-    (or_all held holds (signed_lines c.args.sign.now (lacking tree c.args.entries)) (lacking_stopped c.args.sign.now tree held begun holds c.args.entries i.0 c.next_entry.new.entries e
-    (i.1 ∙ ap (λ l. i.0 ++ l) step) i.2 (subst (λ (x : Entry). WritesFront begun holds (signed_lines c.args.sign.now (lacking tree (x ∷ [])))) same c.in_err-any.ensures.err)))
+    (or_all held holds (signed_lines c.args.sign.now (entries_missing tree c.args.entries)) (lacking_stopped c.args.sign.now tree held begun holds c.args.entries i.0 c.next_entry.new.entries e
+    (i.1 ∙ ap (λ l. i.0 ++ l) step) i.2 (subst (λ (x : Entry). WritesFront begun holds (signed_lines c.args.sign.now (entries_missing tree (x ∷ [])))) same c.in_err-any.ensures.err)))
 
 pub returns-in_err-any-clause-broken : goal.returns-in_err-any-clause-broken
 returns-in_err-any-clause-broken g c = λ _.
@@ -69,7 +69,7 @@ returns-in_err-any-clause-broken g c = λ _.
     let begun = g.W.Write.contents (device_of c.loop-value.writer) in
     let holds = g.W.Write.contents (device_of c.write_unless_held.new.writer) in
     lacking_stopped c.args.sign.now tree held begun holds c.args.entries i.0 c.next_entry.new.entries e
-    (i.1 ∙ ap (λ l. i.0 ++ l) step) i.2 (subst (λ (x : Entry). WritesFront begun holds (signed_lines c.args.sign.now (lacking tree (x ∷ [])))) same c.in_err-any.ensures.err)
+    (i.1 ∙ ap (λ l. i.0 ++ l) step) i.2 (subst (λ (x : Entry). WritesFront begun holds (signed_lines c.args.sign.now (entries_missing tree (x ∷ [])))) same c.in_err-any.ensures.err)
 
 pub write_unless_held-requires : goal.write_unless_held-requires
 write_unless_held-requires g c = search (rules, c.requires-raw)

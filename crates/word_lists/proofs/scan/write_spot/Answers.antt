@@ -1,6 +1,6 @@
 use Rattle.std.proofs.Common.{rules, w32, to_z, of_z, FitsSigned, ℕ, ◌≡◌, ◌+◌, ◌++◌, ◌∙◌, ap, subst, take}
 use Rattle.std.proofs.lemmas.Int.{to_z-of_z}
-use Rattle.cedar_tree.specs.Queries.{Entry}
+use Rattle.cedarwood.specs.Queries.{Entry}
 use Rattle.cedarwood.specs.WatchedDevice.{device_of}
 use Rattle.std.specs.Prelude.{OnErr}
 use Rattle.text_lines.specs.Written.{WritesFront}

@@ -1,6 +1,6 @@
 use Rattle.std.proofs.Common.{rules, ◌≡◌, ◌++◌, ◌∷◌, ◌+◌, ◌-◌, ◌<◌, ◌≤◌, ◌∙◌, [], List, ℕ, ap, append-nil, append_assoc, arith, drop, length, length-append, length-drop, refl, sym, take}
 use Rattle.std.proofs.lemmas.List.{take_all}
-use Rattle.cedar_tree.specs.State.{State}
+use Rattle.cedarwood.specs.State.{State}
 use Rattle.cedarwood.specs.Words.{entries_of}
 use Rattle.word_lists.specs.Stored.{lines_in, lines_stored, pairs_stored}
 use Rattle.word_lists.proofs.ListedLines.{next_in, none_left}

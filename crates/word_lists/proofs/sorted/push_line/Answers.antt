@@ -1,4 +1,4 @@
-use Rattle.cedar_tree.specs.State.{State}
+use Rattle.cedarwood.specs.State.{State}
 use Rattle.word_lists.proofs.PlainLines.{pair_pushed}
 use Rattle.word_lists.proofs.sorted.push_line.Goals as goal
 

@@ -1,5 +1,5 @@
 use Rattle.std.proofs.Common.{◌≡◌, ◌∙◌, ap, sym}
-use Rattle.cedar_tree.specs.State.{State}
+use Rattle.cedarwood.specs.State.{State}
 use Rattle.cedarwood.specs.Words.{entries_of}
 use Rattle.word_lists.specs.Stored.{lines_in, lines_stored, pairs_stored}
 use Rattle.word_lists.proofs.PlainLines.{built_so}

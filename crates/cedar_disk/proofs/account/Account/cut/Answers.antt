@@ -1,21 +1,21 @@
 use Rattle.std.proofs.Common.{[], List, true, false, refl, subst, sym, ◌∙◌, ap}
 use Rattle.std.specs.Prelude.{Ok, Err, IsTrue}
-use Rattle.std.proofs.lemmas.Bool.{false≢true, le-leb}
+use Rattle.std.proofs.lemmas.Bool.{false≢true, le-leb, and_from}
 use Rattle.cedar_journal.specs.declared.device.DeviceError.TheVariants.{Failed}
 use Rattle.cedar_disk.specs.NotedFiles.{noted_calls}
-use Rattle.cedar_disk.specs.Calls.{Call, all_within, is_named_after, is_usable_after, seen_after, shortened}
+use Rattle.cedar_disk.specs.Calls.{Call, all_within, is_named_after, is_usable_after, seen_after, truncate_call}
 use Rattle.cedar_disk.proofs.Causes.{call_failed}
-use Rattle.cedar_disk.proofs.Steps.{both, cut_follows, elapses_to}
+use Rattle.cedar_disk.proofs.Steps.{cut_follows, elapses_to}
 use Rattle.cedar_disk.proofs.account.Account.cut.Goals as goal
 
 pub invariant_of-self : goal.invariant_of-self
 invariant_of-self g c =
     let noted = c.in-Ok.ensures.noted in
     record {
-      usable = λ _. subst (λ (l : List Call). IsTrue (is_usable_after l)) (sym noted) (both _ _ c.requires.usable refl);
+      usable = λ _. subst (λ (l : List Call). IsTrue (is_usable_after l)) (sym noted) (and_from _ _ c.requires.usable refl);
       known = λ is. subst (λ (l : List Call). IsTrue (is_named_after l)) (sym noted) (c.args.self.now.known is);
       clean = λ is. absurd (false≢true (sym is));
-      within = subst (λ (l : List Call). IsTrue (all_within l)) (sym noted) (both _ _ (le-leb _ _ c.requires.within) c.args.self.now.within);
+      within = subst (λ (l : List Call). IsTrue (all_within l)) (sym noted) (and_from _ _ (le-leb _ _ c.requires.within) c.args.self.now.within);
       placed = c.in-Ok.ensures.name ∙ c.args.self.now.placed;
     }
 
@@ -24,7 +24,7 @@ invariant_of-self-in-Err g c = record {
   usable = λ is. absurd (false≢true (sym is));
   known = λ is. subst (λ (l : List Call). IsTrue (is_named_after l)) (sym c.in-Err.ensures.noted) (c.args.self.now.known is);
   clean = λ is. absurd (false≢true (sym is));
-  within = subst (λ (l : List Call). IsTrue (all_within l)) (sym c.in-Err.ensures.noted) (both _ _ (le-leb _ _ c.requires.within) c.args.self.now.within);
+  within = subst (λ (l : List Call). IsTrue (all_within l)) (sym c.in-Err.ensures.noted) (and_from _ _ (le-leb _ _ c.requires.within) c.args.self.now.within);
   placed = c.in-Err.ensures.name ∙ c.args.self.now.placed;
 }
 
@@ -35,7 +35,7 @@ pub returns-in-Ok-clause-crash : goal.returns-in-Ok-clause-crash
 returns-in-Ok-clause-crash g c = cut_follows (noted_calls c.args.self.now.file) (noted_calls c.cut.new.self) c.args.len true c.in-Ok.ensures.noted
 
 pub returns-in-Ok-clause-time : goal.returns-in-Ok-clause-time
-returns-in-Ok-clause-time g c = elapses_to (shortened c.args.len true) (noted_calls c.args.self.now.file) (noted_calls c.cut.new.self) c.in-Ok.ensures.noted
+returns-in-Ok-clause-time g c = elapses_to (truncate_call c.args.len true) (noted_calls c.args.self.now.file) (noted_calls c.cut.new.self) c.in-Ok.ensures.noted
 
 pub returns-in-Ok-clause-cause : goal.returns-in-Ok-clause-cause
 returns-in-Ok-clause-cause g c = call_failed (Ok tt) 2 c.args.len [] (noted_calls c.args.self.now.file) (noted_calls c.cut.new.self) c.in-Ok.ensures.noted
@@ -44,7 +44,7 @@ pub returns-in-Err-clause-crash : goal.returns-in-Err-clause-crash
 returns-in-Err-clause-crash g c = cut_follows (noted_calls c.args.self.now.file) (noted_calls c.cut.new.self) c.args.len false c.in-Err.ensures.noted
 
 pub returns-in-Err-clause-time : goal.returns-in-Err-clause-time
-returns-in-Err-clause-time g c = elapses_to (shortened c.args.len false) (noted_calls c.args.self.now.file) (noted_calls c.cut.new.self) c.in-Err.ensures.noted
+returns-in-Err-clause-time g c = elapses_to (truncate_call c.args.len false) (noted_calls c.args.self.now.file) (noted_calls c.cut.new.self) c.in-Err.ensures.noted
 
 pub returns-in-Err-clause-cause : goal.returns-in-Err-clause-cause
 returns-in-Err-clause-cause g c = call_failed (Err Failed) 2 c.args.len [] (noted_calls c.args.self.now.file) (noted_calls c.cut.new.self) c.in-Err.ensures.noted

@@ -1,18 +1,18 @@
 use Rattle.std.proofs.Common.{[], List, true, false, refl, subst, sym, ◌∙◌, ap, arith}
 use Rattle.std.specs.Prelude.{Ok, Err, IsTrue}
-use Rattle.std.proofs.lemmas.Bool.{false≢true}
+use Rattle.std.proofs.lemmas.Bool.{false≢true, and_from}
 use Rattle.cedar_journal.specs.declared.device.DeviceError.TheVariants.{Failed}
 use Rattle.cedar_disk.specs.NotedFiles.{noted_calls}
-use Rattle.cedar_disk.specs.Calls.{Call, all_within, is_named_after, is_usable_after, seen_after, synced}
+use Rattle.cedar_disk.specs.Calls.{Call, all_within, is_named_after, is_usable_after, seen_after, sync_call}
 use Rattle.cedar_disk.proofs.Causes.{call_failed, caused}
-use Rattle.cedar_disk.proofs.Steps.{both, elapses_none, elapses_to, sync_keeps, synced_file}
+use Rattle.cedar_disk.proofs.Steps.{elapses_none, elapses_to, sync_keeps, synced_file}
 use Rattle.cedar_disk.proofs.account.Account.sync.Goals as goal
 
 pub invariant_of-self : goal.invariant_of-self
 invariant_of-self g c =
     let noted = c.in-Ok.ensures.noted in
     record {
-      usable = λ _. subst (λ (l : List Call). IsTrue (is_usable_after l)) (sym noted) (both _ _ c.requires.usable refl);
+      usable = λ _. subst (λ (l : List Call). IsTrue (is_usable_after l)) (sym noted) (and_from _ _ c.requires.usable refl);
       known = λ is. subst (λ (l : List Call). IsTrue (is_named_after l)) (sym noted) (c.args.self.now.known is);
       clean = λ _. (synced_file (noted_calls c.args.self.now.file) (noted_calls c.sync.new.self) c.requires.usable noted).1;
       within = subst (λ (l : List Call). IsTrue (all_within l)) (sym noted) c.args.self.now.within;
@@ -48,7 +48,7 @@ returns-in-Ok-clause-crash g c =
     sync_keeps (noted_calls c.args.self.now.file) (noted_calls c.sync.new.self) c.args.self.now.within true c.requires.usable c.in-Ok.ensures.noted
 
 pub returns-in-Ok-clause-time : goal.returns-in-Ok-clause-time
-returns-in-Ok-clause-time g c = elapses_to (synced true) (noted_calls c.args.self.now.file) (noted_calls c.sync.new.self) c.in-Ok.ensures.noted
+returns-in-Ok-clause-time g c = elapses_to (sync_call true) (noted_calls c.args.self.now.file) (noted_calls c.sync.new.self) c.in-Ok.ensures.noted
 
 pub returns-in-Ok-clause-cause : goal.returns-in-Ok-clause-cause
 returns-in-Ok-clause-cause g c = call_failed (Ok tt) 3 0 [] (noted_calls c.args.self.now.file) (noted_calls c.sync.new.self) c.in-Ok.ensures.noted
@@ -61,7 +61,7 @@ returns-in-Err-clause-crash g c =
     sync_keeps (noted_calls c.args.self.now.file) (noted_calls c.sync.new.self) c.args.self.now.within false c.requires.usable c.in-Err.ensures.noted
 
 pub returns-in-Err-clause-time : goal.returns-in-Err-clause-time
-returns-in-Err-clause-time g c = elapses_to (synced false) (noted_calls c.args.self.now.file) (noted_calls c.sync.new.self) c.in-Err.ensures.noted
+returns-in-Err-clause-time g c = elapses_to (sync_call false) (noted_calls c.args.self.now.file) (noted_calls c.sync.new.self) c.in-Err.ensures.noted
 
 pub returns-in-Err-clause-cause : goal.returns-in-Err-clause-cause
 returns-in-Err-clause-cause g c = call_failed (Err Failed) 3 0 [] (noted_calls c.args.self.now.file) (noted_calls c.sync.new.self) c.in-Err.ensures.noted

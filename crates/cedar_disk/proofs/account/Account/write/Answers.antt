@@ -1,4 +1,4 @@
-use Rattle.std.proofs.Common.{◌∙◌, length, rules, sym}
+use Rattle.std.proofs.Common.{◌∙◌, rules, sym}
 use Rattle.std.specs.Prelude.{Ok, Err, IsErrOf}
 use Rattle.cedar_journal.specs.declared.device.DeviceError.TheVariants.{NoRoom}
 use Rattle.cedar_disk.specs.NotedFiles.{noted_calls}

@@ -1,6 +1,6 @@
 use Rattle.std.proofs.Common.{◌≡◌, ◌<◌, ◌∙◌, arith, inr, rules, subst, sym, ap, [], ◌∷◌, ◌++◌, w32, FitsSigned}
 use Rattle.std.proofs.lemmas.Int.{to_z-of_z}
-use Rattle.cedar_tree.specs.Edits.{add_leaf, edit_at}
+use Rattle.cedar_model.specs.Edits.{add_leaf, edit_at}
 use Rattle.cedar_model.specs.declared.layout.Stored.TheVariants.{AtBase}
 use Rattle.cedar_model.specs.Table.Cells.{Held}
 use Rattle.cedar_model.specs.Edit.NodeEdits.{CanAdd, IsAt}

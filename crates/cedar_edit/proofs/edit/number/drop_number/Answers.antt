@@ -1,5 +1,5 @@
 use Rattle.std.proofs.Common.{◌≡◌, ◌<◌, ◌∙◌, arith, inl, inr, refl, rules, subst, sym, ap, pos, None}
-use Rattle.cedar_tree.specs.Edits.{edit_at}
+use Rattle.cedar_model.specs.Edits.{edit_at}
 use Rattle.cedar_model.specs.Table.Cells.{Gives}
 use Rattle.cedar_model.specs.Edit.NodeEdits.{SetsChild}
 use Rattle.cedar_model.specs.Meaning.Family.{below}

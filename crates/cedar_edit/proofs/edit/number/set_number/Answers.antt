@@ -1,6 +1,6 @@
 use Rattle.std.proofs.Common.{◌≡◌, ◌<◌, ◌≤ℤ◌, ◌∙◌, arith, inl, inr, rules, subst, sym, ap, pos, Some, to_z, of_z, w32, FitsSigned}
 use Rattle.std.proofs.lemmas.Int.{ints, to_z_pos, to_z-of_z}
-use Rattle.cedar_tree.specs.Edits.{edit_at}
+use Rattle.cedar_model.specs.Edits.{edit_at}
 use Rattle.cedar_model.specs.Table.Cells.{Held, NodeWritten, Takes}
 use Rattle.cedar_model.specs.Edit.NodeEdits.{SetsSibling}
 use Rattle.cedar_model.specs.Meaning.Family.{below}

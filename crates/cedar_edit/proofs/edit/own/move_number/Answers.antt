@@ -1,8 +1,8 @@
 use Rattle.std.proofs.Common.{◌≡◌, ◌≤◌, ◌∙◌, ◌<◌, arith, inl, inr, refl, rules, subst, sym, of_z, to_z, w32, FitsSigned, None, Some}
 use Rattle.std.specs.Prelude.{ℕ, List}
 use Rattle.std.proofs.lemmas.Int.{to_z-of_z}
-use Rattle.cedar_tree.specs.Tree.{Forest}
-use Rattle.cedar_tree.specs.Edits.{edit_at}
+use Rattle.cedar_model.specs.Tree.{Forest}
+use Rattle.cedar_model.specs.Edits.{edit_at}
 use Rattle.cedar_model.specs.Table.Cells.{Held}
 use Rattle.cedar_model.specs.Edit.NodeEdits.{IsAt, IsNodeOf, SetsNumber}
 use Rattle.cedar_model.specs.Meaning.Family.{InRange}

@@ -15,7 +15,7 @@ drop_number-requires g c =
     let T = cells c.args.table.now in
     let size = size_of (fields c.args.table.now) in
     let n = c.requires.node.1 in
-    let mine : T.check (below T c.args.node 0) ≡ pos c.args.node = (at_number size T c.requires.node.0 n.path c.args.node n.holds n.at (λ v e. let z = sym c.in-AtBase.is ∙ c.stored.ensures ∙ e in cc)).0 c.requires.node.2 in
+    let mine : T.check (below T c.args.node 0) ≡ pos c.args.node = (at_number size T c.requires.node.0 n.path c.args.node n.holds n.at (λ v e. let z = sym c.in-AtBase.is ∙ c.stored_at.ensures ∙ e in cc)).0 c.requires.node.2 in
     (search rules, (c.requires.sound, (c.requires.node_in, (c.requires.not_root, ((c.requires.node.0, n), (number_based size T c.requires.node.0 n.path c.args.node n.holds n.at mine, mine))))))
 
 pub returns-in-AtBase-clause-at : goal.returns-in-AtBase-clause-at
@@ -28,7 +28,7 @@ drop_own_number-requires g c =
     let T = cells c.args.table.now in
     let size = size_of (fields c.args.table.now) in
     let n = c.requires.node.1 in
-    let unbased = not_at_base (T.stored c.args.node) (λ b e. c.in_default.not-AtBase b (c.stored.ensures ∙ e)) in
+    let unbased = not_at_base (T.stored c.args.node) (λ b e. c.in_default.not-AtBase b (c.stored_at.ensures ∙ e)) in
     let alone = leaf_alone size T c.requires.node.0 n.path c.args.node n.holds n.at (λ z. omega (arith, z, c.requires.not_root)) unbased in
     (search rules, (c.requires.sound, (c.requires.node_in, (omega (arith, c.requires.not_root), ((c.requires.node.0, n), alone)))))
 
@@ -37,7 +37,7 @@ returns-in_default g c =
     let T = fields c.args.table.now in
     let e = c.drop_own_number.ensures in
     let n = c.requires.node.1 in
-    let unbased = not_at_base ((cells c.args.table.now).stored c.args.node) (λ b e. c.in_default.not-AtBase b (c.stored.ensures ∙ e)) in
+    let unbased = not_at_base ((cells c.args.table.now).stored c.args.node) (λ b e. c.in_default.not-AtBase b (c.stored_at.ensures ∙ e)) in
     let alone = leaf_alone (size_of T) (cells c.args.table.now) c.requires.node.0 n.path c.args.node n.holds n.at (λ z. omega (arith, z, c.requires.not_root)) unbased in
     record {
       sound = e.sound;

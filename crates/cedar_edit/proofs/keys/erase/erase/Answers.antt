@@ -1,6 +1,6 @@
 use Rattle.std.proofs.Common.{◌≡◌, ◌∙◌, rules, subst, sym}
 use Rattle.std.specs.Prelude.{is_some, true}
-use Rattle.cedar_tree.specs.Tree.{number_at}
+use Rattle.cedar_model.specs.Tree.{number_at}
 use Rattle.cedar_model.specs.Meaning.Marks.{KeepsOtherMarks}
 use Rattle.cedar_table.specs.Table.Views.{cells, fields}
 use Rattle.cedar_model.specs.Meaning.WellFormed.{tree_of}

@@ -1,22 +1,15 @@
-use Rattle.std.proofs.Common.{◌≡◌, ◌∙◌, ℕ, arith, sym}
-use Rattle.std.specs.Prelude.{IsTrue, nat_eq}
-use Rattle.std.proofs.lemmas.Bool.Decides.{nat_tests}
+use Rattle.std.proofs.Common.{◌∙◌, sym}
+use Rattle.std.proofs.lemmas.Bool.{eqb-true, eq-eqb}
 use Rattle.cedar_edit.proofs.keys.erase.has_one_label.Goals as goal
-
-equal : (a b : ℕ) → IsTrue (nat_eq a b) → a ≡ b
-equal a b t = grind (arith, nat_tests)
-
-tested : (a b : ℕ) → a ≡ b → IsTrue (nat_eq a b)
-tested a b e = grind (arith, nat_tests)
 
 pub returns-then-child-label : goal.returns-then-child-label
 returns-then-child-label g c = (
-  λ t. (sym c.child.ensures ∙ c.if-child-label.true, sym c.sibling.ensures ∙ equal c.sibling.result 0 t),
-  λ h. tested c.sibling.result 0 (c.sibling.ensures ∙ h.1),
+  λ t. (sym c.child.ensures ∙ c.if-child-label.true, sym c.sibling.ensures ∙ eqb-true c.sibling.result 0 t),
+  λ h. eq-eqb c.sibling.result 0 (c.sibling.ensures ∙ h.1),
 )
 
 pub returns-else-child-label : goal.returns-else-child-label
 returns-else-child-label g c = (
-  λ t. absurd (c.if-child-label.false (equal c.child.result c.args.label t)),
+  λ t. absurd (c.if-child-label.false (eqb-true c.child.result c.args.label t)),
   λ h. absurd (c.if-child-label.false (c.child.ensures ∙ h.0)),
 )

@@ -1,6 +1,6 @@
 use Rattle.std.proofs.Common.{◌<◌, ◌∙◌, arith, rules, sym, ap, subst, bit_xor, refl}
 use Rattle.cedar_model.specs.Meaning.Family.{Node}
-use Rattle.cedar_tree.specs.Edits.{without_leaf}
+use Rattle.cedar_model.specs.Edits.{without_leaf}
 use Rattle.cedar_model.specs.Meaning.StandsFor.{HoldsTree}
 use Rattle.cedar_model.specs.Edit.Steps.{root_of}
 use Rattle.cedar_model.specs.Edit.Trims.{LosesLeaf}

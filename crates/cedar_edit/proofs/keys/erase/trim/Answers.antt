@@ -1,6 +1,6 @@
 use Rattle.std.proofs.Common.{◌≡◌, ◌<◌, ◌∙◌, arith, refl, rules, subst, sym}
-use Rattle.cedar_tree.specs.Tree.{is_bare}
-use Rattle.cedar_tree.specs.Queries.{node_at}
+use Rattle.cedar_model.specs.Tree.{is_bare}
+use Rattle.cedar_model.specs.Queries.{node_at}
 use Rattle.cedar_model.specs.Edit.Steps.{root_of}
 use Rattle.cedar_table.specs.Table.Views.{cells, fields}
 use Rattle.cedar_model.proofs.UpdateLemmas.TrimUpwards.{climb_end, climb_none, climb_on, depth_less}

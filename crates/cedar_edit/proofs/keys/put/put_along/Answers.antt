@@ -1,8 +1,8 @@
 use Rattle.std.proofs.Common.{FitsSigned, inl, inr, of_z, refl, rules, to_z, w32, subst, sym, ap, ◌∙◌, ◌+◌, ◌*◌, arith, ◌≡◌}
 use Rattle.std.proofs.lemmas.Int.{to_z-of_z}
 use Rattle.std.specs.Prelude.{Err, is_some, Some}
-use Rattle.cedar_tree.specs.Tree.{number_at}
-use Rattle.cedar_tree.specs.Edits.{edit_at}
+use Rattle.cedar_model.specs.Tree.{number_at}
+use Rattle.cedar_model.specs.Edits.{edit_at}
 use Rattle.cedar_model.specs.Edit.KeyWalk.{TakenBack}
 use Rattle.cedar_model.specs.Meaning.Marks.{KeepsMarks, NewMark}
 use Rattle.cedar_model.specs.Meaning.StandsFor.{HoldsTree}

@@ -1,8 +1,8 @@
 use Rattle.std.proofs.Common.{◌≡◌, ◌⊎◌, ◌∙◌, ◌<◌, ℕ, ap, arith, FitsSigned, inl, inr, None, of_z, refl, rules, subst, sym, take, to_z, w32}
 use Rattle.std.specs.Prelude.{is_some, length, true}
 use Rattle.std.proofs.lemmas.Int.{to_z-of_z}
-use Rattle.cedar_tree.specs.Tree.{has_label, number_at, put, Tree}
-use Rattle.cedar_tree.specs.Queries.{node_at}
+use Rattle.cedar_model.specs.Tree.{has_label, number_at, put, Tree}
+use Rattle.cedar_model.specs.Queries.{node_at}
 use Rattle.cedar_model.specs.Table.Cells.{NoPlace}
 use Rattle.cedar_model.specs.Meaning.Marks.{KeepsMarks, mark, MovesOut}
 use Rattle.cedar_model.specs.Edit.KeyWalk.{TakenBack}

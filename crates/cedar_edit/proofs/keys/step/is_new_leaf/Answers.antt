@@ -1,21 +1,14 @@
-use Rattle.std.proofs.Common.{◌≡◌, ◌∙◌, ℕ, arith, inr, sym}
-use Rattle.std.specs.Prelude.{IsTrue, nat_eq}
-use Rattle.std.proofs.lemmas.Bool.Decides.{nat_tests}
+use Rattle.std.proofs.Common.{◌∙◌, inr, sym}
 use Rattle.cedar_table.specs.Table.Views.{cells, fields}
 use Rattle.cedar_model.specs.Table.TableFields.{size_of}
 use Rattle.cedar_model.proofs.EditLemmas.Room.{leaf_base}
+use Rattle.std.proofs.lemmas.Bool.{eqb-true, eq-eqb}
 use Rattle.cedar_edit.proofs.keys.step.is_new_leaf.Goals as goal
-
-equal : (a b : ℕ) → IsTrue (nat_eq a b) → a ≡ b
-equal a b t = grind (arith, nat_tests)
-
-tested : (a b : ℕ) → a ≡ b → IsTrue (nat_eq a b)
-tested a b e = grind (arith, nat_tests)
 
 pub returns-then-node-ne0-clause-leaf : goal.returns-then-node-ne0-clause-leaf
 returns-then-node-ne0-clause-leaf g c = λ is.
     let n = c.requires.node in
-    (c.if-node-ne0.true, leaf_base (size_of (fields c.args.table.now)) (cells c.args.table.now) (fields c.args.table.now).ordered n.0 c.args.node n.1 c.if-node-ne0.true c.requires.no_own_number (sym c.base_of.ensures ∙ equal c.base_of.result 0 is))
+    (c.if-node-ne0.true, leaf_base (size_of (fields c.args.table.now)) (cells c.args.table.now) (fields c.args.table.now).ordered n.0 c.args.node n.1 c.if-node-ne0.true c.requires.no_own_number (sym c.base_of.ensures ∙ eqb-true c.base_of.result 0 is))
 
 pub returns-then-node-ne0-clause-based : goal.returns-then-node-ne0-clause-based
-returns-then-node-ne0-clause-based g c = λ not. inr (λ e. not (tested c.base_of.result 0 (c.base_of.ensures ∙ e)))
+returns-then-node-ne0-clause-based g c = λ not. inr (λ e. not (eq-eqb c.base_of.result 0 (c.base_of.ensures ∙ e)))

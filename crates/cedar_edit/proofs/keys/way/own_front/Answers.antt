@@ -25,7 +25,7 @@ pub returns-then-not-is_owned_by : goal.returns-then-not-is_owned_by
 returns-then-not-is_owned_by g c =
     let T = cells c.args.table.now in
     let i = c.loop-length.invariant in
-    let own : NoOwn T c.loop-length.node = λ v e. c.in_default.not-OwnNumber v (c.stored.ensures ∙ e) in
+    let own : NoOwn T c.loop-length.node = λ v e. c.in_default.not-OwnNumber v (c.stored_at.ensures ∙ e) in
     i.way (way_behind T c.args.key.now c.loop-length.length c.loop-length.node c.loop-length-test.true own (λ o. let yes = c.is_owned_by.ensures.1 (ap T.check c.child_slot-slot.ensures ∙ o) in let no = c.if-not-is_owned_by.true in absurd (cc)))
 
 pub loop-length-preserved : goal.loop-length-preserved
@@ -37,7 +37,7 @@ loop-length-preserved g c =
     let bytes = next_bytes (cells c.args.table.now) key n c.loop-length.node c.loop-length-test.true i.bytes in
     let small : get_or key n 0 < 256 = omega (arith, c.type_inv.key n) in
     let inside = slot_within (size_of T) (cells c.args.table.now) (tree_of T).children (take n key) c.loop-length.node c.requires.well_formed.stands i.at (get_or key n 0) (omega (arith, i.inside)) (omega arith) small in
-    let own : NoOwn (cells c.args.table.now) c.loop-length.node = λ v e. c.in_default.not-OwnNumber v (c.stored.ensures ∙ e) in
+    let own : NoOwn (cells c.args.table.now) c.loop-length.node = λ v e. c.in_default.not-OwnNumber v (c.stored_at.ensures ∙ e) in
     record {
       inside = subst (λ s. s < size_of T) (sym c.child_slot-slot.ensures) inside;
       at = key_goes_on (size_of T) (cells c.args.table.now) (tree_of T).children key n c.loop-length.node c.requires.well_formed.stands i.at c.loop-length-test.true (λ z. omega (arith, z, bytes.0)) c.child_slot-slot.result c.child_slot-slot.ensures (c.is_owned_by.ensures.0 c.if-not-is_owned_by.false);

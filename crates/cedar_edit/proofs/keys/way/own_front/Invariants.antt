@@ -1,12 +1,12 @@
 use Rattle.std.proofs.Common.{drop, take, ◌<◌}
-use Rattle.cedar_tree.specs.Tree.{IsPath}
+use Rattle.cedar_model.specs.Tree.{IsPath}
 use Rattle.cedar_model.specs.Edit.NodeEdits.{IsAt}
 use Rattle.cedar_model.specs.Edit.Own.{HasWay}
 use Rattle.cedar_table.specs.Table.Views.{cells, fields}
 use Rattle.cedar_model.specs.Table.TableFields.{size_of}
 use Rattle.cedar_edit.proofs.keys.way.own_front.Given as goal
 
--- the labels so far lead to the node, and none of the nodes before it stands in the way
+-- the labels so far lead to the node, and none of the nodes before it is in the way
 abbrev pub invariant-loop-length : goal.invariant-loop-length
 invariant-loop-length g l = record {
   inside : l.node < size_of (fields l.table);

@@ -20,18 +20,18 @@ overflow_cast-count g c =
 pub overflow_add-count : goal.overflow_add-count
 overflow_add-count g c =
     let few = passing-le (free_here c.args.places.now.slots.nodes.items c.args.block) (256 * c.args.block) 256 in
-    omega (arith, ints, few, c.in_ok-count.ensures.answer.1, c.reserved.ensures, root-le c.args.block)
+    omega (arith, ints, few, c.in_ok-count.ensures.answer.1, c.root_count.ensures, root-le c.args.block)
 
 pub returns-then-record-count-clause-answer : goal.returns-then-record-count-clause-answer
 returns-then-record-count-clause-answer g c = λ has.
     let few = passing-le (free_here c.args.places.now.slots.nodes.items c.args.block) (256 * c.args.block) 256 in
     let num : c.read_block-record.result.num ≡ pos (free_count c.args.places.now.slots.nodes.items c.args.block + cond (eqb c.args.block 0) 1 0) = ap (λ (n : BlockRecord). n.num) c.read_block-record.ensures.value ∙ num_free (places_of c.args.places.now) c.args.block has.0 has.1 in
-    omega (arith, ints, few, c.in_ok-count.ensures.answer.1, c.reserved.ensures, root-le c.args.block)
+    omega (arith, ints, few, c.in_ok-count.ensures.answer.1, c.root_count.ensures, root-le c.args.block)
 
 pub returns-then-count-eq0-clause-answer : goal.returns-then-count-eq0-clause-answer
 returns-then-count-eq0-clause-answer g c =
     let few = passing-le (free_here c.args.places.now.slots.nodes.items c.args.block) (256 * c.args.block) 256 in
-    let same : c.read_block-record.result.num ≡ pos (free_count c.args.places.now.slots.nodes.items c.args.block + cond (eqb c.args.block 0) 1 0) = omega (arith, ints, few, c.in_ok-count.ensures.answer.1, c.reserved.ensures, root-le c.args.block) in
+    let same : c.read_block-record.result.num ≡ pos (free_count c.args.places.now.slots.nodes.items c.args.block + cond (eqb c.args.block 0) 1 0) = omega (arith, ints, few, c.in_ok-count.ensures.answer.1, c.root_count.ensures, root-le c.args.block) in
     let num = ap (λ (n : BlockRecord). n.num) (sym c.read_block-record.ensures.value) ∙ same in
     let none : free_count c.args.places.now.slots.nodes.items c.args.block ≡ 0 = sym c.in_ok-count.ensures.answer.1 ∙ c.if-count-eq0.true in
     (([], none_free (places_of c.args.places.now) c.args.block none num), refl)
@@ -60,7 +60,7 @@ returns-then-not-read_free-clause-answer g c = λ has.
 pub returns-clause-answer : goal.returns-clause-answer
 returns-clause-answer g c =
     let few = passing-le (free_here c.args.places.now.slots.nodes.items c.args.block) (256 * c.args.block) 256 in
-    let same : c.read_block-record.result.num ≡ pos (free_count c.args.places.now.slots.nodes.items c.args.block + cond (eqb c.args.block 0) 1 0) = omega (arith, ints, few, c.in_ok-count.ensures.answer.1, c.reserved.ensures, root-le c.args.block) in
+    let same : c.read_block-record.result.num ≡ pos (free_count c.args.places.now.slots.nodes.items c.args.block + cond (eqb c.args.block 0) 1 0) = omega (arith, ints, few, c.in_ok-count.ensures.answer.1, c.root_count.ensures, root-le c.args.block) in
     let num = ap (λ (n : BlockRecord). n.num) (sym c.read_block-record.ensures.value) ∙ same in
     let head : c.read_block-record.result.e_head ≡ pos (unsigned_abs (to_z w32 (of_z w32 c.read_block-record.result.e_head))) = omega (arith, ints) in
     let e_head = ap (λ (n : BlockRecord). n.e_head) (sym c.read_block-record.ensures.value) ∙ head in

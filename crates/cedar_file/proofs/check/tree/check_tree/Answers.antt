@@ -1,8 +1,8 @@
 use Rattle.std.proofs.Common.{sym, ◌∙◌}
 use Rattle.cedar_table.specs.Table.Views.{fields}
 use Rattle.cedar_file.proofs.TreeLemmas.WalkEnds.{root_looks, well_formed_met, well_formed_walked}
-use Rattle.cedar_file.proofs.TreeLemmas.Turns.{on_err}
 use Rattle.cedar_file.proofs.TreeLemmas.Complete.{walked_well_formed}
+use Rattle.cedar_model.proofs.GeneralLemmas.{on_err}
 use Rattle.cedar_file.proofs.check.tree.check_tree.Goals as goal
 
 pub returns-in_err-start-clause-faulty : goal.returns-in_err-start-clause-faulty

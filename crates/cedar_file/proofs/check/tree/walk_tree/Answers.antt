@@ -2,8 +2,9 @@ use Rattle.std.proofs.Common.{◌≡◌, ◌≢◌, ◌+◌, ◌-◌, ◌*◌, �
 use Rattle.cedar_file.specs.TreeWalk.{ComesBack}
 use Rattle.cedar_table.specs.Table.Views.{cells, fields}
 use Rattle.cedar_model.specs.Table.TableFields.{size_of}
-use Rattle.cedar_file.proofs.TreeLemmas.Turns.{ends_back, ends_further, ends_on, IsOnWay, none_left, on_err, still_on_way, stuck}
+use Rattle.cedar_file.proofs.TreeLemmas.Turns.{ends_back, ends_further, ends_on, IsOnWay, none_left, still_on_way, stuck}
 use Rattle.cedar_model.proofs.MeaningLemmas.TreeOf.{in_use}
+use Rattle.cedar_model.proofs.GeneralLemmas.{on_err}
 use Rattle.cedar_file.proofs.check.tree.walk_tree.Goals.{else-walk-eq0-via-then-walk-eq0+else-walk-eq0-2, else-walk-eq0-via-else-walk-eq0}
 use Rattle.cedar_file.proofs.check.tree.walk_tree.Goals as goal
 

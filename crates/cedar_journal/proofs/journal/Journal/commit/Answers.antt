@@ -1,6 +1,6 @@
 use Rattle.std.proofs.Common.{◌≡◌, inl, ℕ, ◌+◌, List, [], ◌∷◌, length, sym, ◌∙◌, ap, subst}
 use Rattle.cedar_journal.specs.Device.{Holds, Only}
-use Rattle.cedar_journal.specs.Files.{recovered}
+use Rattle.cedar_journal.specs.Files.{file_payloads}
 use Rattle.cedar_journal.specs.Formats.{overhead}
 use Rattle.cedar_journal.specs.Frames.{payload_of}
 use Rattle.cedar_journal.specs.Journal.{IsBeforeOrAfter, IsSettled}
@@ -11,35 +11,35 @@ use Rattle.cedar_journal.proofs.journal.Journal.commit.Goals as goal
 pub returns-in_err-write_at-clause-any_moment : goal.returns-in_err-write_at-clause-any_moment
 returns-in_err-write_at-clause-any_moment g c =
     let s = c.requires.settled in
-    let P : List ℕ → Type 0 = IsBeforeOrAfter (recovered (g.D.Device.seen c.args.self.now.device)) (payload_of c.args.frame.now) in
+    let P : List ℕ → Type 0 = IsBeforeOrAfter (file_payloads (g.D.Device.seen c.args.self.now.device)) (payload_of c.args.frame.now) in
     let file = g.D.Device.seen c.args.self.now.device in
     let bytes = payload_of c.args.frame.now in
     let here : (f : List ℕ) → g.D.Device.may_leave c.write_at.new.self f → P f = λ f now.
     gate_crash file c.args.self.now.format c.args.self.now.end s.split s.front bytes c.requires.rest c.requires.staged c.requires.short _ _ s.durable c.write_at.ensures.crash f now in
-    let at_start = started g.D.Device.moment g.D.Device.left_since c.args.self.now.device P (λ f left. inl (ap recovered (s.durable f (g.met.D.Device.only_now c.args.self.now.device f left)))) in
+    let at_start = started g.D.Device.moment g.D.Device.left_since c.args.self.now.device P (λ f left. inl (ap file_payloads (s.durable f (g.met.D.Device.only_now c.args.self.now.device f left)))) in
     goes_on g.D.Device.moment g.D.Device.left_since c.args.self.now.device c.args.self.now.device c.write_at.new.self P _ at_start c.write_at.ensures.time here
 
 pub returns-in_err-sync-clause-any_moment : goal.returns-in_err-sync-clause-any_moment
 returns-in_err-sync-clause-any_moment g c =
     let s = c.requires.settled in
-    let P : List ℕ → Type 0 = IsBeforeOrAfter (recovered (g.D.Device.seen c.args.self.now.device)) (payload_of c.args.frame.now) in
+    let P : List ℕ → Type 0 = IsBeforeOrAfter (file_payloads (g.D.Device.seen c.args.self.now.device)) (payload_of c.args.frame.now) in
     let file = g.D.Device.seen c.args.self.now.device in
     let bytes = payload_of c.args.frame.now in
     let here : (f : List ℕ) → g.D.Device.may_leave c.write_at.new.self f → P f = λ f now.
     gate_crash file c.args.self.now.format c.args.self.now.end s.split s.front bytes c.requires.rest c.requires.staged c.requires.short _ _ s.durable c.write_at.ensures.crash f now in
-    let at_start = started g.D.Device.moment g.D.Device.left_since c.args.self.now.device P (λ f left. inl (ap recovered (s.durable f (g.met.D.Device.only_now c.args.self.now.device f left)))) in
+    let at_start = started g.D.Device.moment g.D.Device.left_since c.args.self.now.device P (λ f left. inl (ap file_payloads (s.durable f (g.met.D.Device.only_now c.args.self.now.device f left)))) in
     let opened = goes_on g.D.Device.moment g.D.Device.left_since c.args.self.now.device c.args.self.now.device c.write_at.new.self P _ at_start c.write_at.ensures.time here in
     goes_on g.D.Device.moment g.D.Device.left_since c.args.self.now.device c.write_at.new.self c.sync.new.self P _ opened c.sync.ensures.time (λ f now. here f (c.sync.ensures.crash f now))
 
 pub returns-clause-any_moment : goal.returns-clause-any_moment
 returns-clause-any_moment g c =
     let s = c.requires.settled in
-    let P : List ℕ → Type 0 = IsBeforeOrAfter (recovered (g.D.Device.seen c.args.self.now.device)) (payload_of c.args.frame.now) in
+    let P : List ℕ → Type 0 = IsBeforeOrAfter (file_payloads (g.D.Device.seen c.args.self.now.device)) (payload_of c.args.frame.now) in
     let file = g.D.Device.seen c.args.self.now.device in
     let bytes = payload_of c.args.frame.now in
     let here : (f : List ℕ) → g.D.Device.may_leave c.write_at.new.self f → P f = λ f now.
     gate_crash file c.args.self.now.format c.args.self.now.end s.split s.front bytes c.requires.rest c.requires.staged c.requires.short _ _ s.durable c.write_at.ensures.crash f now in
-    let at_start = started g.D.Device.moment g.D.Device.left_since c.args.self.now.device P (λ f left. inl (ap recovered (s.durable f (g.met.D.Device.only_now c.args.self.now.device f left)))) in
+    let at_start = started g.D.Device.moment g.D.Device.left_since c.args.self.now.device P (λ f left. inl (ap file_payloads (s.durable f (g.met.D.Device.only_now c.args.self.now.device f left)))) in
     let opened = goes_on g.D.Device.moment g.D.Device.left_since c.args.self.now.device c.args.self.now.device c.write_at.new.self P _ at_start c.write_at.ensures.time here in
     goes_on g.D.Device.moment g.D.Device.left_since c.args.self.now.device c.write_at.new.self c.sync.new.self P _ opened c.sync.ensures.time (λ f now. here f (c.sync.ensures.crash f now))
 

@@ -1,9 +1,9 @@
-use Rattle.std.proofs.Common.{◌≡◌, ℕ, ◌+◌, List, [], ◌∷◌, ◌++◌, length, take, refl, sym, ◌∙◌, ap, subst, arith, rules}
+use Rattle.std.proofs.Common.{◌≡◌, ℕ, ◌+◌, List, [], ◌∷◌, ◌++◌, length, take, sym, ◌∙◌, ap, subst, arith, rules}
 use Rattle.std.specs.Prelude.{IsErrOf}
 use Rattle.cedar_journal.specs.declared.device.DeviceError.TheVariants.{NoRoom}
-use Rattle.cedar_journal.specs.Device.{HasFront, Holds, Only, Torn}
+use Rattle.cedar_journal.specs.Device.{Holds, Only, Torn}
 use Rattle.cedar_journal.specs.Formats.{frame_of}
-use Rattle.cedar_journal.specs.Files.{recovered}
+use Rattle.cedar_journal.specs.Files.{file_payloads}
 use Rattle.cedar_journal.specs.Frames.{payload_of}
 use Rattle.cedar_journal.proofs.Moments.{goes_on, joins, started, weakens}
 use Rattle.cedar_journal.proofs.Crash.{behind_gate, closed_stands, front_ends, gated_stands, long_enough, settled_at, stage_crash, staged_at, staged_file}
@@ -12,44 +12,44 @@ use Rattle.cedar_journal.proofs.journal.Journal.stage.Goals as goal
 pub returns-in-Err-clause-any_moment : goal.returns-in-Err-clause-any_moment
 returns-in-Err-clause-any_moment g c =
     let s = c.requires in
-    let P : List ℕ → Type 0 = λ f. recovered f ≡ recovered (g.D.Device.seen c.args.self.now.device) in
+    let P : List ℕ → Type 0 = λ f. file_payloads f ≡ file_payloads (g.D.Device.seen c.args.self.now.device) in
     let file = g.D.Device.seen c.args.self.now.device in
     let here : (f : List ℕ) → g.D.Device.may_leave c.write_at.new.self f → P f = λ f now.
     stage_crash file c.args.self.now.format c.args.self.now.end s.split s.front _ _ _ s.durable c.write_at.ensures.crash f now in
-    let at_start = started g.D.Device.moment g.D.Device.left_since c.args.self.now.device P (λ f left. ap recovered (s.durable f (g.met.D.Device.only_now c.args.self.now.device f left))) in
+    let at_start = started g.D.Device.moment g.D.Device.left_since c.args.self.now.device P (λ f left. ap file_payloads (s.durable f (g.met.D.Device.only_now c.args.self.now.device f left))) in
     let written = goes_on g.D.Device.moment g.D.Device.left_since c.args.self.now.device c.args.self.now.device c.write_at.new.self P _ at_start c.write_at.ensures.time here in
     written
 
 pub returns-in_err-sync-in-Ok-clause-any_moment : goal.returns-in_err-sync-in-Ok-clause-any_moment
 returns-in_err-sync-in-Ok-clause-any_moment g c =
     let s = c.requires in
-    let P : List ℕ → Type 0 = λ f. recovered f ≡ recovered (g.D.Device.seen c.args.self.now.device) in
+    let P : List ℕ → Type 0 = λ f. file_payloads f ≡ file_payloads (g.D.Device.seen c.args.self.now.device) in
     let file = g.D.Device.seen c.args.self.now.device in
     let here : (f : List ℕ) → g.D.Device.may_leave c.write_at.new.self f → P f = λ f now.
     stage_crash file c.args.self.now.format c.args.self.now.end s.split s.front _ _ _ s.durable c.write_at.ensures.crash f now in
-    let at_start = started g.D.Device.moment g.D.Device.left_since c.args.self.now.device P (λ f left. ap recovered (s.durable f (g.met.D.Device.only_now c.args.self.now.device f left))) in
+    let at_start = started g.D.Device.moment g.D.Device.left_since c.args.self.now.device P (λ f left. ap file_payloads (s.durable f (g.met.D.Device.only_now c.args.self.now.device f left))) in
     let written = goes_on g.D.Device.moment g.D.Device.left_since c.args.self.now.device c.args.self.now.device c.write_at.new.self P _ at_start c.write_at.ensures.time here in
     goes_on g.D.Device.moment g.D.Device.left_since c.args.self.now.device c.write_at.new.self c.sync.new.self P _ written c.sync.ensures.time (λ f now. here f (c.sync.ensures.crash f now))
 
 pub returns-in_ok-sync-in-Ok-clause-any_moment : goal.returns-in_ok-sync-in-Ok-clause-any_moment
 returns-in_ok-sync-in-Ok-clause-any_moment g c =
     let s = c.requires in
-    let P : List ℕ → Type 0 = λ f. recovered f ≡ recovered (g.D.Device.seen c.args.self.now.device) in
+    let P : List ℕ → Type 0 = λ f. file_payloads f ≡ file_payloads (g.D.Device.seen c.args.self.now.device) in
     let file = g.D.Device.seen c.args.self.now.device in
     let here : (f : List ℕ) → g.D.Device.may_leave c.write_at.new.self f → P f = λ f now.
     stage_crash file c.args.self.now.format c.args.self.now.end s.split s.front _ _ _ s.durable c.write_at.ensures.crash f now in
-    let at_start = started g.D.Device.moment g.D.Device.left_since c.args.self.now.device P (λ f left. ap recovered (s.durable f (g.met.D.Device.only_now c.args.self.now.device f left))) in
+    let at_start = started g.D.Device.moment g.D.Device.left_since c.args.self.now.device P (λ f left. ap file_payloads (s.durable f (g.met.D.Device.only_now c.args.self.now.device f left))) in
     let written = goes_on g.D.Device.moment g.D.Device.left_since c.args.self.now.device c.args.self.now.device c.write_at.new.self P _ at_start c.write_at.ensures.time here in
     goes_on g.D.Device.moment g.D.Device.left_since c.args.self.now.device c.write_at.new.self c.sync.new.self P _ written c.sync.ensures.time (λ f now. here f (c.sync.ensures.crash f now))
 
 pub returns-in_err-cut_off-in-Err-NoRoom-clause-any_moment : goal.returns-in_err-cut_off-in-Err-NoRoom-clause-any_moment
 returns-in_err-cut_off-in-Err-NoRoom-clause-any_moment g c =
     let s = c.requires in
-    let P : List ℕ → Type 0 = λ f. recovered f ≡ recovered (g.D.Device.seen c.args.self.now.device) in
+    let P : List ℕ → Type 0 = λ f. file_payloads f ≡ file_payloads (g.D.Device.seen c.args.self.now.device) in
     let file = g.D.Device.seen c.args.self.now.device in
     let here : (f : List ℕ) → g.D.Device.may_leave c.write_at.new.self f → P f = λ f now.
     stage_crash file c.args.self.now.format c.args.self.now.end s.split s.front _ _ _ s.durable c.write_at.ensures.crash f now in
-    let at_start = started g.D.Device.moment g.D.Device.left_since c.args.self.now.device P (λ f left. ap recovered (s.durable f (g.met.D.Device.only_now c.args.self.now.device f left))) in
+    let at_start = started g.D.Device.moment g.D.Device.left_since c.args.self.now.device P (λ f left. ap file_payloads (s.durable f (g.met.D.Device.only_now c.args.self.now.device f left))) in
     let written = goes_on g.D.Device.moment g.D.Device.left_since c.args.self.now.device c.args.self.now.device c.write_at.new.self P _ at_start c.write_at.ensures.time here in
     let end = c.args.self.now.end in
     let front = take end file in
@@ -62,11 +62,11 @@ returns-in_err-cut_off-in-Err-NoRoom-clause-any_moment g c =
 pub returns-in_ok-cut_off-in-Err-NoRoom-clause-any_moment : goal.returns-in_ok-cut_off-in-Err-NoRoom-clause-any_moment
 returns-in_ok-cut_off-in-Err-NoRoom-clause-any_moment g c =
     let s = c.requires in
-    let P : List ℕ → Type 0 = λ f. recovered f ≡ recovered (g.D.Device.seen c.args.self.now.device) in
+    let P : List ℕ → Type 0 = λ f. file_payloads f ≡ file_payloads (g.D.Device.seen c.args.self.now.device) in
     let file = g.D.Device.seen c.args.self.now.device in
     let here : (f : List ℕ) → g.D.Device.may_leave c.write_at.new.self f → P f = λ f now.
     stage_crash file c.args.self.now.format c.args.self.now.end s.split s.front _ _ _ s.durable c.write_at.ensures.crash f now in
-    let at_start = started g.D.Device.moment g.D.Device.left_since c.args.self.now.device P (λ f left. ap recovered (s.durable f (g.met.D.Device.only_now c.args.self.now.device f left))) in
+    let at_start = started g.D.Device.moment g.D.Device.left_since c.args.self.now.device P (λ f left. ap file_payloads (s.durable f (g.met.D.Device.only_now c.args.self.now.device f left))) in
     let written = goes_on g.D.Device.moment g.D.Device.left_since c.args.self.now.device c.args.self.now.device c.write_at.new.self P _ at_start c.write_at.ensures.time here in
     let end = c.args.self.now.end in
     let front = take end file in

@@ -1,4 +1,5 @@
 use Rattle.std.proofs.Common.{◌≡◌, ◌<◌, ◌≤ℤ◌, ◌∙◌, ap, arith, length, pos, refl, subst, sym}
+use Rattle.cedar_slots.specs.Blocks.{counts_at, counts_of}
 use Rattle.cedar_slots.specs.Places.{Grown, PlaceFields, room_for_one, Shaped, Sound}
 use Rattle.cedar_slots.proofs.PlacementLemmas.Growth.{Activated, AddsBlock-added, Sound-added, Sound-grown}
 use Rattle.cedar_slots.proofs.places.Places.add_block.Goals as goal
@@ -95,3 +96,7 @@ returns-clause-added g c =
       reject = refl;
     } in
     AddsBlock-added mid new sound spare made old grown capacity mid.blocks.active grown.active
+
+pub returns-clause-others : goal.returns-clause-others
+returns-clause-others g c b other =
+    c.activate.ensures.others b other ∙ ap (λ (p : PlaceFields). counts_at p.blocks.records b) c.bring_in.ensures.places ∙ ap counts_of (c.make_room.ensures.grown.records b)

@@ -22,3 +22,6 @@ returns-clause-sound g c =
 
 pub counts-counts-requires : goal.counts-counts-requires
 counts-counts-requires g c = omega (arith, c.requires.place.is_active, c.args.self.now.blocks.ready)
+
+pub returns-clause-others : goal.returns-clause-others
+returns-clause-others g c b other = c.change_counts.ensures.others b other

@@ -20,8 +20,8 @@ lower_reject-requires-clause-at_most g c =
     let high : c.counts-counts.result.num ≤ℤ pos 256 = bounds.1 in
     omega (arith, ints)
 
-pub failed-requires : goal.failed-requires
-failed-requires g c =
+pub after_failure-requires : goal.after_failure-requires
+after_failure-requires g c =
     let bounds = open_trial (blocks_of c.args.self.now.blocks) c.args.block c.requires.sound.pruned c.requires.«open» c.counts-counts.result c.counts-counts.ensures in
     let below : c.counts-counts.result.trial <ℤ c.args.self.now.blocks.max_trial = bounds.1 in
     let same : c.lower_reject.new.self.blocks.max_trial ≡ c.args.self.now.blocks.max_trial = ap (λ b. b.max_trial) c.lower_reject.ensures.blocks in
@@ -37,11 +37,11 @@ returns-clause-sound g c =
     let new : PlaceFields = record mid { blocks = (blocks_of c.set_counts.new.self) } in
     let e = c.set_counts.ensures in
     let bounds = open_trial old.blocks c.args.block c.requires.sound.pruned c.requires.«open» c.counts-counts.result c.counts-counts.ensures in
-    Sound-failed old mid new c.args.block c.requires.sound c.requires.«open» c.counts-counts.result c.failed.result c.counts-counts.ensures
+    Sound-failed old mid new c.args.block c.requires.sound c.requires.«open» c.counts-counts.result c.after_failure.result c.counts-counts.ensures
     c.lower_reject.ensures.slots c.lower_reject.ensures.blocks c.lower_reject.ensures.rejects
     e.made e.lists e.active e.len e.max_trial e.others e.idle
-    (Bounded-failed old.blocks.max_trial old.blocks.max_trial c.counts-counts.result c.failed.result c.args.wanted _ refl bounds.0 bounds.1 c.failed.ensures.reject (omega (arith, ints)) c.requires.some c.requires.few c.failed.ensures.trial)
-    c.failed.ensures.num c.failed.ensures.e_head refl refl
+    (Bounded-failed old.blocks.max_trial old.blocks.max_trial c.counts-counts.result c.after_failure.result c.args.wanted _ refl bounds.0 bounds.1 c.after_failure.ensures.reject (omega (arith, ints)) c.requires.some c.requires.few c.after_failure.ensures.trial)
+    c.after_failure.ensures.num c.after_failure.ensures.e_head refl refl
 
 pub counts-counts-requires : goal.counts-counts-requires
 counts-counts-requires g c = omega (arith, c.requires.«open».is_active, c.args.self.now.blocks.ready)

@@ -1,4 +1,4 @@
-use Rattle.std.proofs.Common.{◌≡◌, ◌*◌, ◌+◌, ◌∙◌, ap, arith, length, refl}
+use Rattle.std.proofs.Common.{◌≡◌, ◌∙◌, ap, arith, length, refl}
 use Rattle.cedar_slots.specs.Blocks.{blank_block, block_at}
 use Rattle.cedar_slots.specs.Places.{Grown, PlaceFields, Shaped}
 use Rattle.cedar_slots.specs.Slots.{blank_info, blank_node, info_at, node_record_at}

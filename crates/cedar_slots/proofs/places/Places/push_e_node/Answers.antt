@@ -11,65 +11,65 @@ one_more a b n p q = rw (p, q) refl
 
 pub give_after-requires-clause-head_in : goal.give_after-requires-clause-head_in
 give_after-requires-clause-head_in g c =
-    let some = λ (none : c.counts-counts.result.num ≡ _). let same : c.counts-counts.result.num ≡ c.reserved.result = none ∙ sym c.reserved.ensures in c.if-counts-reserved.false (omega (arith, ints)) in
+    let some = λ (none : c.counts-counts.result.num ≡ _). let same : c.counts-counts.result.num ≡ c.root_count.result = none ∙ sym c.root_count.ensures in c.if-counts-root_count.false (omega (arith, ints)) in
     let at_head = headed (places_of c.args.self.now) c.args.slot c.requires.sound c.requires.slot_in c.requires.not_root c.requires.slot_used c.counts-counts.result c.counts-counts.ensures some c.head-head.result c.head-head.ensures in
     omega (arith, (head_here (places_of c.args.self.now) c.args.slot c.requires.sound c.requires.slot_in c.requires.not_root c.requires.slot_used c.counts-counts.result c.counts-counts.ensures some c.head-head.result at_head).0, c.args.self.now.blocks.ready, c.args.self.now.nodes_ready)
 
 pub give_after-requires-clause-next_in : goal.give_after-requires-clause-next_in
 give_after-requires-clause-next_in g c =
-    let some = λ (none : c.counts-counts.result.num ≡ _). let same : c.counts-counts.result.num ≡ c.reserved.result = none ∙ sym c.reserved.ensures in c.if-counts-reserved.false (omega (arith, ints)) in
+    let some = λ (none : c.counts-counts.result.num ≡ _). let same : c.counts-counts.result.num ≡ c.root_count.result = none ∙ sym c.root_count.ensures in c.if-counts-root_count.false (omega (arith, ints)) in
     let at_head = headed (places_of c.args.self.now) c.args.slot c.requires.sound c.requires.slot_in c.requires.not_root c.requires.slot_used c.counts-counts.result c.counts-counts.ensures some c.head-head.result c.head-head.ensures in
     omega (arith, (head_here (places_of c.args.self.now) c.args.slot c.requires.sound c.requires.slot_in c.requires.not_root c.requires.slot_used c.counts-counts.result c.counts-counts.ensures some c.head-head.result at_head).1, c.args.self.now.blocks.ready, c.args.self.now.nodes_ready)
 
 pub give_after-requires-clause-to_next : goal.give_after-requires-clause-to_next
 give_after-requires-clause-to_next g c =
-    let some = λ (none : c.counts-counts.result.num ≡ _). let same : c.counts-counts.result.num ≡ c.reserved.result = none ∙ sym c.reserved.ensures in c.if-counts-reserved.false (omega (arith, ints)) in
+    let some = λ (none : c.counts-counts.result.num ≡ _). let same : c.counts-counts.result.num ≡ c.root_count.result = none ∙ sym c.root_count.ensures in c.if-counts-root_count.false (omega (arith, ints)) in
     let at_head = headed (places_of c.args.self.now) c.args.slot c.requires.sound c.requires.slot_in c.requires.not_root c.requires.slot_used c.counts-counts.result c.counts-counts.ensures some c.head-head.result c.head-head.ensures in
     head_link (places_of c.args.self.now) c.args.slot c.requires.sound c.requires.slot_in c.requires.not_root c.requires.slot_used c.counts-counts.result c.counts-counts.ensures some c.head-head.result at_head
 
 pub head-head-requires : goal.head-head-requires
 head-head-requires g c =
-    let some = λ (none : c.counts-counts.result.num ≡ _). let same : c.counts-counts.result.num ≡ c.reserved.result = none ∙ sym c.reserved.ensures in c.if-counts-reserved.false (omega (arith, ints)) in
+    let some = λ (none : c.counts-counts.result.num ≡ _). let same : c.counts-counts.result.num ≡ c.root_count.result = none ∙ sym c.root_count.ensures in c.if-counts-root_count.false (omega (arith, ints)) in
     head_natural (places_of c.args.self.now) c.requires.sound (c.args.slot / 256) c.requires.slot_in c.counts-counts.result c.counts-counts.ensures some
 
 pub more-requires : goal.more-requires
-more-requires g c = num_room (places_of c.args.self.now) c.args.slot c.requires.sound c.requires.slot_in c.requires.not_root c.requires.slot_used c.counts-counts-else-counts-reserved.result c.counts-counts-else-counts-reserved.ensures
+more-requires g c = num_room (places_of c.args.self.now) c.args.slot c.requires.sound c.requires.slot_in c.requires.not_root c.requires.slot_used c.counts-counts-else-counts-root_count.result c.counts-counts-else-counts-root_count.ensures
 
-pub returns-then-counts-reserved-clause-sound : goal.returns-then-counts-reserved-clause-sound
-returns-then-counts-reserved-clause-sound g c =
+pub returns-then-counts-root_count-clause-sound : goal.returns-then-counts-root_count-clause-sound
+returns-then-counts-root_count-clause-sound g c =
     let new : PlaceFields = record (places_of c.args.self.now) { slots = (slots_of c.give_alone.new.self); blocks = (blocks_of c.change_counts.new.self) } in
     let e = c.change_counts.ensures in
-    let same : c.counts-counts.result.num ≡ c.reserved.result = omega (arith, ints) in
-    Sound-given_alone (places_of c.args.self.now) c.args.slot c.requires.sound c.requires.slot_in c.requires.not_root c.requires.slot_used c.counts-counts.result c.counts-counts.ensures new c.one.result (same ∙ c.reserved.ensures)
+    let same : c.counts-counts.result.num ≡ c.root_count.result = omega (arith, ints) in
+    Sound-given_alone (places_of c.args.self.now) c.args.slot c.requires.sound c.requires.slot_in c.requires.not_root c.requires.slot_used c.counts-counts.result c.counts-counts.ensures new c.one.result (same ∙ c.root_count.ensures)
     (recounted (places_of c.args.self.now) new (c.args.slot / 256) c.requires.sound c.requires.slot_in c.counts-counts.result c.one.result c.counts-counts.ensures e.made
     (Bounded-one c.args.self.now.blocks.max_trial new.blocks.max_trial c.counts-counts.result c.one.result c.reject_for-floor.result _ e.max_trial c.one.ensures.reject (omega (arith, ints)) c.reject_for-floor.ensures.bounds c.one.ensures.trial)
     (λ _ zero. c.one.ensures.trial ∙ zero)
     e.lists e.active e.len e.max_trial e.others e.idle c.requires.sound.rejects)
     c.give_alone.ensures.nodes c.give_alone.ensures.infos c.give_alone.ensures.len c.give_alone.ensures.infos_len c.one.ensures.num c.one.ensures.e_head
 
-pub returns-then-counts-reserved-clause-frees_slot : goal.returns-then-counts-reserved-clause-frees_slot
-returns-then-counts-reserved-clause-frees_slot g c =
+pub returns-then-counts-root_count-clause-frees_slot : goal.returns-then-counts-root_count-clause-frees_slot
+returns-then-counts-root_count-clause-frees_slot g c =
     FreesSlot-given_alone (places_of c.args.self.now) c.args.slot c.requires.sound c.requires.slot_in c.requires.not_root c.requires.slot_used c.counts-counts.result c.counts-counts.ensures (slots_of c.give_alone.new.self) c.give_alone.ensures.nodes c.give_alone.ensures.infos
 
-pub returns-else-counts-reserved-clause-sound : goal.returns-else-counts-reserved-clause-sound
-returns-else-counts-reserved-clause-sound g c =
+pub returns-else-counts-root_count-clause-sound : goal.returns-else-counts-root_count-clause-sound
+returns-else-counts-root_count-clause-sound g c =
     let new : PlaceFields = record (places_of c.args.self.now) { slots = (slots_of c.give_after.new.self); blocks = (blocks_of c.add_counts.new.self) } in
     let e = c.add_counts.ensures in
-    let was = c.counts-counts-else-counts-reserved.result in
-    let was_is = c.counts-counts-else-counts-reserved.ensures in
+    let was = c.counts-counts-else-counts-root_count.result in
+    let was_is = c.counts-counts-else-counts-root_count.ensures in
     let again : was ≡ c.counts-counts.result = was_is ∙ sym c.counts-counts.ensures in
-    let some = λ (none : was.num ≡ _). let same : c.counts-counts.result.num ≡ c.reserved.result = ap (λ (k : Counts). k.num) (sym again) ∙ none ∙ sym c.reserved.ensures in c.if-counts-reserved.false (omega (arith, ints)) in
+    let some = λ (none : was.num ≡ _). let same : c.counts-counts.result.num ≡ c.root_count.result = ap (λ (k : Counts). k.num) (sym again) ∙ none ∙ sym c.root_count.ensures in c.if-counts-root_count.false (omega (arith, ints)) in
     let at_head = headed (places_of c.args.self.now) c.args.slot c.requires.sound c.requires.slot_in c.requires.not_root c.requires.slot_used was was_is some c.head-head.result (c.head-head.ensures ∙ ap (λ (k : Counts). unsigned_abs k.e_head) (sym again)) in
     Sound-given_after (places_of c.args.self.now) c.args.slot c.requires.sound c.requires.slot_in c.requires.not_root c.requires.slot_used was was_is some c.head-head.result at_head new c.more.result
     (recounted (places_of c.args.self.now) new (c.args.slot / 256) c.requires.sound c.requires.slot_in was c.more.result was_is e.made
-    (Bounded-more c.args.self.now.blocks.max_trial new.blocks.max_trial was c.more.result c.reject_for-floor-else-counts-reserved.result _ e.max_trial c.requires.sound.pruned.max_trial c.more.ensures.reject (omega (arith, ints)) c.reject_for-floor-else-counts-reserved.ensures.bounds c.more.ensures.trial)
+    (Bounded-more c.args.self.now.blocks.max_trial new.blocks.max_trial was c.more.result c.reject_for-floor-else-counts-root_count.result _ e.max_trial c.requires.sound.pruned.max_trial c.more.ensures.reject (omega (arith, ints)) c.reject_for-floor-else-counts-root_count.ensures.bounds c.more.ensures.trial)
     (λ _ _. c.more.ensures.trial)
     e.lists e.active e.len e.max_trial e.others e.idle c.requires.sound.rejects)
     c.give_after.ensures.nodes c.give_after.ensures.infos c.give_after.ensures.len c.give_after.ensures.infos_len c.more.ensures.num c.more.ensures.e_head
 
-pub returns-else-counts-reserved-clause-frees_slot : goal.returns-else-counts-reserved-clause-frees_slot
-returns-else-counts-reserved-clause-frees_slot g c =
-    let some = λ (none : c.counts-counts.result.num ≡ _). let same : c.counts-counts.result.num ≡ c.reserved.result = none ∙ sym c.reserved.ensures in c.if-counts-reserved.false (omega (arith, ints)) in
+pub returns-else-counts-root_count-clause-frees_slot : goal.returns-else-counts-root_count-clause-frees_slot
+returns-else-counts-root_count-clause-frees_slot g c =
+    let some = λ (none : c.counts-counts.result.num ≡ _). let same : c.counts-counts.result.num ≡ c.root_count.result = none ∙ sym c.root_count.ensures in c.if-counts-root_count.false (omega (arith, ints)) in
     let at_head = headed (places_of c.args.self.now) c.args.slot c.requires.sound c.requires.slot_in c.requires.not_root c.requires.slot_used c.counts-counts.result c.counts-counts.ensures some c.head-head.result c.head-head.ensures in
     FreesSlot-given_after (places_of c.args.self.now) c.args.slot c.requires.sound c.requires.slot_in c.requires.not_root c.requires.slot_used c.counts-counts.result c.counts-counts.ensures some c.head-head.result at_head (slots_of c.give_after.new.self) c.give_after.ensures.nodes c.give_after.ensures.infos
 
@@ -112,29 +112,29 @@ give_after-requires-clause-slot_in_infos g c = omega (arith, c.args.self.now.blo
 pub counts-counts-requires : goal.counts-counts-requires
 counts-counts-requires g c = omega (arith, c.requires.slot_in, c.args.self.now.blocks.ready)
 
-pub reject_for-floor-requires-else-counts-reserved-clause-natural : goal.reject_for-floor-requires-else-counts-reserved-clause-natural
-reject_for-floor-requires-else-counts-reserved-clause-natural g c =
-    let low : pos 0 ≤ℤ c.counts-counts-else-counts-reserved.result.num = num_natural (places_of c.args.self.now) c.args.slot c.requires.sound c.requires.slot_in c.requires.not_root c.requires.slot_used c.counts-counts-else-counts-reserved.result c.counts-counts-else-counts-reserved.ensures in
-    let room : c.counts-counts-else-counts-reserved.result.num <ℤ pos 256 = num_room (places_of c.args.self.now) c.args.slot c.requires.sound c.requires.slot_in c.requires.not_root c.requires.slot_used c.counts-counts-else-counts-reserved.result c.counts-counts-else-counts-reserved.ensures in
+pub reject_for-floor-requires-else-counts-root_count-clause-natural : goal.reject_for-floor-requires-else-counts-root_count-clause-natural
+reject_for-floor-requires-else-counts-root_count-clause-natural g c =
+    let low : pos 0 ≤ℤ c.counts-counts-else-counts-root_count.result.num = num_natural (places_of c.args.self.now) c.args.slot c.requires.sound c.requires.slot_in c.requires.not_root c.requires.slot_used c.counts-counts-else-counts-root_count.result c.counts-counts-else-counts-root_count.ensures in
+    let room : c.counts-counts-else-counts-root_count.result.num <ℤ pos 256 = num_room (places_of c.args.self.now) c.args.slot c.requires.sound c.requires.slot_in c.requires.not_root c.requires.slot_used c.counts-counts-else-counts-root_count.result c.counts-counts-else-counts-root_count.ensures in
     omega (arith, ints)
 
-pub reject_for-floor-requires-else-counts-reserved-clause-at_most : goal.reject_for-floor-requires-else-counts-reserved-clause-at_most
-reject_for-floor-requires-else-counts-reserved-clause-at_most g c =
-    let low : pos 0 ≤ℤ c.counts-counts-else-counts-reserved.result.num = num_natural (places_of c.args.self.now) c.args.slot c.requires.sound c.requires.slot_in c.requires.not_root c.requires.slot_used c.counts-counts-else-counts-reserved.result c.counts-counts-else-counts-reserved.ensures in
-    let room : c.counts-counts-else-counts-reserved.result.num <ℤ pos 256 = num_room (places_of c.args.self.now) c.args.slot c.requires.sound c.requires.slot_in c.requires.not_root c.requires.slot_used c.counts-counts-else-counts-reserved.result c.counts-counts-else-counts-reserved.ensures in
+pub reject_for-floor-requires-else-counts-root_count-clause-at_most : goal.reject_for-floor-requires-else-counts-root_count-clause-at_most
+reject_for-floor-requires-else-counts-root_count-clause-at_most g c =
+    let low : pos 0 ≤ℤ c.counts-counts-else-counts-root_count.result.num = num_natural (places_of c.args.self.now) c.args.slot c.requires.sound c.requires.slot_in c.requires.not_root c.requires.slot_used c.counts-counts-else-counts-root_count.result c.counts-counts-else-counts-root_count.ensures in
+    let room : c.counts-counts-else-counts-root_count.result.num <ℤ pos 256 = num_room (places_of c.args.self.now) c.args.slot c.requires.sound c.requires.slot_in c.requires.not_root c.requires.slot_used c.counts-counts-else-counts-root_count.result c.counts-counts-else-counts-root_count.ensures in
     omega (arith, ints)
 
-pub overflow_add-counts-else-counts-reserved : goal.overflow_add-counts-else-counts-reserved
-overflow_add-counts-else-counts-reserved g c =
-    let low : pos 0 ≤ℤ c.counts-counts-else-counts-reserved.result.num = num_natural (places_of c.args.self.now) c.args.slot c.requires.sound c.requires.slot_in c.requires.not_root c.requires.slot_used c.counts-counts-else-counts-reserved.result c.counts-counts-else-counts-reserved.ensures in
-    let room : c.counts-counts-else-counts-reserved.result.num <ℤ pos 256 = num_room (places_of c.args.self.now) c.args.slot c.requires.sound c.requires.slot_in c.requires.not_root c.requires.slot_used c.counts-counts-else-counts-reserved.result c.counts-counts-else-counts-reserved.ensures in
+pub overflow_add-counts-else-counts-root_count : goal.overflow_add-counts-else-counts-root_count
+overflow_add-counts-else-counts-root_count g c =
+    let low : pos 0 ≤ℤ c.counts-counts-else-counts-root_count.result.num = num_natural (places_of c.args.self.now) c.args.slot c.requires.sound c.requires.slot_in c.requires.not_root c.requires.slot_used c.counts-counts-else-counts-root_count.result c.counts-counts-else-counts-root_count.ensures in
+    let room : c.counts-counts-else-counts-root_count.result.num <ℤ pos 256 = num_room (places_of c.args.self.now) c.args.slot c.requires.sound c.requires.slot_in c.requires.not_root c.requires.slot_used c.counts-counts-else-counts-root_count.result c.counts-counts-else-counts-root_count.ensures in
     omega (arith, ints)
 
 pub add_counts-requires-clause-more : goal.add_counts-requires-clause-more
 add_counts-requires-clause-more g c =
-    let was = c.counts-counts-else-counts-reserved.result in
-    let was_is = c.counts-counts-else-counts-reserved.ensures in
+    let was = c.counts-counts-else-counts-root_count.result in
+    let was_is = c.counts-counts-else-counts-root_count.ensures in
     let again : was ≡ c.counts-counts.result = was_is ∙ sym c.counts-counts.ensures in
-    let some = λ (none : was.num ≡ _). let same : c.counts-counts.result.num ≡ c.reserved.result = ap (λ (k : Counts). k.num) (sym again) ∙ none ∙ sym c.reserved.ensures in c.if-counts-reserved.false (omega (arith, ints)) in
+    let some = λ (none : was.num ≡ _). let same : c.counts-counts.result.num ≡ c.root_count.result = ap (λ (k : Counts). k.num) (sym again) ∙ none ∙ sym c.root_count.ensures in c.if-counts-root_count.false (omega (arith, ints)) in
     let at_head = headed (places_of c.args.self.now) c.args.slot c.requires.sound c.requires.slot_in c.requires.not_root c.requires.slot_used was was_is some c.head-head.result (c.head-head.ensures ∙ ap (λ (k : Counts). unsigned_abs k.e_head) (sym again)) in
     one_more was.num c.more.result.num _ at_head.num (c.more.ensures.num _ at_head.num)

@@ -3,16 +3,17 @@ use Rattle.std.proofs.Common.{◌≡◌, false, true, ◌∙◌, ap, inl, inr, �
 use Rattle.std.proofs.lemmas.Bool.{false≢true}
 use Rattle.cedar_journal.specs.Frames.{payload_of}
 use Rattle.cedar_journal.proofs.Moments.{joins, weakens}
-use Rattle.cedar_tree.specs.State.{new_state}
+use Rattle.cedarwood.specs.State.{new_state}
 use Rattle.cedar_store.specs.Batches.{all_erased_late}
-use Rattle.cedar_store.specs.Changes.{replayed}
+use Rattle.cedar_store.specs.Changes.{after_payloads}
 use Rattle.cedar_store.specs.declared.error.DurableError.TheVariants as error
 use Rattle.cedar_store.specs.Files.{state_of, IsEither, StandsFor}
 use Rattle.cedar_store.specs.Told.{changes_told}
-use Rattle.cedar_store.proofs.Compacted.{change_of_one, on_err, on_err_told, on_ok, state_more, still_more}
+use Rattle.cedar_store.proofs.Compacted.{change_of_one, on_err, state_more, still_more}
 use Rattle.cedar_store.proofs.Shortened.{looked_since}
 use Rattle.cedar_store.proofs.Unwritten.{leaves_unwritten, unwritten_by_device}
 use Rattle.cedar_store.proofs.States.{either}
+use Rattle.std.proofs.lemmas.Result.{on_ok_weaker, on_err_weaker}
 use Rattle.cedar_store.proofs.store.Store.acknowledge.Goals as goal
 
 pub compact_if_due-requires-clause-consistent : goal.compact_if_due-requires-clause-consistent
@@ -40,11 +41,11 @@ returns-in-Ok-clause-made g c =
     let state = g.T.Words.state in
     let told = changes_told c.args.changes.now in
     let made = ap state c.compact_if_due.ensures.words ∙ c.erase_rest.ensures ∙ ap (λ w. all_erased_late (state w) told) c.append.ensures.words in
-    on_ok c.compact_if_due.result (λ (usable : c.compact_if_due.new.self.failed ≡ false). made) c.compact_if_due.ensures.done
+    on_ok_weaker c.compact_if_due.result (λ (usable : c.compact_if_due.new.self.failed ≡ false). made) c.compact_if_due.ensures.done
 
 pub returns-in-Ok-clause-ready : goal.returns-in-Ok-clause-ready
 returns-in-Ok-clause-ready g c =
-    on_ok c.compact_if_due.result (λ (usable : c.compact_if_due.new.self.failed ≡ false). c.compact_if_due.ensures.ready) c.compact_if_due.ensures.done
+    on_ok_weaker c.compact_if_due.result (λ (usable : c.compact_if_due.new.self.failed ≡ false). c.compact_if_due.ensures.ready) c.compact_if_due.ensures.done
 
 pub returns-in-Ok-clause-err : goal.returns-in-Ok-clause-err
 returns-in-Ok-clause-err g c =
@@ -86,7 +87,7 @@ pub returns-in-Ok-clause-recorded : goal.returns-in-Ok-clause-recorded
 returns-in-Ok-clause-recorded g c =
     let seen = g.D.Device.seen in
     let between = c.append.new.self in
-    on_ok c.compact_if_due.result
+    on_ok_weaker c.compact_if_due.result
     (λ more. ⊎_elim (λ same. inl same) (λ short. inr (λ is. short.0 (c.append.ensures.rule ∙ is), short.1, short.2))
     (still_more (seen c.args.self.now.journal.device) (seen between.journal.device) (seen c.compact_if_due.new.self.journal.device) (payload_of c.args.frame.now) c.in-Ok.ensures.acknowledged more))
     c.compact_if_due.ensures.recorded
@@ -103,7 +104,7 @@ returns-then-not-self-clause-left g c =
       words = c.append.ensures.words;
       end = c.in-Err.ensures.end;
       settled = c.append.ensures.no_room none;
-      same = ap (λ r. option_and_then (replayed new_state) r) (c.append.ensures.same_left none);
+      same = ap (λ r. option_and_then (after_payloads new_state) r) (c.append.ensures.same_left none);
     })
 
 pub returns-then-not-self-clause-any_moment : goal.returns-then-not-self-clause-any_moment
@@ -142,11 +143,11 @@ returns-else-not-self-clause-counted g c = λ was. c.append.ensures.counted was
 pub returns-in-Ok-clause-looked_after : goal.returns-in-Ok-clause-looked_after
 returns-in-Ok-clause-looked_after g c =
     let d = g.D.Device in
-    on_ok c.compact_if_due.result
+    on_ok_weaker c.compact_if_due.result
     (looked_since d.seen d.faults g.T.Words.state c.args.self.now c.append.new.self c.compact_if_due.new.self c.append.ensures.unlooked c.append.ensures.rule c.append.ensures.faults) c.compact_if_due.ensures.looked_after
 
 pub returns-in-Ok-clause-told : goal.returns-in-Ok-clause-told
-returns-in-Ok-clause-told g c = on_err_told c.compact_if_due.result (λ is. inr is) c.compact_if_due.ensures.told
+returns-in-Ok-clause-told g c = on_err_weaker c.compact_if_due.result (λ is. inr is) c.compact_if_due.ensures.told
 
 pub returns-then-not-self-clause-told : goal.returns-then-not-self-clause-told
 returns-then-not-self-clause-told g c = inl c.append.ensures.unlooked

@@ -1,7 +1,7 @@
 use Rattle.std.specs.Prelude.{option_and_then, option_map}
 use Rattle.std.proofs.Common.{◌≡◌, [], ◌∷◌, false, length, ◌+◌, ◌∙◌, ap, rules}
 use Rattle.cedar_journal.specs.Frames.{payload_of}
-use Rattle.cedar_tree.specs.State.{erased}
+use Rattle.cedarwood.specs.State.{after_erase}
 use Rattle.cedar_store.specs.Changes.{after, all_changed, erase_at}
 use Rattle.cedar_store.proofs.Compacted.{recorded_in}
 use Rattle.cedar_store.proofs.Payloads.{handed_on}
@@ -52,7 +52,7 @@ returns-in_err-acknowledge-clause-ready g c =
     let old = c.args.self.now in
     let new = c.acknowledge.new.self in
     let usable : old.failed ≡ false = search rules in
-    ready_unwritten d.seen d.may_leave state old new (d.faults old.journal.device) (d.faults new.journal.device) (erased (state old.words) c.args.key.now) c.in_err-acknowledge.field-0.0 c.requires.ready.ordered c.requires.ready usable
+    ready_unwritten d.seen d.may_leave state old new (d.faults old.journal.device) (d.faults new.journal.device) (after_erase (state old.words) c.args.key.now) c.in_err-acknowledge.field-0.0 c.requires.ready.ordered c.requires.ready usable
     c.in_err-acknowledge.ensures.err c.in_err-acknowledge.ensures.left
 
 pub returns-clause-recorded : goal.returns-clause-recorded

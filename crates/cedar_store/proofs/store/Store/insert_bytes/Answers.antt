@@ -5,7 +5,7 @@ use Rattle.std.proofs.lemmas.Int.{to_z-of_z}
 use mir.Syntax.{w32}
 use Rattle.cedar_journal.specs.Device.{LeavesOnly}
 use Rattle.cedar_journal.specs.Frames.{payload_of}
-use Rattle.cedar_tree.specs.State.{stored}
+use Rattle.cedarwood.specs.State.{after_put}
 use Rattle.cedar_store.specs.Changes.{after, all_changed, put_at}
 use Rattle.cedar_store.specs.Files.{IsEither}
 use Rattle.cedar_store.specs.Undo.{IsPutOf}
@@ -16,7 +16,7 @@ use Rattle.cedar_store.proofs.store.Store.insert_bytes.Goals as goal
 
 pub acknowledge-requires-clause-ordered : goal.acknowledge-requires-clause-ordered
 acknowledge-requires-clause-ordered g c =
-    let kept : (g.T.Words.state c.put.new.self) ≡ stored (g.T.Words.state c.args.self.now.words) c.args.key.now c.args.value = search rules in
+    let kept : (g.T.Words.state c.put.new.self) ≡ after_put (g.T.Words.state c.args.self.now.words) c.args.key.now c.args.value = search rules in
     ap (λ s. s.ordered) kept ∙ c.requires.ready.ordered
 
 pub acknowledge-requires-clause-stands : goal.acknowledge-requires-clause-stands
@@ -26,13 +26,13 @@ acknowledge-requires-clause-stands g c =
     let fits : FitsSigned w32 c.args.value = search rules in
     let same = to_z-of_z w32 c.args.value fits in
     let told = ap (option_map (all_changed s)) (c.in-Ok.ensures.change ∙ ap (λ v. Some (put_at c.args.key.now v ∷ [])) same) in
-    let kept : (g.T.Words.state c.put.new.self) ≡ stored s c.args.key.now c.args.value = search rules in
+    let kept : (g.T.Words.state c.put.new.self) ≡ after_put s c.args.key.now c.args.value = search rules in
     ap (option_and_then (λ t. after t (payload_of c.in-Ok.frame))) (c.requires.ready.consistent ready).same ∙ told ∙ ap Some (sym kept)
 
 pub returns-in-Ok-acknowledge-clause-any_moment : goal.returns-in-Ok-acknowledge-clause-any_moment
 returns-in-Ok-acknowledge-clause-any_moment g c = λ ready.
     let s = (g.T.Words.state c.args.self.now.words) in
-    let kept : (g.T.Words.state c.put.new.self) ≡ stored s c.args.key.now c.args.value = search rules in
+    let kept : (g.T.Words.state c.put.new.self) ≡ after_put s c.args.key.now c.args.value = search rules in
     let moment = g.D.Device.moment in
     subst (λ t. LeavesOnly moment g.D.Device.left_since c.args.self.now.journal.device c.acknowledge.new.self.journal.device (IsEither s t)) kept
     (c.acknowledge.ensures.any_moment s (c.requires.ready.consistent ready).same)
@@ -40,7 +40,7 @@ returns-in-Ok-acknowledge-clause-any_moment g c = λ ready.
 pub returns-then-self-2-clause-any_moment : goal.returns-then-self-2-clause-any_moment
 returns-then-self-2-clause-any_moment g c = λ ready.
     let s = (g.T.Words.state c.args.self.now.words) in
-    let kept : (g.T.Words.state c.put.new.self) ≡ stored s c.args.key.now c.args.value = search rules in
+    let kept : (g.T.Words.state c.put.new.self) ≡ after_put s c.args.key.now c.args.value = search rules in
     let moment = g.D.Device.moment in
     subst (λ t. LeavesOnly moment g.D.Device.left_since c.args.self.now.journal.device c.acknowledge.new.self.journal.device (IsEither s t)) kept
     (c.acknowledge.ensures.any_moment s (c.requires.ready.consistent ready).same)
@@ -48,7 +48,7 @@ returns-then-self-2-clause-any_moment g c = λ ready.
 pub returns-in-Ok-clause-any_moment : goal.returns-in-Ok-clause-any_moment
 returns-in-Ok-clause-any_moment g c = λ ready.
     let s = (g.T.Words.state c.args.self.now.words) in
-    let kept : (g.T.Words.state c.put.new.self) ≡ stored s c.args.key.now c.args.value = search rules in
+    let kept : (g.T.Words.state c.put.new.self) ≡ after_put s c.args.key.now c.args.value = search rules in
     let moment = g.D.Device.moment in
     subst (λ t. LeavesOnly moment g.D.Device.left_since c.args.self.now.journal.device c.acknowledge.new.self.journal.device (IsEither s t)) kept
     (c.acknowledge.ensures.any_moment s (c.requires.ready.consistent ready).same)
@@ -69,7 +69,7 @@ returns-then-self-2-clause-ready g c =
     let s = state old.words in
     let key = c.args.key.now in
     let usable : old.failed ≡ false = search rules in
-    let kept : state c.put.new.self ≡ stored s key c.args.value = search rules in
+    let kept : state c.put.new.self ≡ after_put s key c.args.value = search rules in
     let cause = c.in-Err-acknowledge.ensures.err in
     let left = c.in-Err-acknowledge.ensures.left in
     let before = d.faults old.journal.device in
@@ -88,7 +88,7 @@ returns-then-self-2-clause-err g c =
     let s = state old.words in
     let key = c.args.key.now in
     let usable : old.failed ≡ false = search rules in
-    let kept : state c.put.new.self ≡ stored s key c.args.value = search rules in
+    let kept : state c.put.new.self ≡ after_put s key c.args.value = search rules in
     let cause = c.in-Err-acknowledge.ensures.err in
     let left = c.in-Err-acknowledge.ensures.left in
     let before = d.faults old.journal.device in
@@ -107,7 +107,7 @@ returns-then-self-2-clause-cause g c =
     let s = state old.words in
     let key = c.args.key.now in
     let usable : old.failed ≡ false = search rules in
-    let kept : state c.put.new.self ≡ stored s key c.args.value = search rules in
+    let kept : state c.put.new.self ≡ after_put s key c.args.value = search rules in
     let cause = c.in-Err-acknowledge.ensures.err in
     let left = c.in-Err-acknowledge.ensures.left in
     let before = d.faults old.journal.device in
@@ -124,7 +124,7 @@ returns-in-Ok-clause-cause g c =
     let s = state old.words in
     let key = c.args.key.now in
     let usable : old.failed ≡ false = search rules in
-    let kept : state c.put.new.self ≡ stored s key c.args.value = search rules in
+    let kept : state c.put.new.self ≡ after_put s key c.args.value = search rules in
     let cause = c.in-Err-acknowledge.ensures.err in
     let left = c.in-Err-acknowledge.ensures.left in
     let before = d.faults old.journal.device in
@@ -141,7 +141,7 @@ returns-in-Ok-clause-ready g c =
     let s = state old.words in
     let key = c.args.key.now in
     let usable : old.failed ≡ false = search rules in
-    let kept : state c.put.new.self ≡ stored s key c.args.value = search rules in
+    let kept : state c.put.new.self ≡ after_put s key c.args.value = search rules in
     let cause = c.in-Err-acknowledge.ensures.err in
     let left = c.in-Err-acknowledge.ensures.left in
     let before = d.faults old.journal.device in
@@ -166,7 +166,7 @@ returns-in-Ok-clause-err g c =
     let s = state old.words in
     let key = c.args.key.now in
     let usable : old.failed ≡ false = search rules in
-    let kept : state c.put.new.self ≡ stored s key c.args.value = search rules in
+    let kept : state c.put.new.self ≡ after_put s key c.args.value = search rules in
     let cause = c.in-Err-acknowledge.ensures.err in
     let left = c.in-Err-acknowledge.ensures.left in
     let before = d.faults old.journal.device in

@@ -1,8 +1,8 @@
 use Rattle.std.specs.Prelude.{option_and_then, option_map}
 use Rattle.std.proofs.Common.{◌≡◌, ◌∙◌, ap, length, refl, rules, subst, sym}
-use Rattle.cedar_journal.specs.Files.{HasExtent, recovered}
-use Rattle.cedar_tree.specs.State.{new_state}
-use Rattle.cedar_store.specs.Changes.{replayed}
+use Rattle.cedar_journal.specs.Files.{file_payloads, HasExtent}
+use Rattle.cedarwood.specs.State.{new_state}
+use Rattle.cedar_store.specs.Changes.{after_payloads}
 use Rattle.cedar_store.specs.Files.{record_count}
 use Rattle.cedar_store.proofs.Ordered.{is_ordered}
 use Rattle.cedar_store.proofs.States.{not_corrupt}
@@ -19,7 +19,7 @@ returns-in-Ok-open_read-clause-ready g c =
         ordered = is_ordered (g.D.Device.seen c.args.device) s c.in-Ok.ensures.made;
         consistent = λ _. record {
           settled = c.in-Ok-open_read.ensures.settled.0;
-          same = ap (option_and_then (replayed new_state)) (c.in-Ok-open_read.ensures.settled.1 ∙ ap recovered c.read_words.ensures.seen) ∙ c.in-Ok.ensures.made;
+          same = ap (option_and_then (after_payloads new_state)) (c.in-Ok-open_read.ensures.settled.1 ∙ ap file_payloads c.read_words.ensures.seen) ∙ c.in-Ok.ensures.made;
         };
       },
     )

@@ -1,12 +1,12 @@
 use Rattle.std.proofs.Common.{◌≡◌, ◌+◌, ◌<◌, drop, length}
-use Rattle.cedar_tree.specs.Tree.{Tree, number_at}
+use Rattle.cedar_model.specs.Tree.{Tree, number_at}
 use Rattle.cedar_model.specs.Meaning.StandsFor.{Stands}
 use Rattle.cedar_model.specs.Meaning.WellFormed.{tree_of}
 use Rattle.cedar_table.specs.Table.Views.{cells, fields}
 use Rattle.cedar_model.specs.Table.TableFields.{size_of}
 use Rattle.cedar_table.proofs.table.Table.exact_match_search_counted.Given as goal
 
--- the node stands for what the labels so far lead to, after one comparison for each
+-- the node represents what the labels so far lead to, after one comparison for each
 abbrev pub invariant-loop-rest : goal.invariant-loop-rest
 invariant-loop-rest g l =
     (l.ticks + length l.rest ≡ l.initial.ticks + length l.key) × (l.node < size_of (fields l.self))

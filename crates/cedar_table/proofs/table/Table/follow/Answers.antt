@@ -1,6 +1,6 @@
 use Rattle.std.proofs.Common.{◌≡◌, ◌<◌, arith, rules, sym, ◌∙◌, subst, false}
 use Rattle.std.specs.Prelude.{bit_xor}
-use Rattle.cedar_tree.specs.Tree.{has_label, subtree}
+use Rattle.cedar_model.specs.Tree.{has_label, subtree}
 use Rattle.cedar_model.specs.Meaning.StandsFor.{Stands}
 use Rattle.cedar_table.specs.Table.Views.{cells, fields}
 use Rattle.cedar_model.specs.Table.TableFields.{size_of}

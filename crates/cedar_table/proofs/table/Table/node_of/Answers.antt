@@ -1,7 +1,7 @@
 use Rattle.std.proofs.Common.{◌≡◌, ◌⊎◌, ◌<◌, ◌∙◌, ap, arith, get_or, inl, inr, rules, subst, sym, take}
-use Rattle.cedar_tree.specs.Tree.{Tree, number_at}
-use Rattle.cedar_tree.specs.Edits.{HasPath}
-use Rattle.cedar_tree.specs.Queries.{node_at}
+use Rattle.cedar_model.specs.Tree.{Tree, number_at}
+use Rattle.cedar_model.specs.Edits.{HasPath}
+use Rattle.cedar_model.specs.Queries.{node_at}
 use Rattle.std.specs.Prelude.{pos}
 use Rattle.cedar_model.specs.Meaning.Family.{below}
 use Rattle.cedar_table.specs.Table.Views.{cells, fields}

@@ -3,11 +3,12 @@ use Rattle.std.proofs.lemmas.List.{length-append}
 use Rattle.std.proofs.lemmas.Result.{on_err_weaker}
 use Rattle.cedar_walk.specs.Keys.{KeyOutgrows, NextKeyOutgrows}
 use Rattle.cedar_walk.specs.Visits.{path_to}
-use Rattle.cedar_walk.proofs.WalkLemmas.Keys.{long_path, on_err, whole_outgrows}
+use Rattle.cedar_walk.proofs.WalkLemmas.Keys.{long_path, whole_outgrows}
 use Rattle.cedar_walk.proofs.WalkLemmas.NextNode.{path_length}
 use Rattle.cedarwood.specs.declared.queries.cursor.CursorPlace.{CursorPlace}
 use Rattle.cedarwood.specs.declared.queries.cursor.CursorPlace.TheVariants.{At, Before}
 use Rattle.cedarwood.specs.Cursors.{cursor_entries, IsCursorPlace}
+use Rattle.cedar_tree.proofs.GeneralLemmas.{on_err}
 use Rattle.cedarwood.proofs.queries.cursor.next_written.Goals as goal
 
 pub next_with_key-requires : goal.next_with_key-requires

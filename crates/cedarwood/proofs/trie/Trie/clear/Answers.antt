@@ -10,6 +10,6 @@ pub returns : goal.returns
 returns g c =
     let U = fields c.erase_under.new.table in
     record {
-      cleared = subst (λ (d : Dictionary). IsCleared d (dictionary_of U)) c.self.view_is
-          (cleared g.row.SLOTS (fields c.self.inside.table) U _ _ refl c.erase_under.ensures.well_formed c.erase_under.ensures.erased);
+      cleared = subst (λ (d : Dictionary). IsCleared d (dictionary_of c.self.inside.search_limit U)) c.self.view_is
+          (cleared g.row.SLOTS c.self.inside.search_limit (fields c.self.inside.table) U _ _ refl c.erase_under.ensures.well_formed (c.erase_under.ensures.erased c.self.inside.search_limit));
     }

@@ -5,7 +5,7 @@ use Rattle.cedar_walk.specs.Batch.{keys_of}
 use Rattle.cedarwood.proofs.BatchLemmas.{all_answers, all_erasures, behind_stay, erasure_more, sizes_of, state_of}
 use Rattle.cedarwood.proofs.trie.Trie.erase_batch.Goals as goal
 
--- what stands behind the keys
+-- what follows the keys
 abbrev blank : Bor (List ℕ)
 blank = record { ref_ptr = (0, 0); now = [] }
 
@@ -16,7 +16,7 @@ loop-index-preserved g c =
     let inside : i < length c.args.keys.now = omega (arith, c.loop-index-test.true) in
     let room : i < length c.loop-index.answers = omega (arith, c.loop-index.auto.answers, c.loop-index-test.true) in (
       erasure_more c.args.self.now c.loop-index.self c.erase_bytes.new.self c.args.keys.now c.loop-index.answers i blank c.erase_bytes.result inside room c.loop-index.invariant.0
-          (record { answer = e.answer; state = e.after; marks = e.marks; marked = e.marked; size = e.size; max_trial = e.max_trial }),
+          (record { answer = e.answer; state = e.after; marks = e.marks; marked = e.marked; size = e.size; max_trial = e.max_trial; search_limit = e.search_limit }),
       behind_stay c.args.answers.now c.loop-index.answers i c.erase_bytes.result c.loop-index.invariant.1,
     )
 
@@ -44,3 +44,7 @@ returns-clause-size g c =
 pub returns-clause-max_trial : goal.returns-clause-max_trial
 returns-clause-max_trial g c =
     (sizes_of c.args.self.now c.loop-index.self (take c.loop-index.index (keys_of c.args.keys.now)) (take c.loop-index.index c.loop-index.answers) c.loop-index.invariant.0).2
+
+pub returns-clause-search_limit : goal.returns-clause-search_limit
+returns-clause-search_limit g c =
+    (sizes_of c.args.self.now c.loop-index.self (take c.loop-index.index (keys_of c.args.keys.now)) (take c.loop-index.index c.loop-index.answers) c.loop-index.invariant.0).3

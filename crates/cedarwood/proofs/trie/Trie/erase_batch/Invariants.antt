@@ -3,7 +3,7 @@ use Rattle.cedar_walk.specs.Batch.{keys_of}
 use Rattle.cedarwood.specs.Batches.{IsErasures}
 use Rattle.cedarwood.proofs.trie.Trie.erase_batch.Given as goal
 
--- the keys before this one are erased and answered
+-- the keys before this one are erased, and their results are known
 abbrev pub invariant-loop-index : goal.invariant-loop-index
 invariant-loop-index g l =
     IsErasures l.initial.self l.self (take l.index (keys_of l.keys)) (take l.index l.answers)

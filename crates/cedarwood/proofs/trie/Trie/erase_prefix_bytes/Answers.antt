@@ -6,4 +6,4 @@ use Rattle.cedarwood.specs.OnTable.{dictionary_of}
 use Rattle.cedarwood.proofs.trie.Trie.erase_prefix_bytes.Goals as goal
 
 pub returns : goal.returns
-returns g c = record { erased = subst (λ (d : Dictionary). IsErasedUnder d (dictionary_of (fields c.erase_under.new.table)) c.args.prefix.now c.erase_under.result) c.self.view_is c.erase_under.ensures.erased }
+returns g c = record { erased = subst (λ (d : Dictionary). IsErasedUnder d (dictionary_of c.self.inside.search_limit (fields c.erase_under.new.table)) c.args.prefix.now c.erase_under.result) c.self.view_is (c.erase_under.ensures.erased c.self.inside.search_limit) }

@@ -70,7 +70,7 @@ returns g c =
       built = record {
         faulty = faultless (first_fault pairs) _ fine;
         stored = stored_as g.L.Layout.kind c.args.builder pairs (entries_of c.deref.result.now) _ s.tree
-            (record { tree = e.tree; marks = e.marks; ordered = e.ordered; max_trial = e.max_trial ∙ to_z-of_z w32 c.args.builder.max_trial fits; size = (b.0, b.1, b.2, b.3 ∙ sym (capacity_by_blocks b.0 1 1)); packed = omega (arith, held, e.packed) });
+            (record { tree = e.tree; marks = e.marks; ordered = e.ordered; max_trial = e.max_trial ∙ to_z-of_z w32 c.args.builder.max_trial fits; search_limit = search rules; size = (b.0, b.1, b.2, b.3 ∙ sym (capacity_by_blocks b.0 1 1)); packed = omega (arith, held, e.packed) });
         refused = search rules;
       };
     }

@@ -51,7 +51,7 @@ returns g c =
     record {
       built = record {
         faulty = faultless first _ fine;
-        sorted = record { tree = search rules; marks = search rules; ordered = search rules; max_trial = search rules; size = (b.0, b.1, b.2, b.3 ∙ sym (capacity_by_blocks b.0 1 1)); packed = omega (arith, held, c.in_ok-build_sorted.ensures.packed) };
+        sorted = record { tree = search rules; marks = search rules; ordered = search rules; max_trial = search rules; search_limit = search rules; size = (b.0, b.1, b.2, b.3 ∙ sym (capacity_by_blocks b.0 1 1)); packed = omega (arith, held, c.in_ok-build_sorted.ensures.packed) };
         refused = search rules;
       };
     }

@@ -1,4 +1,4 @@
-use Rattle.std.proofs.Common.{rules, ◌≡◌, ℕ, ℤ, ◌<◌, None, Some, Option, IfOk, IsSome, IfSome, true, false, Err, arith, get_or, subst, sym, w32, to_z, of_z, FitsSigned, Result}
+use Rattle.std.proofs.Common.{ap, rules, ◌≡◌, ℕ, ℤ, ◌<◌, None, Some, Option, IfOk, IfSome, Err, arith, get_or, subst, sym, w32, to_z, of_z, FitsSigned, Result}
 use Rattle.std.proofs.lemmas.Int.{to_z-of_z}
 use Rattle.std.proofs.lemmas.Result.{err_from_is_err_and, on_ok_weaker}
 use Rattle.cedar_model.specs.Edit.Packing.{PacksKey}
@@ -18,6 +18,7 @@ use Rattle.cedarwood.proofs.GrowthLemmas.{dictionary_of}
 use Rattle.cedarwood.proofs.MarkedLemmas.{is_marked}
 use Rattle.cedarwood.proofs.OutcomeLemmas.{answer_handed_on, answer_has, fault_updates, if_err_out, is_ok_or_out, is_ok_out, limit_out, memory_out, on_err_out, on_ok_out, outcome_is_told, told_outcome}
 use Rattle.cedarwood.proofs.UpdateLemmas.{why_refused, at_one_byte, fault_of, grows_by, is_refused, is_spare, marks_follow, marks_remain, over_held, packs_update, state_stays, stored_is}
+use Rattle.cedarwood.proofs.BuildLemmas.{none_is_some}
 use Rattle.cedarwood.proofs.trie.Trie.insert_bytes.Goals as goal
 
 -- ---- what holds at first
@@ -43,9 +44,6 @@ returns-in_err-check_pair-clause-updated g c =
 
 -- ---- a pair without one
 
-none_is_some : {X : Type 0} (o : Option X) → o ≡ None → IsSome o → ⊥
-none_is_some {X} o none some = let apart : false ≡ true = subst (λ (x : Option X). IsSome x) none some in cc
-
 pub update-requires : goal.update-requires
 update-requires g c =
     let v : ℤ = to_z w32 (of_z w32 c.args.value) in
@@ -57,6 +55,7 @@ pub returns-clause-updated : goal.returns-clause-updated
 returns-clause-updated g c =
     let old = fields c.self.inside.table in
     let new = fields c.update.new.table in
+    let limit = c.self.inside.search_limit in
     let d = c.args.self.now in
     let is = c.self.view_is in
     let r = c.update.result in
@@ -68,24 +67,25 @@ returns-clause-updated g c =
     let fits : FitsSigned w32 c.args.value = search rules in
     let same : v ≡ c.args.value = to_z-of_z w32 c.args.value fits in
     let fine : fault key c.args.value ≡ None = subst (λ (w : ℤ). fault key w ≡ None) same (no_fault (fault key v) c.check_pair.result tt c.check_pair.ensures.faulty c.in_ok-check_pair.was) in
-    subst (λ (x : Result (Unit {0}) CedarError). IsUpdate g.L.Layout.kind slots d (dictionary_of new) key c.args.value x) (outcome_is_told r c.map_err.result c.map_err.ensures.cases) (record {
+    subst (λ (x : Result (Unit {0}) CedarError). IsUpdate g.L.Layout.kind slots d (dictionary_of limit new) key c.args.value x) (outcome_is_told r c.map_err.result c.map_err.ensures.cases) (record {
       faulty = subst (λ (o : Option CedarError). IfSome o (λ e. told_outcome r ≡ Err e)) (sym fine) tt;
       unchanged = λ some. absurd (none_is_some (fault key c.args.value) fine some);
-      ok = on_ok_out _ r (stored_is slots old new d is r key c.args.value v same u.modes u.put);
-      err = on_err_out _ r (state_stays slots old new d is r key u.modes u.taken_back);
+      ok = on_ok_out _ r (stored_is slots limit old new d is r key c.args.value v same u.modes u.put);
+      err = on_err_out _ r (state_stays slots limit old new d is r key u.modes u.taken_back);
       by_default = on_ok_out _ r (always_on_ok r (all_marked slots new u.well_formed));
-      marks = on_ok_out _ r (marks_follow slots old new d is r key _ c.update.ensures.marks_put);
+      marks = on_ok_out _ r (marks_follow slots limit old new d is r key _ c.update.ensures.marks_put);
       marked = on_ok_out _ r (always_on_ok r (is_marked slots new u.well_formed));
-      marks_stay = on_err_out _ r (marks_remain slots old new d is r key c.update.ensures.marks_stay);
-      refused = λ _. if_err_out _ r (is_refused slots old new d is r key u.over);
+      marks_stay = on_err_out _ r (marks_remain slots limit old new d is r key c.update.ensures.marks_stay);
+      refused = λ _. if_err_out _ r (is_refused slots limit old new d is r key u.over);
       memory = λ was. let why = why_refused _ r Memory u.refused (memory_out r was) in (omega (arith, why), omega (arith, why));
       limit = λ was. let why = why_refused _ r SlotLimit u.refused (limit_out r was) in omega (arith, why);
-      blocks = (made.0, made.1, (λ _. on_err_out _ r made.2), grows_by slots old new d is r key made.0 made.3);
-      spare = λ room _. is_ok_out r (is_spare slots old new d is r key made.0 u.well_formed.table.within u.refused made.2 made.3 room);
-      over = over_held slots old new d is r key u.over;
-      one_byte = λ b first absent _. is_ok_or_out _ _ r (at_one_byte slots old new d is r key c.self.invariant b (u.one_byte b first) absent);
-      packs = on_ok_out _ r (on_ok_weaker r (λ (p : PacksKey old new key). packs_update slots old new d is r key c.self.invariant u.well_formed p) u.packs);
+      blocks = (made.0, made.1, (λ _. on_err_out _ r made.2), grows_by slots limit old new d is r key made.0 made.3);
+      spare = λ room _. is_ok_out r (is_spare slots limit old new d is r key made.0 u.well_formed.table.within u.refused made.2 made.3 room);
+      over = over_held slots limit old new d is r key u.over;
+      one_byte = λ b first absent _. is_ok_or_out _ _ r (at_one_byte slots limit old new d is r key c.self.invariant b (u.one_byte b first) absent);
+      packs = on_ok_out _ r (on_ok_weaker r (λ (p : PacksKey old new key). packs_update slots limit old new d is r key c.self.invariant u.well_formed p) u.packs);
       max_trial = search (rules, u.modes.max_trial);
+      search_limit = ap (λ (x : Dictionary). x.search_limit) is;
     })
 
 pub returns-clause-held : goal.returns-clause-held

@@ -5,4 +5,4 @@ use Rattle.cedarwood.proofs.ValidLemmas.{is_valid}
 use Rattle.cedarwood.proofs.trie.Trie.len.Goals as goal
 
 pub returns-clause-valid : goal.returns-clause-valid
-returns-clause-valid g c = subst (IsValid g.row.SLOTS) c.self.view_is (is_valid g.row.SLOTS (fields c.self.inside.table) c.self.invariant)
+returns-clause-valid g c = subst (IsValid g.row.SLOTS) c.self.view_is (is_valid g.row.SLOTS c.self.inside.search_limit (fields c.self.inside.table) c.self.invariant)

@@ -6,7 +6,7 @@ use Rattle.cedarwood.proofs.trie.Trie.put_entries.Given as goal
 abbrev pub invariant-loop-left : goal.invariant-loop-left
 invariant-loop-left g l = record {
   within : l.left ≤ length l.places;
-  back : IsPutBack g.L.Layout.kind l.initial.self.state.ordered l.initial.self.max_trial (map (entry_of (g.T.Walked.shown l.from)) (drop l.left l.places)) l.self;
+  back : IsPutBack g.L.Layout.kind l.initial.self.state.ordered l.initial.self.max_trial l.initial.self.search_limit (map (entry_of (g.T.Walked.shown l.from)) (drop l.left l.places)) l.self;
 }
 
 abbrev pub decreases-loop-left : goal.decreases-loop-left

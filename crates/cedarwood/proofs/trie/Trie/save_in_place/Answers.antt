@@ -3,7 +3,8 @@ use Rattle.cedar_disk.specs.NewFiles.{new_bytes, new_path}
 use Rattle.cedar_disk.specs.PathFiles.{path_calls}
 use Rattle.cedar_disk.specs.Words.{IsPlaced}
 use Rattle.cedarwood.specs.Words.{IsUnsavedAt, table_bytes}
-use Rattle.cedarwood.proofs.SaveLemmas.{lands, on_either}
+use Rattle.cedarwood.proofs.SaveLemmas.{lands}
+use Rattle.cedar_tree.proofs.GeneralLemmas.{on_ok}
 use Rattle.cedarwood.proofs.trie.Trie.save_in_place.Goals as goal
 
 pub returns-in-Ok-clause-saved : goal.returns-in-Ok-clause-saved
@@ -27,7 +28,7 @@ returns-in-Ok-clause-unplaced g c =
     (subst (λ (p : List ℕ). IfErr c.put_in_place.result (IsUnsavedAt p (new_bytes made))) is.0 c.put_in_place.ensures.unplaced)
 
 pub returns-in-Ok-clause-file : goal.returns-in-Ok-clause-file
-returns-in-Ok-clause-file g c = on_either c.put_in_place.result c.in-Ok.ensures.file
+returns-in-Ok-clause-file g c = on_ok c.put_in_place.result c.in-Ok.ensures.file
 
 pub returns-in-Ok-clause-passes : goal.returns-in-Ok-clause-passes
-returns-in-Ok-clause-passes g c = on_either c.put_in_place.result c.in-Ok.ensures.passes
+returns-in-Ok-clause-passes g c = on_ok c.put_in_place.result c.in-Ok.ensures.passes

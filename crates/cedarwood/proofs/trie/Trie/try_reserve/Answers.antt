@@ -17,7 +17,7 @@ returns-clause-capacity g c =
     let d = c.args.self.now in
     let n = c.args.blocks in
     let r = c.try_reserve.result in
-    let then = capacity_then g.row.SLOTS n (fields c.self.inside.table) new d c.self.view_is in
+    let then = capacity_then g.row.SLOTS n c.self.inside.search_limit (fields c.self.inside.table) new d c.self.view_is in
     subst (λ (x : Result (Unit {0}) CedarError). OnOk x (capacity_of new ≡ capacity_after n d.size d.capacity)) (told_alike r c.map_err.result c.map_err.ensures.cases)
     (on_ok_out _ r (on_ok_weaker r then c.try_reserve.ensures.capacity))
 
@@ -36,14 +36,14 @@ returns-clause-enough g c =
     let d = c.args.self.now in
     let n = c.args.blocks in
     let is = c.self.view_is in
-    λ room. all_kept g.row.SLOTS n old new d is (c.try_reserve.ensures.enough (has_room g.row.SLOTS n old new d is c.self.invariant room))
+    λ room. all_kept g.row.SLOTS n c.self.inside.search_limit old new d is (c.try_reserve.ensures.enough (has_room g.row.SLOTS n c.self.inside.search_limit old new d is c.self.invariant room))
 
 pub returns-clause-asks_nothing : goal.returns-clause-asks_nothing
 returns-clause-asks_nothing g c =
     let d = c.args.self.now in
     let r = c.try_reserve.result in
     λ room. subst (λ (x : Result (Unit {0}) CedarError). IsOk x) (told_alike r c.map_err.result c.map_err.ensures.cases)
-    (asks_for_none g.row.SLOTS c.args.blocks (fields c.self.inside.table) (fields c.try_reserve.new.self) d c.self.view_is c.self.invariant r c.try_reserve.ensures.refused room)
+    (asks_for_none g.row.SLOTS c.args.blocks c.self.inside.search_limit (fields c.self.inside.table) (fields c.try_reserve.new.self) d c.self.view_is c.self.invariant r c.try_reserve.ensures.refused room)
 
 pub returns-clause-limit : goal.returns-clause-limit
 returns-clause-limit g c =
@@ -51,14 +51,14 @@ returns-clause-limit g c =
     let r = c.try_reserve.result in
     let e = c.try_reserve.ensures in
     λ past. subst (λ (x : Result (Unit {0}) CedarError). x ≡ Err SlotLimit) (told_alike r c.map_err.result c.map_err.ensures.cases)
-    (tells_limit g.row.SLOTS c.args.blocks (fields c.self.inside.table) (fields c.try_reserve.new.self) d c.self.view_is e.well_formed (omega (arith, e.grown.active)) r e.spare e.refused past)
+    (tells_limit g.row.SLOTS c.args.blocks c.self.inside.search_limit (fields c.self.inside.table) (fields c.try_reserve.new.self) d c.self.view_is e.well_formed (omega (arith, e.grown.active)) r e.spare e.refused past)
 
 pub returns-clause-refused : goal.returns-clause-refused
 returns-clause-refused g c =
     let d = c.args.self.now in
     let n = c.args.blocks in
     let r = c.try_reserve.result in
-    let told = lacks g.row.SLOTS n (fields c.self.inside.table) (fields c.try_reserve.new.self) d c.self.view_is in
+    let told = lacks g.row.SLOTS n c.self.inside.search_limit (fields c.self.inside.table) (fields c.try_reserve.new.self) d c.self.view_is in
     subst (λ (x : Result (Unit {0}) CedarError). IfErr x (LacksRoom g.row.SLOTS d n)) (told_alike r c.map_err.result c.map_err.ensures.cases)
     (if_err_out _ r (IfErr-weaker r _ _ told c.try_reserve.ensures.refused))
 
@@ -67,6 +67,6 @@ returns-clause-unchanged g c =
     let new = fields c.try_reserve.new.self in
     let d = c.args.self.now in
     let r = c.try_reserve.result in
-    let kept = all_kept g.row.SLOTS c.args.blocks (fields c.self.inside.table) new d c.self.view_is in
-    subst (λ (x : Result (Unit {0}) CedarError). OnErr x (dictionary_of new ≡ d)) (told_alike r c.map_err.result c.map_err.ensures.cases)
+    let kept = all_kept g.row.SLOTS c.args.blocks c.self.inside.search_limit (fields c.self.inside.table) new d c.self.view_is in
+    subst (λ (x : Result (Unit {0}) CedarError). OnErr x (dictionary_of c.self.inside.search_limit new ≡ d)) (told_alike r c.map_err.result c.map_err.ensures.cases)
     (on_err_out _ r (on_err_weaker r kept c.try_reserve.ensures.unchanged))

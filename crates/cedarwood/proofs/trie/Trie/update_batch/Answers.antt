@@ -4,10 +4,10 @@ use Rattle.cedar_bulk.specs.Sorted.{Pair, entries_of}
 use Rattle.cedarwood.specs.declared.error.CedarError.{CedarError}
 use Rattle.cedarwood.specs.Updates.{IsUpdate}
 use Rattle.cedarwood.proofs.BatchLemmas.{all_built, entry_count, update_more, update_there}
-use Rattle.cedarwood.proofs.BuildLemmas.{built, kept}
+use Rattle.cedarwood.proofs.BuildLemmas.{built, kept, limit_kept}
 use Rattle.cedarwood.proofs.trie.Trie.update_batch.Goals as goal
 
--- what stands behind the pairs
+-- what follows the pairs
 abbrev blank : Pair
 blank = (record { ref_ptr = (0, 0); now = [] }, pos 0)
 
@@ -35,6 +35,10 @@ pub returns-in-Err-clause-max_trial : goal.returns-in-Err-clause-max_trial
 returns-in-Err-clause-max_trial g c =
     c.in-Err.ensures.updated.max_trial ∙ kept g.L.Layout.kind g.row.SLOTS c.args.self.now (take c.loop-index.index (entries_of c.args.pairs.now)) (Ok tt) c.loop-index.self c.loop-index.invariant
 
+pub returns-in-Err-clause-search_limit : goal.returns-in-Err-clause-search_limit
+returns-in-Err-clause-search_limit g c =
+    c.in-Err.ensures.updated.search_limit ∙ limit_kept g.L.Layout.kind g.row.SLOTS c.args.self.now (take c.loop-index.index (entries_of c.args.pairs.now)) (Ok tt) c.loop-index.self c.loop-index.invariant
+
 pub loop-index-preserved : goal.loop-index-preserved
 loop-index-preserved g c =
     let ps = c.args.pairs.now in
@@ -53,3 +57,7 @@ returns-clause-stored g c =
 pub returns-clause-max_trial : goal.returns-clause-max_trial
 returns-clause-max_trial g c =
     kept g.L.Layout.kind g.row.SLOTS c.args.self.now (take c.loop-index.index (entries_of c.args.pairs.now)) (Ok tt) c.loop-index.self c.loop-index.invariant
+
+pub returns-clause-search_limit : goal.returns-clause-search_limit
+returns-clause-search_limit g c =
+    limit_kept g.L.Layout.kind g.row.SLOTS c.args.self.now (take c.loop-index.index (entries_of c.args.pairs.now)) (Ok tt) c.loop-index.self c.loop-index.invariant

@@ -1,5 +1,5 @@
 use Rattle.std.proofs.Common.{◌∙◌, ◌+◌, ap, length, subst, ◌≡◌}
-use Rattle.cedar_tree.specs.Queries.{prefixes, used, walk}
+use Rattle.cedar_tree.specs.Queries.{prefixes, slots_of_tree, walk}
 use Rattle.cedar_table.specs.Table.Views.{fields}
 use Rattle.cedar_model.proofs.MeaningLemmas.HeldCount.{count_is_marked, count_is_used}
 use Rattle.cedar_bulk.proofs.BulkLemmas.SlotsOfNumbers.{all_marked}
@@ -15,6 +15,6 @@ returns g c = record {
   by_default = λ layout.
       c.used_node_slots.ensures.count
       ∙ count_is_used _ (fields c.self.inside.table) c.self.invariant layout
-      ∙ ap (λ (d : Dictionary). used d.state.tree) c.self.view_is;
+      ∙ ap (λ (d : Dictionary). slots_of_tree d.state.tree) c.self.view_is;
   all_marked = λ layout. subst (λ (d : Dictionary). d.marked ≡ d.state.tree) c.self.view_is (all_marked _ (fields c.self.inside.table) c.self.invariant layout);
 }

@@ -62,7 +62,7 @@ returns-in-Some-short_of-clause-full g c =
     subst (λ (it : Cursor). KeyOutgrows it.room it.left) c.self.view_is
     (cursor_outgrows g.T.Walked.slots T i.0 start to place end i.2 i.3 (vec_capacity c.self.inside.key) next finds c.in-Some-short_of.ensures.1 c.in-Err.ensures.full)
 
--- the buffer is at least as large as before, whatever the answer
+-- the buffer is at least as large as before, whatever the result
 pub returns-in-Some-clause-room : goal.returns-in-Some-clause-room
 returns-in-Some-clause-room g c = subst (λ (it : Cursor). it.room ≤ vec_capacity c.next_written.new.key) c.self.view_is c.next_written.ensures.capacity
 

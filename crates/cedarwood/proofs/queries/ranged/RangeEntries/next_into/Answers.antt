@@ -9,7 +9,7 @@ use Rattle.cedar_tree.specs.Walks.{visited_entries}
 use Rattle.cedar_walk.specs.Keys.{KeyOutgrows}
 use Rattle.cedar_walk.specs.Visits.{left_at}
 use Rattle.cedar_walk.proofs.WalkLemmas.Keys.{long_path}
-use Rattle.cedarwood.specs.RangeWalks.{bounded, follows_end, IsEnd, IsRangePlace}
+use Rattle.cedarwood.specs.RangeWalks.{entries_left_before, follows_end, IsEnd, IsRangePlace}
 use Rattle.cedarwood.proofs.BoundedLemmas.{ended, goes_on, next_outgrows, some_left, step_of}
 use Rattle.cedarwood.proofs.RangeLemmas.{range_place, ranged_is}
 use Rattle.cedarwood.proofs.queries.ranged.RangeEntries.next_into.Goals as goal
@@ -25,7 +25,7 @@ returns-then-ends_at-clause-found g c =
     let here = subst (IsRangePlace T start) c.in-Some.is i.1 in
     let there = subst (IsRangePlace T start) last.1 i.2 in
     let end = subst (IsEnd T start to (Some next)) last.1 (subst (λ x. IsEnd T start to x c.self.inside.end) c.in-Some.is i.3) in
-    let gone = sym c.self.view_is ∙ ap (bounded T start to) c.in-Some.is ∙ ended g.T.Walked.slots T i.0 start next last.0 here there to end (sym last.2) in
+    let gone = sym c.self.view_is ∙ ap (entries_left_before T start to) c.in-Some.is ∙ ended g.T.Walked.slots T i.0 start next last.0 here there to end (sym last.2) in
     (gone, gone)
 
 pub invariant_of-self : goal.invariant_of-self
@@ -57,10 +57,10 @@ returns-in-Ok-clause-found g c =
     let on = goes_on g.T.Walked.slots T i.0 start next here to c.self.inside.end i.2 end (λ e is same. true≢false (sym (c.ends_at.ensures.1 (e, is, sym same)) ∙ c.if-ends_at.false)) in
     let fits : FitsSigned w32 c.in-Some.next.number = search rules in
     sym c.self.view_is
-    ∙ ap (bounded T start to) c.in-Some.is
+    ∙ ap (entries_left_before T start to) c.in-Some.is
     ∙ step_of T start to next found on.0 comes
-    ∙ ap (λ (w : List ℕ). (w, next.number) ∷ bounded T start to found) (sym c.in-Ok.ensures.written)
-    ∙ ap (λ (v : ℤ). (c.write_key.new.key.items, v) ∷ bounded T start to found) (sym (to_z-of_z w32 next.number fits))
+    ∙ ap (λ (w : List ℕ). (w, next.number) ∷ entries_left_before T start to found) (sym c.in-Ok.ensures.written)
+    ∙ ap (λ (v : ℤ). (c.write_key.new.key.items, v) ∷ entries_left_before T start to found) (sym (to_z-of_z w32 next.number fits))
 
 pub returns-in-Err-clause-full : goal.returns-in-Err-clause-full
 returns-in-Err-clause-full g c =
@@ -73,5 +73,5 @@ returns-in-Err-clause-full g c =
     let here = subst (IsRangePlace T start) c.in-Some.is i.1 in
     let end = subst (λ x. IsEnd T start to x c.self.inside.end) c.in-Some.is i.3 in
     let on = goes_on g.T.Walked.slots T i.0 start next here to c.self.inside.end i.2 end (λ e is same. true≢false (sym (c.ends_at.ensures.1 (e, is, sym same)) ∙ c.if-ends_at.false)) in
-    subst (KeyOutgrows room) (sym (ap (bounded T start to) c.in-Some.is) ∙ c.self.view_is)
+    subst (KeyOutgrows room) (sym (ap (entries_left_before T start to) c.in-Some.is) ∙ c.self.view_is)
     (next_outgrows T start to next room on.0 (long_path T start next.depth next.slot room c.in-Err.ensures.full))

@@ -1,6 +1,0 @@
-use Rattle.std.proofs.Common.{◌≡◌}
-use Rattle.cedar_slots.proofs.ListsLemmas.FreeCounts.{sum_below}
-use Rattle.cedar_slots.proofs.places.Places.used_slots.Given as goal
-
-abbrev pub invariant-loop-block : goal.invariant-loop-block
-invariant-loop-block g l = l.free ≡ sum_below l.self.slots.nodes.items l.block
