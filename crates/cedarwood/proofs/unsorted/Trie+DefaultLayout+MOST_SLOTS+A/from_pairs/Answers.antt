@@ -2,7 +2,7 @@ use Rattle.cedar_model.specs.Table.Layouts.{default_layout}
 use Rattle.cedar_bulk.specs.Sorted.{entries_of}
 use Rattle.cedarwood.specs.Making.{default_settings}
 use Rattle.cedarwood.proofs.MakingLemmas.{unsorted_alike}
-use Rattle.cedarwood.proofs.trie.Trie+DefaultLayout+MOST_SLOTS+A.from_pairs.Goals as goal
+use Rattle.cedarwood.proofs.unsorted.Trie+DefaultLayout+MOST_SLOTS+A.from_pairs.Goals as goal
 
 pub returns-clause-built : goal.returns-clause-built
 returns-clause-built g c =
