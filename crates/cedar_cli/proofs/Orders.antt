@@ -42,7 +42,7 @@ pub found_reply : (t : Tree) (key : List ℕ) (v : ℤ) (n : ℕ) → ◌≡◌ 
 found_reply t key v n h = let p = exact_found t key v n h in rw (p.0, p.1) refl
 
 -- the answer to an erasure, where the key is held and where it isn't
-pub erased_reply : (s : View) (key : List ℕ) (v : ℤ) → number_at s.state.tree key ≡ Some v → codes "after_erase" ≡ reply s (Some (Erase, key))
+pub erased_reply : (s : View) (key : List ℕ) (v : ℤ) → number_at s.state.tree key ≡ Some v → codes "erased" ≡ reply s (Some (Erase, key))
 erased_reply s key v h = rw h refl
 
 pub absent_reply : (s : View) (key : List ℕ) → number_at s.state.tree key ≡ None → codes "absent" ≡ reply s (Some (Erase, key))
@@ -177,7 +177,7 @@ none_reply t key h = rw (exact_missed t key h) refl
 
 -- the answer of an erasure was written
 pub erased_written : (s : View) (key : List ℕ) (v : ℤ) (held holds : Option (List ℕ)) → number_at s.state.tree key ≡ Some v
-    → Appends held holds (codes "after_erase" ++ 10 ∷ []) → Appends held holds (reply s (Some (Erase, key)) ++ 10 ∷ [])
+    → Appends held holds (codes "erased" ++ 10 ∷ []) → Appends held holds (reply s (Some (Erase, key)) ++ 10 ∷ [])
 erased_written s key v held holds h p = subst (λ (l : List ℕ). Appends held holds (l ++ 10 ∷ [])) (erased_reply s key v h) p
 
 -- an answer that changes nothing was written whole, or not

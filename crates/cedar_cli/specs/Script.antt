@@ -96,7 +96,7 @@ figures_text keys slots = decimal keys ++ 32 ∷ decimal slots
 abbrev pub reply : View → Option Order → List ℕ
 reply s None = codes "bad line"
 reply s (Some (Put v, key)) = put_text (fault key v)
-reply s (Some (Erase, key)) = if holds_path s key then codes "after_erase" else codes "absent"
+reply s (Some (Erase, key)) = if holds_path s key then codes "erased" else codes "absent"
 reply s (Some (Exact, key)) = found_text (number_at s.state.tree key) (length key)
 reply s (Some (Segment, key)) = tokens_text (segments s.state.tree key)
 reply s (Some (Prefixes, key)) = pairs_text (front s.state.tree key)
