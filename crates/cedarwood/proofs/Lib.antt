@@ -22,6 +22,7 @@ pub mod EntriesLemmas
 pub mod LoadLemmas
 mod MakingLemmas
 pub mod MarkedLemmas
+mod MemoryLemmas
 mod OutcomeLemmas
 pub mod RoomLemmas
 pub mod SaveLemmas

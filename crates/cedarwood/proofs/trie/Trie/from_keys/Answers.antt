@@ -1,3 +1,4 @@
+use denote.Param.{copied, number, param}
 use Rattle.std.proofs.Common.{◌≡◌, ◌∙◌, ap, arith, sym, subst, rules, inl, None, Err, FitsSigned, List, Option, w32}
 use Rattle.std.proofs.lemmas.Int.{to_z-of_z}
 use Rattle.std.proofs.lemmas.Result.{err_from_is_err_and}
@@ -10,6 +11,7 @@ use Rattle.cedarwood.specs.Unsorted.{SortsTo}
 use Rattle.cedarwood.proofs.DictionaryLemmas.{limit_of}
 use Rattle.cedarwood.proofs.FaultLemmas.{no_fault}
 use Rattle.cedarwood.proofs.GrowthLemmas.{capacity_by_blocks}
+use Rattle.cedarwood.proofs.MemoryLemmas.{table_fits}
 use Rattle.cedarwood.proofs.SortedInputLemmas.{fault_handed_on, faultless}
 use Rattle.cedarwood.proofs.UpdateLemmas.{has_fault}
 use Rattle.cedarwood.proofs.UnsortedLemmas.{lacking, lacks_of, stored_as}
@@ -45,7 +47,7 @@ pub build_sorted-requires : goal.build_sorted-requires
 build_sorted-requires g c =
     let pairs : List Entry = entries_by g.K.AsSlice.items c.args.pairs.now in
     let s : SortsTo pairs (entries_of c.deref.result.now) = subst (λ (ps : List Pair). SortsTo pairs (entries_of ps)) (sym c.deref.ensures.value) c.in_ok-sorted.ensures in
-    (search rules, (search rules, (limit_of g.row.SLOTS c.requires.limit, (s.keys, (s.ascending, s.values)))))
+    (table_fits (param 0 g.row.L) (param 1 (number g.row.SLOTS)) (copied 2 g.row.A) g.L.Layout g.A.Allocator (search rules), (search rules, (limit_of g.row.SLOTS c.requires.limit, (s.keys, (s.ascending, s.values)))))
 
 pub returns-in_err-build_sorted : goal.returns-in_err-build_sorted
 returns-in_err-build_sorted g c =
