@@ -1,4 +1,4 @@
-use Rattle.std.proofs.Common.{length, refl}
+use Rattle.std.proofs.Common.{inr, length, refl}
 use Rattle.cedarwood.specs.WatchedDevice.{device_of, has_failed}
 use Rattle.cedar_cli.specs.Command.{order_of}
 use Rattle.cedar_cli.specs.View.{view_of}
@@ -20,3 +20,6 @@ returns-in_default-clause-faults g c = memory_fault (has_failed c.args.writer.no
 
 pub returns-in_default-clause-blocks : goal.returns-in_default-clause-blocks
 returns-in_default-clause-blocks g c = no_blocks (length c.args.line.now) c.args.trie.now
+
+pub returns-clause-memory : goal.returns-clause-memory
+returns-clause-memory g c = λ failed. inr (c.answer_line.ensures.memory failed)

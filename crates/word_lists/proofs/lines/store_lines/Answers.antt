@@ -1,4 +1,4 @@
-use Rattle.std.proofs.Common.{◌≡◌, ◌+◌, ◌++◌, ◌∷◌, ◌∙◌, [], ℕ, List, true, false, ap, arith, length, length-append, refl, subst, sym}
+use Rattle.std.proofs.Common.{◌≡◌, ◌+◌, ◌++◌, ◌∷◌, ◌∙◌, [], ℕ, List, true, false, ap, arith, length, length-append, refl, rules, subst, sym}
 use Rattle.word_lists.specs.Texts.{body_of}
 use Rattle.word_lists.specs.Stored.{Adds, TakesNext, lines_in, lines_stored, lines_told}
 use Rattle.text_lines.proofs.Bytes.{on_err}
@@ -7,6 +7,9 @@ use Rattle.word_lists.proofs.lines.store_lines.Goals as goal
 
 pub loop-number-init : goal.loop-number-init
 loop-number-init g c = ([], took_none (g.R.Read.remaining c.args.reader.now), refl, Adds-none (g.F.LineFaults.told c.args.faults.now), refl)
+
+pub pass_line-requires : goal.pass_line-requires
+pass_line-requires g c = search (rules, c.requires-raw)
 
 pub loop-number-preserved : goal.loop-number-preserved
 loop-number-preserved g c =
