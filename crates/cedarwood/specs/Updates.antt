@@ -12,15 +12,15 @@ use Rattle.cedar_model.specs.Table.Layouts.{LayoutKind, default_layout, reduced_
 use Rattle.cedarwood.specs.Dictionary.{Dictionary, Grows, IsMarked, first_bytes, held_slots}
 use Rattle.cedarwood.specs.Fault.{fault, IsShortage}
 
--- a put of a key makes no block, and at most one where another key has its first byte. It makes more only where at most 255 slots outside
--- the first block are free then, or where none was before; in this case it makes two at most, and another key has its first byte
+-- what `PacksKey` says, of dictionaries
 abbrev pub PacksUpdate : Dictionary → Dictionary → List ℕ → Type 0
 PacksUpdate before after key =
     (after.size ≤ before.size + 256 * joins before.state.tree key)
     ⊎ ((after.size + first_bytes after.state.tree ≤ held_slots after + 510)
     ⊎ ((before.size + first_bytes before.state.tree ≡ held_slots before + 255) × (joins before.state.tree key ≡ 1) × (after.size ≤ before.size + 512)))
 
--- an update of the key with the value v in a dictionary of this layout that may have `slots` slots
+-- all that an update of the key with v says of its result and of the dictionary, in this layout and with `slots`
+-- slots at most
 pub record IsUpdate (layout : LayoutKind) (slots : ℕ) (before after : Dictionary) (key : List ℕ) (v : ℤ) (result : Result (Unit {0}) CedarError) : Type 0 where
   pub faulty : IfSome (fault key v) (λ e. result ≡ Err e)
   pub unchanged : IsSome (fault key v) → after ≡ before
