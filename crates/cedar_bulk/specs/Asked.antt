@@ -17,7 +17,8 @@ pub record IsUnfilled (slots : ℕ) (T : Fields) (s : ℕ) : Type 0 where
   pub node : IsBareNode (size_of T) (cells_in T) s
   pub leaf : (cells_in T).stored s ≡ AtBase 0
 
--- the node s is to have a base for these labels, of which 0 stands for the number
+-- the node s has neither number nor label nor base, and is to have a base for these labels, of which 0 stands for the
+-- number
 pub record WantsBase (slots : ℕ) (T : Fields) (s : ℕ) (wanted : List ℕ) : Type 0 where
   pub sound : IsTable slots T.places
   pub node_in : s < size_of T

@@ -71,7 +71,7 @@ abbrev pub slot_labels : Option ℤ → List ℕ → List ℕ
 slot_labels None ls = ls
 slot_labels (Some v) ls = 0 ∷ ls
 
--- slot a has a base from which the slots of all these labels are free; the tree is as before
+-- slot a has a base now from which the slots of all these labels are free; the tree is as before
 pub record GetsBase (size size' : ℕ) (T T' : Cells) (a : ℕ) (ls : List ℕ) : Type 0 where
   pub tree : (f : Forest) → HoldsTree size T f → HoldsTree size' T' f
   pub paths : (w : List ℕ) (s : ℕ) → IsAt T w s → IsAt T' w s

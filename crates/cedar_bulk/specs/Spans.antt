@@ -39,12 +39,12 @@ abbrev pub entries_behind : ℕ → List Entry → List Entry
 entries_behind d [] = []
 entries_behind d (e ∷ es) = (drop d e.0, e.1) ∷ entries_behind d es
 
--- the number of the first entry, if its key has just d bytes
+-- the number of the first entry, if its key has no more than d bytes
 abbrev pub first_number : ℕ → List Entry → Option ℤ
 first_number d [] = None
 first_number d (e ∷ es) = cond (nat_lt d (length e.0)) None (Some e.1)
 
--- the label of the first entry
+-- the label of the first entry behind its first d bytes, or 0 if there is none
 abbrev pub first_label : ℕ → List Entry → ℕ
 first_label d [] = 0
 first_label d (e ∷ es) = label_of d e

@@ -117,7 +117,7 @@ words arguments = map (λ word. word.now) arguments
 abbrev pub request_of : List (Bor (List ℕ)) → Option Request
 request_of arguments = request_besides no_request (words arguments)
 
--- what some options ask for, or nothing if they are wrong
+-- what some options ask for
 abbrev pub request_in : Options → Request
 request_in o = record { ordered = o.ordered; load = option_map (λ path. path.now) o.load; limit = o.limit; save = option_map (λ path. path.now) o.save; v1_0 = o.v1_0; reduced = o.reduced }
 

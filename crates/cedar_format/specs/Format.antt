@@ -64,7 +64,7 @@ header_at bytes = record {
 abbrev pub reads_to : ℕ → List ℕ → Option Refusal
 reads_to end bytes = unless (nat_le end (length bytes)) Truncated
 
--- the first refusal of the magic bytes and of the version, by the bytes before them that are there
+-- the first refusal of the magic bytes and of the version. Before each test the bytes that it reads have to be there
 abbrev pub version_refusal : List ℕ → Option Refusal
 version_refusal bytes = first_refusal (
     reads_to 8 bytes
@@ -73,7 +73,8 @@ version_refusal bytes = first_refusal (
     ∷ unless ((u16_at 8 bytes == 1) && nat_lt (u16_at 10 bytes) 2) (UnsupportedVersion (u16_at 8 bytes) (u16_at 10 bytes))
     ∷ [])
 
--- the first refusal of the byte order, the layout and the flags
+-- the first refusal of the byte order, the layout and the flags. Before each test the bytes that it reads have to be
+-- there
 abbrev pub kind_refusal : ℕ → List ℕ → Option Refusal
 kind_refusal layout bytes = first_refusal (
     reads_to 13 bytes

@@ -74,7 +74,7 @@ IsFileFront format front payloads = (rest : List ℕ) → file_reading (front ++
 abbrev pub IsWholeFront : Format → List ℕ → Type 0
 IsWholeFront format front = (payloads : List (List ℕ)) × IsFileFront format front payloads
 
--- nothing that counts begins at the end of these bytes, whatever is cut off
+-- nothing that counts begins at the start of these bytes, whatever is cut off their end
 abbrev pub EndsThere : Format → List ℕ → Type 0
 EndsThere format rest = (n : ℕ) → records_read format (take n rest) ≡ stands []
 
@@ -118,7 +118,7 @@ abbrev pub IsFault : List ℕ → FileFault → Type 0
 IsFault file fault.Foreign = file_reading file ≡ None
 IsFault file (fault.Damaged at) = file_reading file ≡ Some (damaged at)
 
--- what is at the start of some records: one with this payload, a damaged one, or nothing that counts
+-- what is at the start of some records: a whole one of n bytes, nothing that counts, or a damaged one
 abbrev pub IsFoundThere : Format → List ℕ → Next → Type 0
 IsFoundThere format bytes (next.Record n) = (0 < n) × (n ≤ length bytes) × (payloads : List (List ℕ)) × ArePieces format (take n bytes) payloads
 IsFoundThere format bytes next.End = EndsThere format bytes

@@ -9,6 +9,7 @@ use Rattle.cedar_journal.specs.Records.{length_bytes, payloads_in}
 
 -- what some records are read as
 pub data Reading : Type 0 where
+  -- these payloads
   stands : List (List ℕ) → Reading
   -- the record that begins at this position is damaged
   damaged : ℕ → Reading
@@ -18,7 +19,7 @@ abbrev pub read_behind : ℕ → List (List ℕ) → Reading → Reading
 read_behind n before (stands payloads) = stands (before ++ payloads)
 read_behind n before (damaged at) = damaged (n + at)
 
--- the payloads of what is read, or none if a record is damaged
+-- the payloads of what is read; the empty list if a record is damaged
 abbrev pub payloads_read : Reading → List (List ℕ)
 payloads_read (stands payloads) = payloads
 payloads_read (damaged at) = []

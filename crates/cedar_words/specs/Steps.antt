@@ -46,7 +46,7 @@ AreWithin most (found ∷ fronts) = (found.1 < most) × AreWithin most fronts
 abbrev pub step_at : Tree → (ℕ → ℕ) → List ℕ → List ℕ → ℕ → Step
 step_at tree unknown text costs left = best_of (unknown (length text - left)) (take left costs) (front tree (drop (length text - left) text))
 
--- no byte costs nothing, and each further number of bytes costs what the best step over them says
+-- the cost of no bytes is 0, and that of each further number of bytes is that of the best step over them
 pub record AreCostsOver (tree : Tree) (unknown : ℕ → ℕ) (text costs : List ℕ) : Type 0 where
   pub begin : cost_at costs 0 ≡ 0
   pub best : (left : ℕ) → 0 < left → left < length costs → cost_at costs left ≡ (step_at tree unknown text costs left).cost

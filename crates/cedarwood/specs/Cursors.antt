@@ -62,7 +62,7 @@ IsCursorEnd T start to place end = filter (λ e. follows_end to e.0) (cursor_ent
 abbrev pub FindsNext : Fields → List ℕ → CursorPlace → Option Numbered → Type 0
 FindsNext T start place found = (cursor_entries T start place ≡ entries_left T start found) × IsRangePlace T start found
 
--- the key of the node that the walk comes to is written behind its front
+-- the walk comes to a node (`FindsNext`), and the key that the cursor holds is that node's
 pub record WritesNextKey (T : Fields) (start : List ℕ) (place : CursorPlace) (key : List ℕ) (found : Option Numbered) : Type 0 where
   pub finds : FindsNext T start place found
   pub stands : IsCursorPlace T start key (place_at found)

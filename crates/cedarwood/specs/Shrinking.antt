@@ -84,7 +84,7 @@ pub record ArePlaces (T : Fields) (entries : List Entry) (places : List Numbered
   pub same : entries ≡ map (entry_of T) places
   pub each : AllByRecursion (IsEntryPlace T) places
 
--- the node that a walk comes to next, if there is one, and the entries from it on
+-- the node that a walk comes to next, if there is one, is there and has this number
 abbrev pub IsNextPlace : Fields → Option Numbered → Type 0
 IsNextPlace T next = IfSome next (IsEntryPlace T)
 

@@ -11,7 +11,7 @@ use Rattle.cedar_tree.specs.Queries.{Entry}
 use Rattle.cedar_bulk.specs.Sorted.{Pair, entries_of}
 use Rattle.cedarwood.specs.Fault.{fault, or_else}
 
--- the fault of a key that isn't above the one before it: `DuplicateKey` or `KeysNotSorted`
+-- the fault of a key that isn't above the one before it, with the pair's index: `DuplicateKey` or `KeysNotSorted`
 abbrev pub fault_of_order : ℕ → Ordering → Option CedarError
 fault_of_order index Less = None
 fault_of_order index Equal = Some (DuplicateKey index)

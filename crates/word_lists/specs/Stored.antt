@@ -189,7 +189,7 @@ Adds (Some xs) (Some ys) more = ys ≡ xs ++ more
 abbrev pub OnKnown : Option (List ℕ) → (List ℕ → Type 0) → Type 0
 OnKnown known P = IfSome known (λ input. length input < 2 ^ 63 → P input)
 
--- these lines are the first ones of what a reader had left, and what it has left now are the others
+-- these lines are the first ones of what a reader had left, and what it has left now are the others, if that is known
 abbrev pub TakesLines : Option (List ℕ) → Option (List ℕ) → List (List ℕ) → Type 0
 TakesLines None after came = Unit {0}
 TakesLines (Some input) after came = (rest : List ℕ) × (after ≡ Some rest) × (lines_in input ≡ came ++ lines_in rest)

@@ -8,7 +8,7 @@ use Rattle.cedar_model.specs.Meaning.Family.{below, Family, Head, InRange, top}
 use Rattle.cedar_model.specs.Meaning.StandsFor.{HoldsTree, OnPath, slot_at}
 use Rattle.cedar_model.specs.Meaning.Reading.{first_in}
 
--- the tree below slot s, with the number and the children of the node at slot a changed by two functions
+-- the siblings below slot s, with the number and the children of the node at slot a changed by two functions
 abbrev pub edit : Cells → ℕ → (Option ℤ → Option ℤ) → (Forest → Forest) → ℕ → Forest → Forest
 edit T a number children s none = none
 edit T a number children s (child l n u rest) =
@@ -113,8 +113,8 @@ Above b (m ∷ ms) = (b < m) × Above m ms
 abbrev pub IsPlaceFor : ℕ → ℕ → Type 0
 IsPlaceFor l c = (c ≡ 0) ⊎ (l < c)
 
--- slot a has a new leaf at label l, behind its labels below l. What named the label above l names l, and l names that
--- label
+-- slot a has a new leaf at label l, behind its labels below l: the link to what is above l leads to l, and l's own
+-- link goes on from there
 pub record AddsBehind (size : ℕ) (T T' : Cells) (a l : ℕ) : Type 0 where
   pub touches : Touches T T' a (below T' a l)
   pub positive : 0 < l
@@ -147,7 +147,7 @@ pub record CanAdd (size : ℕ) (T : Cells) (a l : ℕ) : Type 0 where
   pub root : (c : ℕ) → T.check 0 ≡ pos c → ⊥
   pub not_own : T.check a ≡ pos a → ⊥
 
--- slot x with label l comes right after slot b in its chain
+-- slot x with label l comes right after slot b in its chain now, and nothing else has changed
 pub record LinkedBehind (T T' : Cells) (b x l : ℕ) : Type 0 where
   pub stored : (q : ℕ) → T'.stored q ≡ T.stored q
   pub base : (q : ℕ) → T'.base q ≡ T.base q
@@ -157,7 +157,7 @@ pub record LinkedBehind (T T' : Cells) (b x l : ℕ) : Type 0 where
   pub next : T'.sibling x ≡ T.sibling b
   pub other : (q : ℕ) → (q ≡ b → ⊥) → (q ≡ x → ⊥) → T'.sibling q ≡ T.sibling q
 
--- slot x with label l is the first one of a's chain, which begins in the field `child` of slot a
+-- slot x with label l comes first in a's chain now, by the field `child` of slot a, and nothing else has changed
 pub record LinkedChild (T T' : Cells) (a x l : ℕ) : Type 0 where
   pub stored : (q : ℕ) → T'.stored q ≡ T.stored q
   pub base : (q : ℕ) → T'.base q ≡ T.base q
@@ -238,7 +238,7 @@ pub record GoesFirst (T : Cells) (ordered : Bool) (a l : ℕ) : Type 0 where
   pub no_number : T.check (below T a 0) ≡ pos a → ⊥
   pub place : ordered ≡ true → IsPlaceFor l (T.child a)
 
--- c is the label that slot a's chain begins with, or 0 if it has none
+-- P holds of the label that slot a's chain begins with, or of 0 if it has none
 abbrev pub FirstIs : Cells → ℕ → (ℕ → Type 0) → Type 0
 FirstIs T a P = (a ≡ 0 → P (T.sibling a)) × ((a ≡ 0 → ⊥) → P (first_in T a))
 
@@ -247,7 +247,7 @@ abbrev pub AddsLabel : ℕ → Bool → Cells → Cells → ℕ → ℕ → Type
 AddsLabel size ordered T T' a l =
     (AddsFirst size T T' a l × (ordered ≡ true → FirstIs T a (IsPlaceFor l))) ⊎ ((ordered ≡ true) × AddsBehind size T T' a l)
 
--- slot b names a label in a's chain: it comes before all labels, or it is a label's slot
+-- slot b is in a's chain: before all labels, or it is a label's slot
 abbrev pub IsLink : Cells → ℕ → ℕ → Type 0
 IsLink T a b = IsLead T a b ⊎ ((m : ℕ) × IsLabelOf T a m b)
 

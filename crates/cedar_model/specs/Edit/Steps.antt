@@ -64,7 +64,8 @@ pub record StepsTo (before after : Fields) (a l s : ℕ) : Type 0 where
   -- a step at the root takes no slot outside block 0
   pub outside : a ≡ 0 → (x : ℕ) → 256 ≤ x → Held (cells_in after) x → Held (cells_in before) x
 
--- the tree after a bare node at the end of a path was taken away, and each node above it that was bare then
+-- the tree after a trim: the node at the end of the path is taken away if it is bare, and each node above it that was
+-- bare then
 abbrev pub tree_after_trim : Tree → List ℕ → Tree
 tree_after_trim t w = if is_bare (node_at t w) then cut t w else t
 

@@ -27,7 +27,7 @@ pub record Repointed (T T' : Cells) (s t : ℕ) (P : ℕ → Type 0) : Type 0 wh
 abbrev pub Always : ℕ → Type 0
 Always l = Unit {0}
 
--- holds of the label of a number's slot, 0
+-- the label is that of a number's slot, 0
 abbrev pub IsNumber : ℕ → Type 0
 IsNumber l = l ≡ 0
 

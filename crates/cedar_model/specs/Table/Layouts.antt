@@ -3,10 +3,11 @@ use Rattle.std.specs.Prelude.{ℕ, ℤ, pos, negsuc}
 use Rattle.cedar_model.specs.declared.layout.Stored.{Stored}
 use Rattle.cedar_model.specs.declared.layout.Stored.TheVariants.{AtBase, OwnNumber, Nothing}
 
--- how a table keeps numbers: each in a slot of its own, or in the reduced layout in the node's own base field as long
--- as the node owns no slot
+-- how a table keeps numbers
 pub data LayoutKind : Type 0 where
+  -- each number is in a slot of its own
   default_layout : LayoutKind
+  -- a number is in its node's own base field as long as the node owns no slot
   reduced_layout : LayoutKind
 
 -- what a base field z says: `AtBase b`, the node's slots begin at b; `OwnNumber v`, the node's own number; or
