@@ -74,6 +74,6 @@ abbrev pub minor_of : Bool → ℕ
 minor_of true = 0
 minor_of false = 1
 
--- the bytes of the file of a handle's dictionary, if it is open
+-- the bytes of a dictionary's file, in the version that a save writes (`minor_of`)
 abbrev pub file_in : Bool → AnyCedar → List ℕ
 file_in is_full a = table_bytes (minor_of is_full) (dictionary_in a).table

@@ -32,7 +32,7 @@ abbrev pub is_reduced : AnyCedar → Bool
 is_reduced (Default d) = false
 is_reduced (Reduced d) = true
 
--- a dictionary of either layout as plain data: whether it is of the reduced one, and what is seen of it
+-- the dictionary of either layout that these parts are: of the reduced one if the flag is true
 abbrev pub of_parts : Bool × Dictionary → AnyCedar
 of_parts (false, d) = Default d
 of_parts (true, d) = Reduced d

@@ -24,7 +24,7 @@ use Rattle.cedar_calls.specs.declared.call.Change.TheVariants as change
 use Rattle.cedar_calls.specs.declared.answer.Changed.{Changed}
 use Rattle.cedar_calls.specs.declared.answer.Changed.TheVariants as changed
 
--- a key is erased: it isn't held any more, all else is as it was, and whether it was held is returned
+-- a key is erased: it isn't held any more, and all else is as it was
 pub record IsErased (before after : Dictionary) (key : List ℕ) : Type 0 where
   pub state : after.state ≡ after_erase before.state key
   pub marks : MarksCut before.marked after.marked key

@@ -54,7 +54,7 @@ pub record GoesDown (size : ℕ) (T : Cells) (w : Walk) : Type 0 where
   pub owned : T.check (below T w.node w.label) ≡ pos w.node
   pub looks : LooksLikeNode size T (below T w.node w.label)
 
--- the walk once it has met the node at slot s, and so many slots and numbers more
+-- the walk once it has met the node at slot s, with the slots and the numbers that the node has itself
 abbrev pub walk_met : Cells → Walk → ℕ → Walk
 walk_met T w s = walk_at T s (first_in T s) (w.met + slots_at T s) (w.numbers + number_count_at T s)
 

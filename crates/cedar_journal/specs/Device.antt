@@ -4,7 +4,7 @@ use Rattle.std.specs.Prelude.{take, drop, Result, IsErrOf}
 use Rattle.cedar_journal.specs.declared.device.DeviceError.{DeviceError}
 use Rattle.cedar_journal.specs.declared.device.DeviceError.TheVariants.{Failed, NoRoom}
 
--- a file is what it was with these bytes at this offset
+-- a file is what another one was, with these bytes at this offset
 abbrev pub Holds : List ℕ → ℕ → List ℕ → List ℕ → Type 0
 Holds old at bytes new = new ≡ take at old ++ bytes ++ drop (at + length bytes) old
 
