@@ -1,4 +1,4 @@
--- What the steps of a build ask of a table, each as one fact: a caller's check is dear for each part of a clause list.
+-- What the steps of a build require of a table, each as one fact: a caller that has it hands it on.
 use Rattle.std.specs.Prelude.{◌≡◌, ◌≢◌, ◌<◌, ◌≤◌, ℕ, ℤ, List, length, Option, Some, None, true}
 use Rattle.cedar_model.specs.Tree.{Forest}
 use Rattle.cedar_slots.specs.Places.{IsTable}
@@ -10,14 +10,15 @@ use Rattle.cedar_model.specs.Meaning.Family.{Among, base_of, below, InRange}
 use Rattle.cedar_model.specs.Meaning.WellFormed.{cells_in}
 use Rattle.cedar_bulk.specs.Sorted.{GoesLast, IsBareNode, IsChildless, slot_labels}
 
--- the node s has neither number nor label, nor a base
+-- the node s has neither number nor label nor base
 pub record IsUnfilled (slots : ℕ) (T : Fields) (s : ℕ) : Type 0 where
   pub sound : IsTable slots T.places
   pub node_in : s < size_of T
   pub node : IsBareNode (size_of T) (cells_in T) s
   pub leaf : (cells_in T).stored s ≡ AtBase 0
 
--- the node s is to have a base for these labels, of which 0 means the number
+-- the node s has neither number nor label nor base, and is to have a base for these labels, of which 0 stands for the
+-- number
 pub record WantsBase (slots : ℕ) (T : Fields) (s : ℕ) (wanted : List ℕ) : Type 0 where
   pub sound : IsTable slots T.places
   pub node_in : s < size_of T
@@ -37,7 +38,7 @@ pub record WantsNumber (slots : ℕ) (T : Fields) (s base : ℕ) : Type 0 where
   pub base_is : base ≡ base_of (cells_in T) s
   pub free : Held (cells_in T) (below (cells_in T) s 0) → ⊥
 
--- the node s has this base, and neither number nor label; its number's slot is free, if it is to have a number
+-- the node s has this base, and neither number nor label. If it is to have a number, that one's slot is free
 pub record WantsChain (slots : ℕ) (T : Fields) (s base : ℕ) (number : Option ℤ) : Type 0 where
   pub sound : IsTable slots T.places
   pub node_in : s < size_of T
@@ -47,7 +48,7 @@ pub record WantsChain (slots : ℕ) (T : Fields) (s base : ℕ) (number : Option
   pub base_is : base ≡ base_of (cells_in T) s
   pub free : (v : ℤ) → number ≡ Some v → Held (cells_in T) (below (cells_in T) s 0) → ⊥
 
--- the node s has this base, and the slot of the label, which goes behind all that it has, is free
+-- the node s has this base, and is to have the label behind all that it has. The label's slot is free
 pub record WantsLabel (slots : ℕ) (T : Fields) (s base : ℕ) (before : Option ℕ) (label : ℕ) : Type 0 where
   pub sound : IsTable slots T.places
   pub node_in : s < size_of T
@@ -58,7 +59,7 @@ pub record WantsLabel (slots : ℕ) (T : Fields) (s base : ℕ) (before : Option
   pub free : Held (cells_in T) (below (cells_in T) s label) → ⊥
   pub ends : GoesLast (size_of T) (cells_in T) s label before
 
--- the node s has this base and no label, and the slots of these ascending labels are free
+-- the node s has this base and no label, and is to have these ascending labels, whose slots are free
 pub record WantsLabels (slots : ℕ) (T : Fields) (s base : ℕ) (before : Option ℕ) (labels : List ℕ) : Type 0 where
   pub sound : IsTable slots T.places
   pub node_in : s < size_of T
@@ -69,7 +70,8 @@ pub record WantsLabels (slots : ℕ) (T : Fields) (s base : ℕ) (before : Optio
   pub free : (l : ℕ) → Among labels l → Held (cells_in T) (below (cells_in T) s l) → ⊥
   pub ends : (l : ℕ) → GoesLast (size_of T) (cells_in T) s l before
 
--- the node s has neither number nor label, nor a base; it is to have this number and these ascending labels, listed with 0 for the number
+-- the node s has neither number nor label nor base, and is to have this number and these ascending labels, which are
+-- listed with 0 for the number
 pub record WantsSlots (slots : ℕ) (T : Fields) (s : ℕ) (number : Option ℤ) (listed labels : List ℕ) : Type 0 where
   pub sound : IsTable slots T.places
   pub node_in : s < size_of T

@@ -1,5 +1,5 @@
--- How full the blocks of a table made of sorted pairs are: one slot alone goes wherever a slot is free, so that blocks are made for nodes
--- that take several slots at once, or else where all blocks but the first are full.
+-- How full the blocks of a table are that is made of sorted pairs. One slot alone goes wherever a slot is free. So
+-- blocks are made for nodes that take several slots at once, or if all blocks but the first are full.
 use Rattle.std.specs.Prelude.{◌≡◌, ◌⊎◌, ℕ, ◌+◌, ◌*◌, ◌≤◌, nat_lt, cond, ℤ, List, []}
 use Rattle.std.specs.Prelude.{◌∷◌, ◌++◌, length, Option}
 use Rattle.cedar_model.specs.Tree.{Forest, none, child, Tree}
@@ -12,41 +12,43 @@ use Rattle.cedar_bulk.specs.Spans.{Filling, IsTreeOfSpan, Part}
 
 -- ---- the tree
 
--- 1 for a node that takes several slots, having several labels, or a number and a label; 0 for one that takes one or none
+-- 1 for a node that takes several slots, for several labels, or for a number and a label; and otherwise 0
 abbrev pub crowd : Option ℤ → List ℕ → ℕ
 crowd number ls = cond (nat_lt 1 (length (slot_labels number ls))) 1 0
 
--- how many of some siblings, and of the nodes below them, take several slots
+-- how many of these siblings and of the nodes below them take several slots
 abbrev pub count_crowded_forest : Forest → ℕ
 count_crowded_forest none = 0
 count_crowded_forest (child l n u rest) = crowd n (labels u) + count_crowded_forest u + count_crowded_forest rest
 
--- how many nodes below the root take several slots
+-- how many nodes below the root of the tree t take several slots
 abbrev pub count_crowded : Tree → ℕ
 count_crowded t = count_crowded_forest t.children
 
 -- ---- the table
 
--- a table of the tree t has at most 255 free slots outside block 0, and 256 others for each node that takes several slots
+-- in a table of the tree t at most 255 slots outside block 0 are free, and 256 others for each node that takes
+-- several slots
 abbrev pub IsPacked : Tree → Fields → Type 0
 IsPacked t T = Packs (length (labels t.children)) (256 * count_crowded t) T
 
 -- ---- one node
 
--- the node of a span takes one slot, or several
+-- a step that fills the node of a span is as `TakesOne` says, or the node takes several slots
 abbrev pub PacksSpan : {K : Type 0} → (K → List ℕ) → Fields → Fields → Span K → Type 0
 PacksSpan bytes before after span =
     (t : Tree) → IsTreeOfSpan span.depth (entries_by bytes span.pairs.now) t → TakesOne before after ⊎ (crowd t.number (labels t.children) ≡ 1)
 
 -- ---- a turn
 
--- n nodes that wait, or that come below these, take several slots
+-- n of the nodes that wait, and of those below them, take several slots
 abbrev pub Crowds : List Part → ℕ → Type 0
 Crowds [] n = n ≡ 0
 Crowds (s ∷ ss) n =
     (t : Tree) × (m : ℕ) × IsTreeOfSpan s.depth s.entries t × (n ≡ crowd t.number (labels t.children) + count_crowded t + m) × Crowds ss m
 
--- a table on the way to the tree with the children g, for which these spans wait, has few free slots for the nodes that it has
+-- a table on its way to the tree with the children g, for which these spans wait, has few free slots for the nodes
+-- that it has
 pub record Packed (T : Fields) (spans : List Part) (g : Forest) : Type 0 where
   pub filled : ℕ
   pub left : ℕ
@@ -54,12 +56,13 @@ pub record Packed (T : Fields) (spans : List Part) (g : Forest) : Type 0 where
   pub whole : filled + left ≤ count_crowded_forest g
   pub packs : Packs (length (labels g)) (256 * filled) T
 
--- what a table on the way with this span behind others has free, it has at most without the span
+-- a step that fills one key's tail leaves as few slots free: what a table on its way with this span behind others has
+-- free at most, it has without the span
 abbrev pub PacksTail : ℕ → Fields → Fields → Part → Type 0
 PacksTail slots before after s =
     (ps : List Part) (g : Forest) (most spare : ℕ) → Filling slots before (ps ++ s ∷ []) g most → Packs (length (labels g)) spare before
     → Packs (length (labels g)) spare after
 
--- a table on the way with these spans, which has few free slots, has few with those ones
+-- a turn leaves as few slots free: a table on its way with these spans that has few free slots has few with those
 abbrev pub PacksTurn : ℕ → Fields → Fields → List Part → List Part → Type 0
 PacksTurn slots before after parts left = (g : Forest) (most : ℕ) → Filling slots before parts g most → Packed before parts g → Packed after left g

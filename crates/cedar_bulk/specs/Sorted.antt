@@ -1,4 +1,4 @@
--- Sorted pairs, of which a table is made at once: a node with all of its labels after the other.
+-- Sorted pairs, of which a table is made at once, a node with all of its labels after the other.
 use Rattle.std.specs.Prelude.{◌≡◌, ℕ, ◌+◌, ◌==◌, cond, ℤ, true, List, [], ◌∷◌, ◌++◌, map}
 use Rattle.std.specs.Prelude.{get_or, Option, Some, None, MatchOption, ◌⊎◌}
 use Rattle.std.specs.Borrow.{Bor}
@@ -22,15 +22,15 @@ Pair = Bor (List ℕ) × ℤ
 abbrev pub entries_of : List Pair → List Entry
 entries_of pairs = map (λ p. (p.0.now, p.1)) pairs
 
--- the entries that pairs represent, whose keys lend these bytes
+-- the entries of pairs whose keys lend these bytes, as texts and byte strings do
 abbrev pub entries_by : {K : Type 0} → (K → List ℕ) → List (K × ℤ) → List Entry
 entries_by bytes pairs = map (λ p. (bytes p.0, p.1)) pairs
 
--- the byte of an entry's key behind its first d ones, and 0 where there is none
+-- the byte of an entry's key behind its first d ones, or 0 if there is none
 abbrev pub label_of : ℕ → Entry → ℕ
 label_of d entry = get_or entry.0 d 0
 
--- how many of the first entries have a label
+-- how many of the first entries have the label l behind their first d bytes
 abbrev pub run : ℕ → ℕ → List Entry → ℕ
 run d l [] = 0
 run d l (e ∷ es) = cond (label_of d e == l) (1 + run d l es) 0
@@ -42,12 +42,12 @@ abbrev pub leaves : List ℕ → Forest
 leaves [] = none
 leaves (l ∷ ls) = child l None none (leaves ls)
 
--- the label l goes behind all that slot a's chain has: behind the slot before, or first of all
+-- the label l goes behind all of slot a's chain: right behind the slot `before`, or first of all
 pub record GoesLast (size : ℕ) (T : Cells) (a l : ℕ) (before : Option ℕ) : Type 0 where
   pub goes : MatchOption before (GoesFirst T true a l) (λ b. GoesBehind size T true a l b)
   pub last : MatchOption before (T.child a ≡ 0) (λ b. T.sibling b ≡ 0)
 
--- slot a, which had no label, has these ones now, each a leaf that has no base yet; nothing else has changed
+-- slot a, which had no label, has these labels now, each a leaf that has no base yet; nothing else has changed
 pub record GetsLabels (size : ℕ) (T T' : Cells) (a : ℕ) (ls : List ℕ) : Type 0 where
   pub tree : (f : Forest) (w : List ℕ) → HoldsTree size T f → IsAscending f → IsAt T w a → (node_at (root_of f) w).children ≡ none → HoldsTree size T' (edit_at w (λ n. n) (λ _. leaves ls) f)
   pub paths : (w : List ℕ) (s : ℕ) → IsAt T w s → IsAt T' w s
@@ -57,7 +57,8 @@ pub record GetsLabels (size : ℕ) (T T' : Cells) (a : ℕ) (ls : List ℕ) : Ty
   pub leaf : (l : ℕ) → Among ls l → T'.stored (below T a l) ≡ AtBase 0
   pub at : (w : List ℕ) (l : ℕ) → IsAt T w a → Among ls l → IsAt T' (w ++ l ∷ []) (below T a l)
 
--- slot a, which had neither number nor label, has this number now, if it is one, in the slot of label 0
+-- slot a, which had neither number nor label, has this number now, if it is one, in the slot of label 0; nothing else
+-- has changed
 pub record GetsNumber (size : ℕ) (T T' : Cells) (a : ℕ) (number : Option ℤ) : Type 0 where
   pub tree : (f : Forest) (w : List ℕ) → HoldsTree size T f → IsAt T w a → node_at (root_of f) w ≡ empty_tree → HoldsTree size T' (edit_at w (λ _. number) (λ u. u) f)
   pub paths : (w : List ℕ) (s : ℕ) → IsAt T w s → IsAt T' w s
@@ -65,12 +66,12 @@ pub record GetsNumber (size : ℕ) (T T' : Cells) (a : ℕ) (number : Option ℤ
   pub keeps : (x : ℕ) → Held T x → Held T' x
   pub held : (x : ℕ) → Held T' x → Held T x ⊎ (x ≡ below T a 0)
 
--- the labels of a node's slots, its number's being 0
+-- the labels of a node's slots, of which 0 stands for its number
 abbrev pub slot_labels : Option ℤ → List ℕ → List ℕ
 slot_labels None ls = ls
 slot_labels (Some v) ls = 0 ∷ ls
 
--- the base of slot a is one from which the slots of all these labels are free; the tree is as before
+-- slot a has a base now from which the slots of all these labels are free; the tree is as before
 pub record GetsBase (size size' : ℕ) (T T' : Cells) (a : ℕ) (ls : List ℕ) : Type 0 where
   pub tree : (f : Forest) → HoldsTree size T f → HoldsTree size' T' f
   pub paths : (w : List ℕ) (s : ℕ) → IsAt T w s → IsAt T' w s
@@ -80,7 +81,8 @@ pub record GetsBase (size size' : ℕ) (T T' : Cells) (a : ℕ) (ls : List ℕ) 
   pub based : (a ≡ 0 → ⊥) → InRange size' (T'.stored a)
   pub free : (l : ℕ) → Among ls l → Held T' (below T' a l) → ⊥
 
--- slot a, which had neither number nor label, has this number and these labels now, each label a leaf that has no base yet
+-- slot a, which had neither number nor label nor base, gets a base, this number and these labels, each a leaf that
+-- has no base yet; nothing else changes
 pub record Fills (size size' : ℕ) (T T' : Cells) (a : ℕ) (number : Option ℤ) (ls : List ℕ) : Type 0 where
   pub tree : (f : Forest) (w : List ℕ) → HoldsTree size T f → IsAscending f → IsAt T w a → node_at (root_of f) w ≡ empty_tree → HoldsTree size' T' (edit_at w (λ _. number) (λ _. leaves ls) f)
   pub paths : (w : List ℕ) (s : ℕ) → IsAt T w s → IsAt T' w s

@@ -13,15 +13,15 @@ use Rattle.cedar_model.specs.Meaning.Marks.{HasMark, IsProperFront}
 abbrev pub IsInnerKey : Tree → List ℕ → Type 0
 IsInnerKey t w = (is_some (number_at t w) ≡ true) × (key : List ℕ) × IsProperFront w key × (is_some (number_at t key) ≡ true)
 
--- of the tree t of sorted pairs and the tree m of just the numbers that have slots of their own: in the reduced layout these
--- are the numbers of the keys that begin longer ones, by default all
+-- of the tree t of sorted pairs, m is the tree of marks: all of t by default, and in the reduced layout with marks at
+-- exactly the keys that begin longer ones (`IsInnerKey`)
 pub record SortedMarks (layout : LayoutKind) (t m : Tree) : Type 0 where
   pub inner : layout ≡ reduced_layout → (w : List ℕ) → HasMark m w ↔ IsInnerKey t w
   pub by_default : layout ≡ default_layout → m ≡ t
 
 -- ---- on the way
 
--- in the reduced layout a number without labels is kept in slot a itself
+-- in the reduced layout the number of a node without labels is kept in its own base field, at slot a
 abbrev pub KeepsOwn : LayoutKind → Cells → ℕ → Option ℤ → List ℕ → Type 0
 KeepsOwn layout T a number ls = layout ≡ reduced_layout → (v : ℤ) → number ≡ Some v → length ls ≡ 0 → T.stored a ≡ OwnNumber v
 

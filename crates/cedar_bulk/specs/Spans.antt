@@ -1,4 +1,5 @@
--- Sorted entries that go on below one node, and the nodes that wait for theirs.
+-- Spans: each a run of pairs whose keys have the same first bytes, with the node to which these lead, that waits for
+-- what is below it.
 use Rattle.std.specs.Prelude.{◌≡◌, ◌⊎◌, ℕ, ◌+◌, ◌≤◌, ◌<◌, nat_lt, bit_xor, cond, ℤ, false, List, []}
 use Rattle.std.specs.Prelude.{◌∷◌, length, map, drop, Option, Some, None, IfSome, true}
 use Rattle.cedar_model.specs.Tree.{AllNumbers, Forest, none, child, Tree, is_bare}
@@ -18,15 +19,18 @@ use Rattle.cedar_model.specs.Table.Layouts.{reduced_layout}
 use Rattle.cedar_model.specs.Table.TableFields.{Fields, size_of}
 use Rattle.cedar_model.specs.Meaning.WellFormed.{cells_in, is_value}
 
--- what a span says: the slot of a node, how many bytes lead to it, and the entries whose keys begin with these
+-- what a span is, whatever the type of the keys: the slot of its node, how many bytes lead to it (`depth`), and its
+-- entries
 pub record Part : Type 0 where
   pub node : ℕ
   pub depth : ℕ
   pub entries : List Entry
 
+-- the part of a span whose keys lend these bytes
 abbrev pub part_of : {K : Type 0} → (K → List ℕ) → Span K → Part
 part_of bytes span = record { node = span.node; depth = span.depth; entries = entries_by bytes span.pairs.now }
 
+-- the parts of some spans
 abbrev pub parts_of : {K : Type 0} → (K → List ℕ) → List (Span K) → List Part
 parts_of bytes spans = map (part_of bytes) spans
 
@@ -35,12 +39,12 @@ abbrev pub entries_behind : ℕ → List Entry → List Entry
 entries_behind d [] = []
 entries_behind d (e ∷ es) = (drop d e.0, e.1) ∷ entries_behind d es
 
--- the number of the first entry, if its key ends within d bytes
+-- the number of the first entry, if its key has no more than d bytes
 abbrev pub first_number : ℕ → List Entry → Option ℤ
 first_number d [] = None
 first_number d (e ∷ es) = cond (nat_lt d (length e.0)) None (Some e.1)
 
--- the label of the first entry
+-- the label of the first entry behind its first d bytes, or 0 if there is none
 abbrev pub first_label : ℕ → List Entry → ℕ
 first_label d [] = 0
 first_label d (e ∷ es) = label_of d e
@@ -50,11 +54,11 @@ abbrev pub IsDeeper : ℕ → List Entry → Type 0
 IsDeeper d [] = ⊥
 IsDeeper d (e ∷ es) = d < length e.0
 
--- no entry ends here, and all go on with one label
+-- all entries have more than d bytes, and the same label behind these
 abbrev pub GoesOnAlike : ℕ → List Entry → Type 0
 GoesOnAlike d es = IsDeeper d es × (run d (first_label d es) es ≡ length es)
 
--- there is one entry, or all go on alike
+-- there is one entry, or all go on alike (`GoesOnAlike`)
 abbrev pub IsAlike : ℕ → List Entry → Type 0
 IsAlike d es = (length es ≡ 1) ⊎ GoesOnAlike d es
 
@@ -64,32 +68,33 @@ pub record Lists (d : ℕ) (entries : List Entry) (f : Forest) : Type 0 where
   pub sound : IsSoundBelow f
   pub ascending : IsAscending f
 
--- these spans are those of the first children of f, one for each, whose slots begin at a base; todo are the other ones
+-- the parts are those of the first children of f, one for each, whose slots begin at the base; `todo` are the other
+-- children
 abbrev pub Covers : ℕ → List Part → Forest → Forest → Type 0
 Covers base [] f todo = f ≡ todo
 Covers base (s ∷ ss) none todo = ⊥
 Covers base (s ∷ ss) (child l n u rest) todo =
     (s.node ≡ bit_xor base l) × (walk (record { number = n; children = u }) ≡ entries_behind s.depth s.entries) × Covers base ss rest todo
 
--- a span whose slots begin at 0, once they begin at a base
+-- a part whose slots began at 0, at a base
 abbrev pub based_at : ℕ → Part → Part
 based_at base s = record { node = bit_xor base s.node; depth = s.depth; entries = s.entries }
 
--- how many bytes there are, and entries
+-- how many bytes and entries there are
 abbrev pub entry_bytes : List Entry → ℕ
 entry_bytes [] = 0
 entry_bytes (e ∷ es) = 1 + length e.0 + entry_bytes es
 
--- how much is left to do
+-- how much is left to do with these parts
 abbrev pub work : List Part → ℕ
 work [] = 0
 work (s ∷ ss) = entry_bytes (entries_behind s.depth s.entries) + work ss
 
--- each number of the tree t is one that a key may have
+-- each number of the tree t may be the value of a key
 abbrev pub HasValues : Tree → Type 0
 HasValues t = IfSome t.number (λ v. is_value v ≡ true) × AllNumbers (λ v. is_value v ≡ true) t.children
 
--- the entries are just what the tree t has, d bytes deep; it isn't empty
+-- the entries are just what the tree t has, d bytes deep; and t isn't bare
 pub record IsTreeOfSpan (d : ℕ) (entries : List Entry) (t : Tree) : Type 0 where
   pub walks : walk t ≡ entries_behind d entries
   pub some : is_bare t ≡ false
@@ -116,10 +121,11 @@ abbrev pub Distinct : List ℕ → Type 0
 Distinct [] = Unit {0}
 Distinct (x ∷ xs) = (Among xs x → ⊥) × Distinct xs
 
+-- the nodes' slots of some parts
 abbrev pub nodes_of : List Part → List ℕ
 nodes_of spans = map (λ s. s.node) spans
 
--- a table on the way to the tree with the children g, with so many blocks and nodes to come at most
+-- a table is on its way to the tree with the children g, and so many blocks and nodes may still come
 pub record Filling (slots : ℕ) (T : Fields) (spans : List Part) (g : Forest) (most : ℕ) : Type 0 where
   pub table : IsTable slots T.places
   pub forest : Forest

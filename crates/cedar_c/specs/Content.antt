@@ -9,57 +9,60 @@ use Rattle.cedar_c.specs.Layouts.{dictionary_in, layout_of}
 use Rattle.cedar_c.specs.declared.any.AnyCedar.{AnyCedar}
 use Rattle.cedar_c.specs.declared.handle.Handle.{Handle}
 
--- its dictionary, of either layout, or none where it is closed
+-- the dictionary that a handle has, of either layout, or none if it is closed
 abbrev pub content : Handle → Option AnyCedar
 content h = h.held.value
 
--- the layout that the dictionary was made with
+-- the layout of a handle's dictionary, if it is open
 abbrev pub layout_in : Handle → Option LayoutKind
 layout_in h = option_map layout_of (content h)
 
--- the dictionary's state
+-- the state of a handle's dictionary, if it is open
 abbrev pub state_in : Handle → Option State
 state_in h = option_map (λ a. (dictionary_in a).state) (content h)
 
--- the keys whose number has a slot of its own
+-- the tree of marks of a handle's dictionary, if it is open
 abbrev pub marks_in : Handle → Option Tree
 marks_in h = option_map (λ a. (dictionary_in a).marked) (content h)
 
--- how many failed searches close a block of it
+-- how many failed searches close a block of a handle's dictionary, if it is open
 abbrev pub trials_in : Handle → Option ℤ
 trials_in h = option_map (λ a. (dictionary_in a).max_trial) (content h)
 
--- how many blocks one search for places in it tries at most
+-- how many blocks one search for places in a handle's dictionary tries at most, if it is open
 abbrev pub search_limit_in : Handle → Option ℕ
 search_limit_in h = option_map (λ a. (dictionary_in a).search_limit) (content h)
 
+-- the tree of what a handle has: the empty tree if it is closed
 abbrev pub content_tree : Option AnyCedar → Tree
 content_tree None = empty_tree
 content_tree (Some a) = (dictionary_in a).state.tree
 
--- the tree that results come from. A closed handle gives those of one that holds no key
+-- the tree that a handle's results come from: the empty tree if it is closed
 abbrev pub tree_in : Handle → Tree
 tree_in h = content_tree (content h)
 
+-- a figure of what a handle has: 0 if it is closed
 abbrev pub content_figure : (Dictionary → ℕ) → Option AnyCedar → ℕ
 content_figure f None = 0
 content_figure f (Some a) = f (dictionary_in a)
 
--- a figure, which is 0 of a closed handle
+-- a figure of a handle: 0 if it is closed
 abbrev pub figure_of : (Dictionary → ℕ) → Handle → ℕ
 figure_of f h = content_figure f (content h)
 
--- how many slots are in use, and how many there are
+-- how many slots are in use in a handle's dictionary: 0 if it is closed
 abbrev pub size_in : Handle → ℕ
 size_in = figure_of (λ d. d.size)
 
+-- how many slots there are in a handle's dictionary: 0 if it is closed
 abbrev pub capacity_in : Handle → ℕ
 capacity_in = figure_of (λ d. d.capacity)
 
--- the keys that begin with a prefix are erased, of which there were `count`
+-- all keys that begin with a prefix are erased, and `count` is how many these were
 abbrev pub ErasesUnder : List ℕ → ℕ → AnyCedar → AnyCedar → Type 0
 ErasesUnder prefix count a b = IsErasedUnder (dictionary_in a) (dictionary_in b) prefix count
 
--- an open handle stays open, and its dictionaries before and after are related so
+-- a handle that is open stays open, and its dictionaries before and after are related by P
 abbrev pub ChangesBy : (AnyCedar → AnyCedar → Type 0) → Handle → Handle → Type 0
 ChangesBy P before after = (a : AnyCedar) × (b : AnyCedar) × (content before ≡ Some a) × (content after ≡ Some b) × P a b

@@ -17,7 +17,7 @@ use Rattle.cedarwood.specs.Refusal.{UnsupportedVersion, UnsupportedByteOrder, La
 use Rattle.cedarwood.specs.Refusal.{InvalidHeader, AllocationLimitExceeded, AllocationFailed}
 use Rattle.cedarwood.specs.Refusal.{CorruptData, TrailingData, Failed}
 
--- whether a file's byte of its layout is there, and names the reduced one
+-- whether the byte of the layout is there in a file, and names the reduced one
 abbrev pub is_reduced_byte : Option ℕ → Bool
 is_reduced_byte None = false
 is_reduced_byte (Some byte) = byte == 1
@@ -26,14 +26,15 @@ is_reduced_byte (Some byte) = byte == 1
 abbrev pub layout_named : List ℕ → LayoutKind
 layout_named bytes = layout_if (is_reduced_byte (slice_get bytes 13))
 
--- the bytes are those of this well-formed table, in a version that is read
+-- the bytes are those of the well-formed table T, in a version that is read
 abbrev pub IsFileOf : Fields → List ℕ → Type 0
 IsFileOf T bytes = (version : ℕ) × IsTableFile version most_slots T bytes
 
--- they are those of no well-formed table in any version, which may have `slots` slots
+-- the bytes are those of no well-formed table that may have `slots` slots, in no version
 abbrev pub IsOfNoTable : ℕ → List ℕ → Type 0
 IsOfNoTable slots bytes = (version : ℕ) (T : Fields) → IsTableFile version slots T bytes → ⊥
 
+-- the number of a file's refusal
 abbrev pub file_status : Refusal → ℕ
 file_status Truncated = FILE_TRUNCATED
 file_status InvalidMagic = FILE_MAGIC
@@ -47,11 +48,11 @@ file_status CorruptData = FILE_CORRUPT
 file_status TrailingData = FILE_TRAILING
 file_status Failed = FILE_UNREAD
 
--- the first refusal of the header itself and of its sizes, before memory is asked for
+-- the first refusal of the header itself and of its sizes, before memory is allocated
 abbrev pub early_refusal : ℕ → ℕ → ℕ → List ℕ → Option Refusal
 early_refusal layout slots limit bytes = first_refusal (header_refusal layout (take 88 bytes) ∷ size_refusal slots limit (header_at (take 88 bytes)) ∷ [])
 
--- where the header is refused: the number of that refusal, or of want of memory
+-- what is returned if the header is refused: the number of that refusal, or of want of memory
 abbrev pub TellsHeader : Refusal → ℕ → Type 0
 TellsHeader r status = (status ≡ file_status r) ⊎ (status ≡ MEMORY)
 
@@ -59,18 +60,20 @@ TellsHeader r status = (status ≡ file_status r) ⊎ (status ≡ MEMORY)
 abbrev pub TellsJust : Refusal → ℕ → Type 0
 TellsJust r status = status ≡ file_status r
 
--- behind a header that passes: memory was wanted, or the bytes are of no well-formed table
+-- what is returned behind a header that passes: the number of want of memory; or that of corrupt data, and then the
+-- bytes are of no well-formed table
 abbrev pub LacksOrCorrupt : ℕ → List ℕ → ℕ → Type 0
 LacksOrCorrupt slots bytes status = (status ≡ MEMORY) ⊎ ((status ≡ FILE_CORRUPT) × IsOfNoTable slots bytes)
 
+-- the same as `LacksOrCorrupt`, of tables with the greatest limit of slots
 abbrev pub TellsNoTable : List ℕ → ℕ → Type 0
 TellsNoTable bytes status = LacksOrCorrupt most_slots bytes status
 
--- which version's file a save writes: format 1.0, which lists all slots and blocks, or 1.1
+-- the version that a save writes: 0, which lists all slots and blocks, or 1
 abbrev pub minor_of : Bool → ℕ
 minor_of true = 0
 minor_of false = 1
 
--- the file of a dictionary
+-- the bytes of a dictionary's file, in the version that a save writes (`minor_of`)
 abbrev pub file_in : Bool → AnyCedar → List ℕ
 file_in is_full a = table_bytes (minor_of is_full) (dictionary_in a).table

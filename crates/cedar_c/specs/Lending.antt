@@ -10,10 +10,11 @@ use Rattle.cedar_c.specs.declared.shown.Seen.{Seen}
 use Rattle.cedar_c.specs.contracts.shown.Shown as shown
 use Rattle.cedar_c.specs.contracts.shown.Seen as seen
 
--- the same pointer, behind which this dictionary lies now
+-- the same pointer, behind which this dictionary is now
 abbrev pub with_cedar : Held → AnyCedar → Held
 with_cedar h a = record h { value = Some a }
 
+-- a `&mut` to a pointer lends a `&mut` to its dictionary, and the pointer has what that leaves
 abbrev pub LendsCedar : MutBor Held → MutBor AnyCedar → Fml
 LendsCedar h cedar = Lends the_row cedar_row h cedar (with_cedar h.now)
 
@@ -21,5 +22,6 @@ LendsCedar h cedar = Lends the_row cedar_row h cedar (with_cedar h.now)
 abbrev pub as_shown : Seen → Shown
 as_shown s = record { at = s.at; value = s.value; life = s.life }
 
+-- a `&mut` to C's pointer lends a `&mut` to the pointer that only reads, and C's has what that leaves
 abbrev pub LendsSeen : MutBor Shown → MutBor Seen → Fml
 LendsSeen s looked = Lends shown.the_row seen.the_row s looked as_shown

@@ -6,14 +6,15 @@ use Rattle.cedarwood.specs.Tree.{Tree}
 use Rattle.cedarwood.specs.Queries.{front, walk}
 use Rattle.cedar_c.specs.declared.walks.Match.{Match}
 
--- a number and a length; `found` has one that lacks some bytes
+-- what a walk gives, a number and a length, with so many bytes more
 abbrev pub longer : ℕ → ℤ × ℕ → ℤ × ℕ
 longer more found = (found.0, found.1 + more)
 
+-- all that a walk gives, each with so many bytes more
 abbrev pub all_longer : ℕ → List (ℤ × ℕ) → List (ℤ × ℕ)
 all_longer more found = map (longer more) found
 
--- these lengths are numbers of 64 bits
+-- these lengths, with so many bytes more, are numbers of 64 bits
 abbrev pub Fit : ℕ → List (ℤ × ℕ) → Type 0
 Fit more [] = Unit {0}
 Fit more (f ∷ fs) = (f.1 + more < 2 ^ 64) × Fit more fs
@@ -26,15 +27,16 @@ front_keys t text = all_longer 1 (front t text)
 abbrev pub predicted_keys : Tree → List ℕ → List (ℤ × ℕ)
 predicted_keys t text = map (λ e. (e.1, length e.0)) (filter (λ e. starts_with nat_eq e.0 text) (walk t))
 
+-- a number and a length as C's match
 abbrev pub match_of : ℤ × ℕ → Match
 match_of found = record { value = found.0; length = found.1 }
 
--- the first elements have what was found, one after another, as far as there are elements; the others are as they were
+-- the elements of a buffer once what was found is written to the first ones, as far as there are elements
 abbrev pub filled_matches : List Match → List (ℤ × ℕ) → List Match
 filled_matches [] found = []
 filled_matches (m ∷ matches) [] = m ∷ matches
 filled_matches (m ∷ matches) (x ∷ found) = match_of x ∷ filled_matches matches found
 
--- the same behind the first elements
+-- the elements of a buffer once what was found is written behind the first ones
 abbrev pub filled_from : ℕ → List Match → List (ℤ × ℕ) → List Match
 filled_from place matches found = take place matches ++ filled_matches (drop place matches) found

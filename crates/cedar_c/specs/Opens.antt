@@ -17,7 +17,8 @@ use Rattle.cedar_c.specs.declared.pairs.Pair.{Pair}
 use Rattle.cedar_c.specs.declared.status.TheConstants.{OK, MEMORY, SLOT_LIMIT, INVALID_MAX_TRIAL}
 use Rattle.cedar_c.specs.declared.status.TheConstants.{FILE_CORRUPT, FILE_UNREAD}
 
--- if OK is returned, the handle is opened with an empty dictionary of a layout and settings, in place of what it had; else it is as it was
+-- a call that opens a handle with an empty dictionary. If OK is returned, the handle has one of this layout and these
+-- settings, in which nothing bounds a search; else it has what it had
 pub record OpensNew (kind : LayoutKind) (ordered : Bool) (trials : ℤ) (before after : Handle) (status : ℕ) : Type 0 where
   pub made : status ≡ OK → (settings : CedarBuilder) × (settings.ordered ≡ ordered) × (settings.max_trial ≡ trials) × (settings.search_limit ≡ no_search_limit)
       × ((a : AnyCedar) × (content after ≡ Some a) × IsEmpty settings (dictionary_in a))
@@ -26,8 +27,8 @@ pub record OpensNew (kind : LayoutKind) (ordered : Bool) (trials : ℤ) (before 
   pub invalid : (status ≡ INVALID_MAX_TRIAL) ↔ (trials <ℤ pos 1)
   pub refused : (status ≡ OK) ⊎ (((status ≡ INVALID_MAX_TRIAL) ⊎ (status ≡ MEMORY)) × (content after ≡ content before))
 
--- if OK is returned, the handle is opened with a dictionary of just these pairs, which come sorted or in any order, in place of what it
--- had; by another status it is as it was. `found` and `told` are the position before and after
+-- a call that opens a handle with a dictionary of just these pairs, which come sorted or in any order. If OK is
+-- returned, the handle has it; else it has what it had. `found` and `told` are the position before and after
 pub record OpensBuilt (kind : LayoutKind) (is_sorted ordered : Bool) (trials : ℤ) (pairs : List Pair) (before after : Handle) (found told status : ℕ) : Type 0 where
   pub made : status ≡ OK → (settings : CedarBuilder) × (settings.ordered ≡ ordered) × (settings.max_trial ≡ trials) × (settings.search_limit ≡ no_search_limit)
       × ((a : AnyCedar) × (content after ≡ Some a) × IsSorted (layout_of a) settings (entries_in pairs) (dictionary_in a))
@@ -35,24 +36,25 @@ pub record OpensBuilt (kind : LayoutKind) (is_sorted ordered : Bool) (trials : �
   pub invalid : trials <ℤ pos 1 → status ≡ INVALID_MAX_TRIAL
   -- the first fault of the pairs is returned, unless memory was wanted before it was found
   pub faulty : pos 1 ≤ℤ trials → IfSome (build_fault is_sorted (entries_in pairs)) (TellsFault found told status)
-  -- without a fault slots are wanted only where there might not be enough
+  -- without a fault slots are wanted only if there might not be enough
   pub refused : pos 1 ≤ℤ trials → build_fault is_sorted (entries_in pairs) ≡ None
       → (status ≡ OK) ⊎ (status ≡ MEMORY) ⊎ ((status ≡ SLOT_LIMIT) × MayWantSlots most_slots pairs)
   pub kept : (status ≡ OK) ⊎ (content after ≡ content before)
   -- only an error that has a position writes it
   pub stays : TellsPosition status ⊎ (told ≡ found)
 
--- if OK is returned, the handle is opened with the dictionary that a file's bytes are of, in place of what it had; else it is as it was
+-- a call that opens a handle with the dictionary that a file's bytes are of. If OK is returned, the handle has it;
+-- else it has what it had
 pub record OpensLoaded (kind : LayoutKind) (limit : ℕ) (bytes : List ℕ) (before after : Handle) (status : ℕ) : Type 0 where
   pub loaded : status ≡ OK → (a : AnyCedar) × (content after ≡ Some a) × IsFileOf (dictionary_in a).table bytes
   pub stands : status ≡ OK → (a : AnyCedar) × (content after ≡ Some a) × IsOnTable most_slots (dictionary_in a)
   pub layout : status ≡ OK → layout_in after ≡ Some kind
   pub refused : (status ≡ OK) ⊎ (content after ≡ content before)
-  -- where a header is refused nothing else is returned, but for want of memory
+  -- if the header is refused, the number of that refusal is returned, or that of want of memory
   pub header : IfSome (header_answer (layout_byte kind) most_slots limit bytes) (λ r. TellsHeader r status)
-  -- before memory is asked for just this refusal's number is returned
+  -- before memory is allocated just the number of the refusal is returned
   pub early : IfSome (early_refusal (layout_byte kind) most_slots limit bytes) (λ r. status ≡ file_status r)
-  -- behind a header that passes they are of this table, or of no well-formed one, or memory was wanted
+  -- behind a header that passes the bytes are of this table, or of no well-formed one, or memory was wanted
   pub behind : header_answer (layout_byte kind) most_slots limit bytes ≡ None
       → (status ≡ OK) ⊎ (status ≡ MEMORY) ⊎ ((status ≡ FILE_CORRUPT) × IsOfNoTable most_slots bytes)
   pub read : status ≢ FILE_UNREAD

@@ -1,4 +1,4 @@
--- What a pointer to a dictionary owns.
+-- What a pointer to a dictionary owns. Only proofs say this.
 use Rattle.std.specs.Prelude.{ℕ, [], ◌∷◌, Option, None, Some}
 use base.Fraction.{full_share}
 use base.Fml.{Lft, Fml, ftrue, fsep, flft}
@@ -25,18 +25,19 @@ heap = record { memory = record { seal = tt } }
 abbrev pub may_free : Ty → Ptr → Fml
 may_free = global_allocator.ghosts.dealloc_token heap
 
--- a dictionary on the C library's heap, and the right to free it; or nothing
+-- what an open handle owns: a dictionary on the C library's heap, and the right to free it; a closed one nothing
 abbrev pub held_owns : Ptr → Option AnyCedar → Fml
 held_owns p None = ftrue
 held_owns p (Some d) = box_owns may_free cedar_row p d
 
--- what a `&` to the pointer has: a `&` to the dictionary, or nothing
+-- what a `&` to a handle has: a `&` to its dictionary, or nothing
 abbrev pub held_lends : Ptr → Option AnyCedar → Lft → Fml
 held_lends p None = nothing
 held_lends p (Some d) = lent_at cedar_row p d
 
--- a dictionary that is lent for a lifetime, and the whole right to end this lifetime; or nothing. Many of them, each with a
--- lifetime of its own, may have the same dictionary: whoever owns the dictionary has it back once these lifetimes are ended
+-- what a pointer that only reads owns: a dictionary that is lent for a lifetime, and the whole right to end that
+-- lifetime; or nothing. Many pointers, each with a lifetime of its own, may have the same dictionary: whoever owns it
+-- has it back once these lifetimes are ended
 abbrev pub shown_owns : Ptr → Option AnyCedar → ℕ → Fml
 shown_owns p None life = ftrue
 shown_owns p (Some d) life = fsep (flft (life ∷ []) full_share) (lent_at cedar_row p d (life ∷ []))

@@ -1,4 +1,4 @@
--- What a call says that gives memory back.
+-- What a call says that frees memory.
 use Rattle.std.specs.Prelude.{◌≡◌, ℕ, Result, Ok, Err}
 use Rattle.cedarwood.specs.Limits.{most_slots}
 use Rattle.cedarwood.specs.Shrinking.{IsShrunk}

@@ -28,11 +28,12 @@ status_of (InvalidMaxTrial n) = INVALID_MAX_TRIAL
 status_of (DuplicateKey i) = DUPLICATE_KEY
 status_of (KeysNotSorted i) = KEYS_NOT_SORTED
 
--- an update is done, or memory or slots were wanted, and that only for a key that isn't held
+-- an update is done; or memory or slots were wanting, and this only for a key that isn't held
 abbrev pub LacksOnlyNew : Tree → List ℕ → ℕ → Type 0
 LacksOnlyNew t key status = (status ≡ OK) ⊎ (((status ≡ MEMORY) ⊎ (status ≡ SLOT_LIMIT)) × (number_at t key ≡ None))
 
--- the position that an error writes, which is a pair's index where keys don't ascend; or what was written there before
+-- the position that an error has: of a byte 0 in its key, or of a pair whose key isn't above the one before it; or
+-- what was there before
 abbrev pub position_of : ℕ → CedarError → ℕ
 position_of before (NulByte p) = p
 position_of before (DuplicateKey i) = i
@@ -43,12 +44,12 @@ position_of before e = before
 abbrev pub TellsPosition : ℕ → Type 0
 TellsPosition status = (status ≡ NUL_BYTE) ⊎ (status ≡ DUPLICATE_KEY) ⊎ (status ≡ KEYS_NOT_SORTED)
 
--- the number of this error is returned, and its position written, or want of memory is returned. `found` and `told` are the position before
--- and after
+-- the number of this error is returned, and its position written; or that of want of memory is returned. `found` and
+-- `told` are the position before and after
 abbrev pub TellsFault : ℕ → ℕ → ℕ → CedarError → Type 0
 TellsFault found told status e = (status ≡ MEMORY) ⊎ ((status ≡ status_of e) × (told ≡ position_of found e))
 
--- each number that is returned, with its text: the library's own text of that error where it has one, without numbers
+-- each number that is returned, with its text: the library's own text of that error if it has one, without numbers
 abbrev pub texts_by_status : List (ℕ × List ℕ)
 texts_by_status =
     (OK, codes "done")
@@ -86,7 +87,7 @@ texts_by_status =
     ∷ (STORE_NO_ROOM, codes "there is no room for the change in the store's file")
     ∷ []
 
--- the text of a number in such a list, and one for all numbers that it doesn't have
+-- the text of a number in such a list, or one text for all numbers that it doesn't have
 abbrev pub text_among : List (ℕ × List ℕ) → ℕ → List ℕ
 text_among [] status = codes "an error without a text"
 text_among (row ∷ rows) status = if row.0 == status then row.1 else text_among rows status

@@ -8,16 +8,17 @@ use Rattle.cedar_c.specs.Content.{content, state_in, tree_in}
 use Rattle.cedar_c.specs.Status.{TellsFault}
 use Rattle.cedar_c.specs.declared.handle.Handle.{Handle}
 
--- a front of some entries is stored, and nothing else
+-- the first ones of some entries are stored in a handle's dictionary, and nothing else
 abbrev pub HoldsFront : Handle → Handle → List Entry → Type 0
 HoldsFront before after entries =
     (m : ℕ) × (m ≤ length entries) × (state_in after ≡ option_map (λ s. all_stored s (take m entries)) (state_in before))
 
--- those before one whose key isn't held then
+-- the entries before one whose key isn't held then are stored in a handle's dictionary, and nothing else
 abbrev pub HoldsPart : Handle → Handle → List Entry → Type 0
 HoldsPart before after entries = (m : ℕ) × (m < length entries)
     × (state_in after ≡ option_map (λ s. all_stored s (take m entries)) (state_in before)) × (number_at (tree_in after) (path_at entries m) ≡ None)
 
--- nothing has changed, and this fault is returned. `found` and `told` are the position before and after
+-- nothing has changed, and this fault is returned (`TellsFault`). `found` and `told` are the position before and
+-- after
 abbrev pub RefusesAll : Handle → Handle → ℕ → ℕ → ℕ → CedarError → Type 0
 RefusesAll before after found told status e = (content after ≡ content before) × TellsFault found told status e

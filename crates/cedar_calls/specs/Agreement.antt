@@ -14,7 +14,7 @@ use Rattle.cedar_calls.specs.declared.call.Question.{Question}
 use Rattle.cedar_calls.specs.declared.call.Question.TheVariants as question
 use Rattle.cedar_calls.specs.declared.answer.Answer.{Answer}
 
--- the same change, whatever `max_trial` and search limit it sets and wherever its bytes lie
+-- two changes are the same, whatever `max_trial` and search limit they set and wherever their bytes lie
 abbrev pub IsSameChange : Change → Change → Type 0
 IsSameChange (change.Update k v) (change.Update l w) = (k.now ≡ l.now) × (v ≡ w)
 IsSameChange (change.Insert k v) (change.Insert l w) = (k.now ≡ l.now) × (v ≡ w)
@@ -31,7 +31,7 @@ IsSameChange (change.Reserve n) (change.Reserve m) = n ≡ m
 IsSameChange (change.SetSearchLimit n) (change.SetSearchLimit m) = Unit {0}
 IsSameChange c d = ⊥
 
--- the same question, wherever its bytes lie
+-- two questions are the same, wherever their bytes lie
 abbrev pub IsSameQuestion : Question → Question → Type 0
 IsSameQuestion (question.Exact k) (question.Exact l) = k.now ≡ l.now
 IsSameQuestion (question.Get k) (question.Get l) = k.now ≡ l.now
@@ -55,7 +55,7 @@ IsSameQuestion question.Save question.Save = Unit {0}
 IsSameQuestion question.SaveV1_0 question.SaveV1_0 = Unit {0}
 IsSameQuestion q r = ⊥
 
--- the same call, whatever `max_trial` and search limit it sets and wherever its bytes lie
+-- two calls are the same, whatever `max_trial` and search limit they set and wherever their bytes lie
 abbrev pub IsSameCall : Call → Call → Type 0
 IsSameCall (call.New s) (call.New z) = s.ordered ≡ z.ordered
 IsSameCall (call.Sorted s p) (call.Sorted z q) = (s.ordered ≡ z.ordered) × (entries_of p.now ≡ entries_of q.now)
@@ -67,14 +67,15 @@ IsSameCall (call.Change i c) (call.Change j d) = (i ≡ j) × IsSameChange c d
 IsSameCall (call.Ask i q) (call.Ask j r) = (i ≡ j) × IsSameQuestion q r
 IsSameCall c d = ⊥
 
+-- two lists of calls are the same, one by one (`IsSameCall`)
 abbrev pub AreSameCalls : List Call → List Call → Type 0
 AreSameCalls [] [] = Unit {0}
 AreSameCalls (c ∷ calls) (d ∷ others) = IsSameCall c d × AreSameCalls calls others
 AreSameCalls calls others = ⊥
 
--- Runs agree: two runs of the same calls from the same states, none of them refused for memory or slots, get the same answers, and leave
--- the same states, whatever `max_trial` and the search limit are and whatever the tables are. Where a load is among the calls, layout and limit
--- of slots are the same, since a file is of one layout
+-- two runs of the same calls from the same states, none of them refused for memory or slots, say the same and leave
+-- the same states, whatever `max_trial`, the search limit and the tables are. If a load is among the calls, layout
+-- and limit of slots are the same, since a file is of one layout
 abbrev pub RunsAgree : {A B : Type 0} → List Call → List (Answer A) → List Call → List (Answer B) → Type 0
 RunsAgree calls answers others replies =
     (by_default : Bool) (layout other : LayoutKind) (slots most : ℕ) (before after start end : List Dictionary)

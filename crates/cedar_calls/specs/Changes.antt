@@ -24,7 +24,7 @@ use Rattle.cedar_calls.specs.declared.call.Change.TheVariants as change
 use Rattle.cedar_calls.specs.declared.answer.Changed.{Changed}
 use Rattle.cedar_calls.specs.declared.answer.Changed.TheVariants as changed
 
--- the key is no longer held, and all else is as it was
+-- a key is erased: it isn't held any more, and all else is as it was
 pub record IsErased (before after : Dictionary) (key : List ℕ) : Type 0 where
   pub state : after.state ≡ after_erase before.state key
   pub marks : MarksCut before.marked after.marked key
@@ -32,13 +32,13 @@ pub record IsErased (before after : Dictionary) (key : List ℕ) : Type 0 where
   pub max_trial : after.max_trial ≡ before.max_trial
   pub search_limit : after.search_limit ≡ before.search_limit
 
--- a key was found, if it was held, and removed there: what it held is returned
+-- a key is found, if it is held, and removed there: what it held is returned
 pub record IsErasedFound (before after : Dictionary) (key : List ℕ) (value : Option ℤ) : Type 0 where
   pub told : value ≡ number_at before.state.tree key
   pub erased : IsErased before after key
 
--- some pairs were to be stored: nothing is where one has a fault. Else they are, by updates one after another; or there was no memory or
--- no slot for one whose key wasn't held then, and those before it are
+-- some pairs are to be stored. If one has a fault, nothing is stored. Else they are stored by updates one after
+-- another; or there was no memory or no slot for one whose key isn't held then, and those before it are stored
 pub record IsWholeBuild (layout : LayoutKind) (slots : ℕ) (before after : Dictionary) (pairs : List Entry) (result : Result (Unit {0}) CedarError) : Type 0 where
   pub faulty : IfSome (first_fault pairs) (λ e. result ≡ Err e)
   pub unchanged : IsSome (first_fault pairs) → after ≡ before
@@ -46,7 +46,7 @@ pub record IsWholeBuild (layout : LayoutKind) (slots : ℕ) (before after : Dict
   pub stored : OnOk result (after.state ≡ all_stored before.state pairs)
   pub refused : first_fault pairs ≡ None → IfErr result (IsRefusedBuild slots before after pairs)
 
--- some pairs were to be stored by updates one after another, and all are, or those before one that was refused
+-- some pairs are to be stored by updates one after another, and all are, or those before one that is refused
 pub record IsUpdatedBatch (layout : LayoutKind) (slots : ℕ) (before after : Dictionary) (pairs : List Entry) (result : Result (Unit {0}) RefusedPair) : Type 0 where
   pub updates : IsUpdates layout slots before after pairs result
   pub stored : OnOk result (after.state ≡ all_stored before.state pairs)
@@ -54,8 +54,8 @@ pub record IsUpdatedBatch (layout : LayoutKind) (slots : ℕ) (before after : Di
   pub max_trial : after.max_trial ≡ before.max_trial
   pub search_limit : after.search_limit ≡ before.search_limit
 
--- some keys were to be removed one after another: all are, and for each is said whether it was held then; or there are some, there was
--- no memory to say so, and nothing has changed
+-- some keys are to be removed one after another. All are, and of each it is returned whether it was held then; or
+-- there was no memory for these answers, and nothing has changed
 pub record IsErasedBatch {A : Type 0} (before after : Dictionary) (keys : List (List ℕ)) (result : Result (Vec Bool A) CedarError) : Type 0 where
   pub erasures : IfOk result (λ held. IsErasures before after keys held.items)
   pub held : IfOk result (λ held. held.items ≡ held_in_turn before.state keys)
@@ -65,8 +65,8 @@ pub record IsErasedBatch {A : Type 0} (before after : Dictionary) (keys : List (
   pub search_limit : after.search_limit ≡ before.search_limit
   pub refused : IfErr result (λ e. (e ≡ Memory) × (after ≡ before) × (0 < length keys))
 
--- room for n blocks more was asked for: nothing has changed but how many slots there are, or nothing at all where n blocks were spare
--- already or it was refused
+-- room for n more blocks is asked for. Nothing has changed but how many slots there are, or nothing at all if n
+-- blocks were spare already or it was refused
 pub record IsReserved (slots n : ℕ) (before after : Dictionary) (result : Result (Unit {0}) CedarError) : Type 0 where
   pub state : after.state ≡ before.state
   pub marked : after.marked ≡ before.marked
@@ -81,7 +81,11 @@ pub record IsReserved (slots n : ℕ) (before after : Dictionary) (result : Resu
   pub refused : IfErr result (LacksRoom slots before n)
   pub unchanged : OnErr result (after ≡ before)
 
--- what a change may return of a dictionary of this layout that may have so many slots, and the dictionary after it
+-- what a change may return of a dictionary of this layout with at most `slots` slots, and the dictionary after it: of
+-- an update `IsUpdate`, of an erasure `IsErased`, of a key that is found first `IsErasedFound`, of some keys
+-- `IsErasedBatch`, of those below a prefix `IsErasedUnder`, of all `IsCleared`, of a build `IsWholeBuild`, of a batch
+-- of updates `IsUpdatedBatch`, of `renew` `IsRenewed`, of `try_reserve` `IsReserved`, of `set_search_limit`
+-- `SetsSearchLimit`, and of `shrink_to_fit` `IsShrunk`
 abbrev pub IsChange : {A : Type 0} → LayoutKind → ℕ → Dictionary → Change → Changed A → Dictionary → Type 0
 IsChange layout slots before (change.Update key v) (changed.Updated result) after = IsUpdate layout slots before after key.now v result
 IsChange layout slots before (change.Insert key v) (changed.Inserted result) after =

@@ -10,12 +10,12 @@ use Rattle.cedar_calls.specs.declared.answer.Answer.TheVariants as answer
 use Rattle.cedar_calls.specs.declared.answer.Reply.{Reply}
 use Rattle.cedar_calls.specs.declared.answer.Reply.TheVariants as reply
 
--- the bytes of a file that a reply has
+-- the bytes of the file that a reply has
 abbrev pub bytes_saved : {A : Type 0} → Reply A → Option (List ℕ)
 bytes_saved (reply.Saved (Ok file)) = Some file.items
 bytes_saved _ = None
 
--- What was saved of a dictionary loads as one with its tree and order, whenever that is, if the load returns `Ok`
+-- what was saved of a dictionary loads as one with its tree and its order, in any step that returns `Ok`
 abbrev pub SavesLoadAgain : {A : Type 0} → Reply A → Type 0
 SavesLoadAgain {A} r =
     (layout : LayoutKind) (slots limit : ℕ) (before kept middle after : List Dictionary) (index : ℕ) (d : Dictionary) (q : Question) (bytes : Bor (List ℕ))

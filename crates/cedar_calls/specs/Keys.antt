@@ -1,4 +1,5 @@
--- What a key holds after some changes of a dictionary: only changes of that key have a part in it, the last of them decides.
+-- What a key holds after some changes of a dictionary: only changes of that key have a part in it, and the last of
+-- them decides.
 use Rattle.std.specs.Prelude.{◌≡◌, ◌<◌, ℕ, ℤ, List, [], ◌∷◌, ◌++◌, length, take, map, slice_get}
 use Rattle.std.specs.Prelude.{slice_set, Option, Some, None, IsSome, fold, nat_eq, if◌then◌else◌}
 use Rattle.std.specs.Prelude.{Result, Ok, Err, OnOk, MatchResult}
@@ -46,13 +47,13 @@ held_after key now (change.SetSearchLimit n) = now
 held_after key now (change.UpdateBatch pairs) = last_at key now (faultless_front (entries_of pairs.now))
 held_after key now (change.Build pairs) = kept_at_fault (first_fault (entries_of pairs.now)) now (last_at key now (entries_of pairs.now))
 
--- the trees on the way are sound, as those of dictionaries are
+-- the trees on the way through some changes are sound, as those of dictionaries are
 abbrev pub AreSoundAlong : State → List Change → Type 0
 AreSoundAlong s [] = Unit {0}
 AreSoundAlong s (c ∷ changes) = IsSoundBelow s.tree.children × AreSoundAlong (changed_state s c) changes
 
--- keys stand alone: what a key holds after some changes follows from what it held before, change by change, and of a change that isn't of
--- this key nothing is read
+-- what a key holds after some changes follows from what it held before, change by change (`held_after`). Of a change
+-- of another key nothing is read
 abbrev pub KeysStandAlone : Type 0
 KeysStandAlone = (s : State) (changes : List Change) (key : List ℕ) → AreSoundAlong s changes
     → number_at (fold changed_state s changes).tree key ≡ fold (held_after key) (number_at s.tree key) changes
@@ -63,13 +64,13 @@ KeysStandAlone = (s : State) (changes : List Change) (key : List ℕ) → AreSou
 abbrev pub numbers_at : List ℕ → List Dictionary → List (Option ℤ)
 numbers_at key ds = map (λ d. number_at d.state.tree key) ds
 
--- what a call gave that succeeded, else what was so
+-- what a call that succeeded gave, else what was so
 abbrev pub if_made : {E X Y : Type 0} → Result X E → Y → Y → Y
 if_made (Ok x) made before = made
 if_made (Err e) made before = before
 
--- what a key holds after a change with this result: nothing of it but of this key is read. Of a build that was refused for memory or slots
--- some first pairs count, and of one with a fault none
+-- what a key holds after a change with this result. Of a build that was refused for memory or slots some first pairs
+-- count, never all; of one with a fault none
 abbrev pub IsHeldAfter : {A : Type 0} → List ℕ → Option ℤ → Change → Changed A → Option ℤ → Type 0
 IsHeldAfter key now (change.Update k v) (changed.Updated result) after = after ≡ if_made result (if is_path key k.now then Some v else now) now
 IsHeldAfter key now (change.Insert k v) (changed.Inserted result) after = after ≡ if_made result (if is_path key k.now then Some v else now) now
@@ -94,8 +95,8 @@ IsHeldAfter key now c result after = ⊥
 abbrev pub IsNumberInFile : ℕ → List ℕ → List ℕ → Option ℤ → Type 0
 IsNumberInFile slots bytes key number = (version : ℕ) × (T : Fields) × IsTableFile version slots T bytes × (number ≡ number_at (tree_of T) key)
 
--- what all dictionaries hold at a key after a call, of what they held before: a further one begins with what it was made of, or with none,
--- and where one was dropped the others hold what they held
+-- what all dictionaries hold at a key after a call, by what they held before. A new one begins with what it was made
+-- of, or with nothing. If one was dropped, the others hold what they held
 abbrev pub IsKeyStep : {A : Type 0} → ℕ → List ℕ → List (Option ℤ) → Call → Answer A → List (Option ℤ) → Type 0
 IsKeyStep slots key before (call.New settings) (answer.Made result) after = after ≡ if_made result (before ++ None ∷ []) before
 IsKeyStep slots key before (call.Sorted settings pairs) (answer.Made result) after = after ≡ if_made result (before ++ last_at key None (entries_of pairs.now) ∷ []) before
@@ -108,14 +109,14 @@ IsKeyStep slots key before (call.Change i c) (answer.Changed result) after =
     (number : Option ℤ) × (changed : Option ℤ) × (slice_get before i ≡ Some number) × IsHeldAfter key number c result changed × (after ≡ slice_set before i changed)
 IsKeyStep slots key before c a after = after ≡ before
 
--- what all dictionaries hold at a key after some calls
+-- what all dictionaries hold at a key after some calls, by what they held before
 abbrev pub IsKeyRun : {A : Type 0} → ℕ → List ℕ → List (Option ℤ) → List Call → List (Answer A) → List (Option ℤ) → Type 0
 IsKeyRun slots key before [] [] after = after ≡ before
 IsKeyRun slots key before (c ∷ calls) (a ∷ answers) after = (between : List (Option ℤ)) × IsKeyStep slots key before c a between × IsKeyRun slots key between calls answers after
 IsKeyRun slots key before calls answers after = ⊥
 
--- keys stand alone in any run: what the dictionaries hold at a key after some calls follows from what they held at it before, call by call, and
--- nothing is read of any other key
+-- what the dictionaries of a run hold at a key after some calls follows from what they held at it before, call by
+-- call. Nothing is read of any other key
 abbrev pub KeysStandAloneInRuns : {A : Type 0} → List Call → List (Answer A) → Type 0
 KeysStandAloneInRuns calls answers =
     (layout : LayoutKind) (slots : ℕ) (before after : List Dictionary) (key : List ℕ) → IsRun layout slots before calls answers after

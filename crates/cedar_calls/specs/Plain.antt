@@ -1,4 +1,4 @@
--- What runs return as far as trees go: neither places nor bytes nor settings but the order have a part in it.
+-- What runs return as far as trees go: places, bytes and settings but the order have no part in it.
 use Rattle.std.specs.Prelude.{◌≡◌, Bool, true, false, ℕ, ℤ, List, [], ◌∷◌, ◌++◌, ◌+◌, length, map}
 use Rattle.std.specs.Prelude.{slice_get, slice_set, Option, option_map, Some, None, is_some}
 use Rattle.std.specs.Prelude.{string_bytes, if◌then◌else◌, Result, Ok, Err}
@@ -38,7 +38,7 @@ use Rattle.cedar_calls.specs.declared.answer.Changed.TheVariants as changed
 use Rattle.cedar_calls.specs.declared.answer.Reply.{Reply}
 use Rattle.cedar_calls.specs.declared.answer.Reply.TheVariants as reply
 
--- an answer, as far as trees decide it
+-- an answer as far as trees decide it
 pub data PlainAnswer : Type 0 where
   missing : PlainAnswer
   done : PlainAnswer
@@ -59,17 +59,20 @@ pub data PlainAnswer : Type 0 where
   counted : ℕ → PlainAnswer
   slots_held_of_tree : Option ℕ → PlainAnswer
   measured : ℕ → Option ℕ → PlainAnswer
+  -- an answer of which trees say nothing: all figures but the held slots, and a file's bytes
   unsaid : PlainAnswer
 
+-- what a result says: what `say` makes of its value, or its error
 abbrev pub plain_result : {X : Type 0} → (X → PlainAnswer) → Result X CedarError → PlainAnswer
 plain_result say (Ok x) = say x
 plain_result say (Err e) = refused e
 
--- which pair was refused, if one was
+-- what a batch says: it is done, or which pair was refused
 abbrev pub plain_batch : Result (Unit {0}) RefusedPair → PlainAnswer
 plain_batch (Ok x) = done
 plain_batch (Err refusal) = refused_at refusal.index refusal.error
 
+-- what a change returned, as far as trees decide it
 abbrev pub plain_effect : {A : Type 0} → Changed A → PlainAnswer
 plain_effect (changed.Updated result) = plain_result (λ _. done) result
 plain_effect (changed.Inserted result) = plain_result was result
@@ -85,17 +88,17 @@ plain_effect (changed.UpdatedBatch result) = plain_batch result
 plain_effect (changed.Reserved result) = plain_result (λ _. done) result
 plain_effect changed.SearchLimitSet = done
 
--- how many slots are held, where that is compared: trees alone say it in the default layout
+-- how many slots are held, if that is compared: trees alone say it in the default layout
 abbrev pub comparable_count : Bool → ℕ → Option ℕ
 comparable_count true n = Some n
 comparable_count false n = None
 
--- the other figures depend on places or settings
+-- what a figure says: only the held slots, since the others depend on places or settings
 abbrev pub plain_figure : Bool → Question → ℕ → PlainAnswer
 plain_figure by_default (question.Figure UsedSlots) n = slots_held_of_tree (comparable_count by_default n)
 plain_figure by_default q n = unsaid
 
--- what a question returned. The bytes of a file depend on places.
+-- what a question returned, as far as trees decide it. The bytes of a file depend on places
 abbrev pub plain_reply : {A : Type 0} → Bool → Question → Reply A → PlainAnswer
 plain_reply by_default q (reply.Exact result) = found result
 plain_reply by_default q (reply.Value result) = numbered result
@@ -114,15 +117,17 @@ plain_reply by_default q (reply.IsEmpty result) = held result
 plain_reply by_default q (reply.Stats stats) = measured stats.entries (comparable_count by_default stats.used_node_slots)
 plain_reply by_default q (reply.Saved result) = unsaid
 
+-- what a call that asks a question returned, as far as trees decide it
 abbrev pub plain_reply_to : {A : Type 0} → Bool → Call → Reply A → PlainAnswer
 plain_reply_to by_default (call.Ask index question) result = plain_reply by_default question result
 plain_reply_to by_default c result = unsaid
 
+-- what a load returned, as far as trees decide it
 abbrev pub plain_load : {X : Type 0} → Result X CedarPersistenceError → PlainAnswer
 plain_load (Ok x) = done
 plain_load (Err e) = unloaded (refusal_of e)
 
--- what a call returned
+-- what a call returned, as far as trees decide it
 abbrev pub plain_answer : {A : Type 0} → Bool → Call → Answer A → PlainAnswer
 plain_answer by_default c answer.Missing = missing
 plain_answer by_default c (answer.Made result) = plain_result (λ _. done) result
@@ -131,7 +136,7 @@ plain_answer by_default c answer.Dropped = done
 plain_answer by_default c (answer.Changed result) = plain_effect result
 plain_answer by_default c (answer.Replied result) = plain_reply_to by_default c result
 
--- what some calls returned
+-- what some calls returned, as far as trees decide it
 abbrev pub plain_answers : {A : Type 0} → Bool → List Call → List (Answer A) → List PlainAnswer
 plain_answers by_default [] answers = []
 plain_answers by_default (c ∷ calls) [] = []
@@ -149,36 +154,38 @@ IsMet (refused_at n e) = IsShortage e → ⊥
 IsMet (unloaded r) = IsLacking r → ⊥
 IsMet _ = Unit {0}
 
--- what is said without a fault, else the fault
+-- what is said without a fault, or else the fault
 abbrev pub unless_fault : Option CedarError → PlainAnswer → PlainAnswer
 unless_fault None without = without
 unless_fault (Some e) without = refused e
 
--- the same for a pair at an index
+-- what is said without a fault, or else the fault of the pair at an index
 abbrev pub faulty_at : ℕ → Option CedarError → PlainAnswer → PlainAnswer
 faulty_at n None without = without
 faulty_at n (Some e) without = refused_at n e
 
--- what is so without a fault, else what was so
+-- what is so after a change without a fault, or else what was so before
 abbrev pub kept_at_fault : {X : Type 0} → Option CedarError → X → X → X
 kept_at_fault None before after = after
 kept_at_fault (Some e) before after = before
 
--- of some pairs that are stored one after another, the first of which has this index: which one has a fault
+-- what a batch says of some pairs that are stored one after another, the first of which has this index: it is done,
+-- or which pair has a fault
 abbrev pub batch_says : ℕ → List Entry → PlainAnswer
 batch_says n [] = done
 batch_says n (e ∷ es) = faulty_at n (fault e.0 e.1) (batch_says (n + 1) es)
 
--- those before the one with a fault
+-- the pairs before the first one with a fault
 abbrev pub faultless_front : List Entry → List Entry
 faultless_front [] = []
 faultless_front (e ∷ es) = kept_at_fault (fault e.0 e.1) [] (e ∷ faultless_front es)
 
+-- whether there is no entry
 abbrev pub is_none_left : List Entry → Bool
 is_none_left [] = true
 is_none_left (e ∷ es) = false
 
--- what a change says of a tree, and the tree after it
+-- what a change says of a state
 abbrev pub change_says : State → Change → PlainAnswer
 change_says s (change.Update key v) = unless_fault (fault key.now v) done
 change_says s (change.Insert key v) = unless_fault (fault key.now v) (was (number_at s.tree key.now))
@@ -194,6 +201,7 @@ change_says s (change.UpdateBatch pairs) = batch_says 0 (entries_of pairs.now)
 change_says s (change.Reserve n) = done
 change_says s (change.SetSearchLimit n) = done
 
+-- the state after a change
 abbrev pub changed_state : State → Change → State
 changed_state s (change.Update key v) = kept_at_fault (fault key.now v) s (after_put s key.now v)
 changed_state s (change.Insert key v) = kept_at_fault (fault key.now v) s (after_put s key.now v)
@@ -209,11 +217,11 @@ changed_state s (change.UpdateBatch pairs) = all_stored s (faultless_front (entr
 changed_state s (change.Reserve n) = s
 changed_state s (change.SetSearchLimit n) = s
 
--- entries as texts, and nothing in the place of each whose key isn't UTF-8
+-- each entry in its turn as a text, and nothing instead of one whose key isn't UTF-8
 abbrev pub text_entries_of : List Entry → List (Option Entry)
 text_entries_of es = map (λ e. if is_utf8 e.0 then Some e else None) es
 
--- what a question returns
+-- what a question says of a state
 abbrev pub reply_says : Bool → State → Question → PlainAnswer
 reply_says by_default s (question.Exact key) = found (exact s.tree key.now)
 reply_says by_default s (question.Get key) = numbered (number_at s.tree key.now)
@@ -235,12 +243,12 @@ reply_says by_default s question.IsEmpty = held (is_none_left (walk s.tree))
 reply_says by_default s question.Stats = measured (length (walk s.tree)) (comparable_count by_default (slots_of_tree s.tree))
 reply_says by_default s _ = unsaid
 
--- what is said of the state at an index, if there is one
+-- what is said of the state at an index, or else what is said if there is none
 abbrev pub at_state : {X : Type 0} → Option State → X → (State → X) → X
 at_state None without with_one = without
 at_state (Some s) without with_one = with_one s
 
--- what a call says, and the states after it
+-- what a call says of the states
 abbrev pub call_says : Bool → List State → Call → PlainAnswer
 call_says by_default states (call.New settings) = done
 call_says by_default states (call.Sorted settings pairs) = unless_fault (sorted_fault pairs.now) done
@@ -251,6 +259,7 @@ call_says by_default states (call.Drop index) = at_state (slice_get states index
 call_says by_default states (call.Change index change) = at_state (slice_get states index) missing (λ s. change_says s change)
 call_says by_default states (call.Ask index question) = at_state (slice_get states index) missing (λ s. reply_says by_default s question)
 
+-- the states after a call
 abbrev pub states_after : List State → Call → List State
 states_after states (call.New settings) = states ++ record { tree = empty_tree; ordered = settings.ordered } ∷ []
 states_after states (call.Sorted settings pairs) =
@@ -263,11 +272,12 @@ states_after states (call.Drop index) = at_state (slice_get states index) states
 states_after states (call.Change index change) = at_state (slice_get states index) states (λ s. slice_set states index (changed_state s change))
 states_after states (call.Ask index question) = states
 
--- what some calls say one after another, and the states that they leave
+-- what some calls say one after another
 abbrev pub run_says : Bool → List State → List Call → List PlainAnswer
 run_says by_default states [] = []
 run_says by_default states (c ∷ calls) = call_says by_default states c ∷ run_says by_default (states_after states c) calls
 
+-- the states after some calls
 abbrev pub states_left : List State → List Call → List State
 states_left states [] = states
 states_left states (c ∷ calls) = states_left (states_after states c) calls
@@ -277,12 +287,13 @@ abbrev pub IsLoadless : Call → Type 0
 IsLoadless (call.Load bytes limit) = ⊥
 IsLoadless _ = Unit {0}
 
+-- the states of some dictionaries
 abbrev pub states_of : List Dictionary → List State
 states_of ds = map (λ d. d.state) ds
 
--- Trees alone decide: whatever the layout, the limit of slots, the settings but the order, the marks and the tables, a run of calls without a
--- load, of which none was refused for memory or slots, says what its trees say, and leaves what they leave. How many slots are held is
--- compared where this is asked for, which the default layout allows
+-- a run of calls without a load, of which none was refused for memory or slots, says what `run_says` says of its
+-- states and leaves `states_left`, whatever the layout, the limit of slots, the settings but the order, the marks and
+-- the tables. The held slots are compared where this is asked for, which the default layout allows
 abbrev pub TreesDecide : {A : Type 0} → List Call → List (Answer A) → Type 0
 TreesDecide calls answers =
     (by_default : Bool) (layout : LayoutKind) (slots : ℕ) (before after : List Dictionary) → IsRun layout slots before calls answers after

@@ -27,7 +27,7 @@ use Rattle.cedar_calls.specs.declared.answer.Reply.TheVariants as reply
 abbrev pub Collects : {X : Type 0} → Result X CedarError → (X → Type 0) → Type 0
 Collects result P = MatchResult result P (λ e. e ≡ Memory)
 
--- the same, if there is something to collect: else it isn't refused
+-- what was asked for, or there was no memory to collect it; this only if there is something to collect
 abbrev pub CollectsSome : {X Y : Type 0} → Result X CedarError → (X → Type 0) → List Y → Type 0
 CollectsSome result P items = MatchResult result P (λ e. (e ≡ Memory) × (0 < length items))
 
@@ -43,7 +43,7 @@ abbrev pub in_order : Bool → List Entry → Option (List Entry)
 in_order true es = Some es
 in_order false es = None
 
--- they were collected, or there was no memory for them, which only some entries of ascending labels need
+-- the entries of a range, or there was no memory to collect them; this only if labels ascend and there is an entry
 abbrev pub CollectsRange : {X : Type 0} → Result (Option X) CedarError → (X → List Entry) → Bool → List Entry → Type 0
 CollectsRange result entries ordered es = MatchResult result (λ found. option_map entries found ≡ in_order ordered es) (λ e. (e ≡ Memory) × (ordered ≡ true) × (0 < length es))
 
@@ -51,7 +51,8 @@ CollectsRange result entries ordered es = MatchResult result (λ found. option_m
 abbrev pub bytes_of : ℕ → ℕ
 bytes_of capacity = 10 * capacity + 20 * (capacity / 256) + 514
 
--- a figure. By default each number has a slot of its own, so that the tree alone says how many slots are held
+-- what a figure returns. In the default layout the tree alone says how many slots are held, since each number has a
+-- slot of its own
 abbrev pub IsFigure : LayoutKind → Dictionary → Figure → ℕ → Type 0
 IsFigure layout d UsedSlots n = (n ≡ held_slots d) × (layout ≡ default_layout → n ≡ slots_of_tree d.state.tree)
 IsFigure layout d Capacity n = n ≡ d.capacity
@@ -59,14 +60,14 @@ IsFigure layout d AllocatedBytes n = n ≡ bytes_of d.capacity
 IsFigure layout d SpareBlocks n = n ≡ (d.capacity - d.size) / 256
 IsFigure layout d SearchLimit n = n ≡ d.search_limit
 
--- the figures, all from one moment
+-- all figures, from one moment
 pub record AreStats (layout : LayoutKind) (d : Dictionary) (stats : MemoryStats) : Type 0 where
   pub entries : stats.entries ≡ length (walk d.state.tree)
   pub used : IsFigure layout d UsedSlots stats.used_node_slots
   pub capacity : IsFigure layout d Capacity stats.node_capacity
   pub bytes : IsFigure layout d AllocatedBytes stats.allocated_bytes
 
--- what a dictionary of this layout that may have so many slots replies
+-- what a question returns of a dictionary of this layout with at most `slots` slots
 abbrev pub IsReply : {A : Type 0} → LayoutKind → ℕ → Dictionary → Question → Reply A → Type 0
 IsReply layout slots d (question.Exact key) (reply.Exact found) = found ≡ exact d.state.tree key.now
 IsReply layout slots d (question.Get key) (reply.Value found) = found ≡ number_at d.state.tree key.now

@@ -32,8 +32,8 @@ MissesAt before index after = (slice_get before index ≡ None) × (after ≡ be
 abbrev pub DropsAt : List Dictionary → ℕ → List Dictionary → Type 0
 DropsAt before index after = (d : Dictionary) × (slice_get before index ≡ Some d) × (after ≡ remove before index)
 
--- what a call may return where there are these dictionaries, of one layout and with so many slots each at most, and the dictionaries after
--- it
+-- what a call may return of these dictionaries, of one layout and with at most `slots` slots each, and the
+-- dictionaries after it. Of a change also that its dictionary was valid before it (`IsValid`)
 abbrev pub IsStep : {A : Type 0} → LayoutKind → ℕ → List Dictionary → Call → Answer A → List Dictionary → Type 0
 IsStep layout slots before (call.New settings) (answer.Made result) after = Makes (IsNew settings) before result after
 IsStep layout slots before (call.Sorted settings pairs) (answer.Made result) after = Makes (IsSortedBuild layout slots settings (entries_of pairs.now)) before result after
@@ -49,12 +49,12 @@ IsStep layout slots before (call.Ask index question) (answer.Replied reply) afte
 IsStep layout slots before (call.Ask index question) answer.Missing after = MissesAt before index after
 IsStep layout slots before c a after = ⊥
 
--- one answer for each call, and each call begins with the dictionaries that the one before it left
+-- there is one answer for each call, and each call begins with the dictionaries that the one before it left
 abbrev pub IsRun : {A : Type 0} → LayoutKind → ℕ → List Dictionary → List Call → List (Answer A) → List Dictionary → Type 0
 IsRun layout slots before [] [] after = after ≡ before
 IsRun layout slots before (c ∷ calls) (a ∷ answers) after = (between : List Dictionary) × IsStep layout slots before c a between × IsRun layout slots between calls answers after
 IsRun layout slots before calls answers after = ⊥
 
--- the answers of a run have been added to those that were there
+-- the answers of a run were added to those that were there
 abbrev pub AddsRun : {A : Type 0} → LayoutKind → ℕ → List Dictionary → List Call → List (Answer A) → List (Answer A) → List Dictionary → Type 0
 AddsRun {A} layout slots before calls earlier all after = (answers : List (Answer A)) × (all ≡ earlier ++ answers) × IsRun layout slots before calls answers after

@@ -11,38 +11,40 @@ use Rattle.cedar_cli.specs.declared.command.Verb.{Verb}
 use Rattle.cedar_cli.specs.declared.command.Verb.TheVariants.{Put, Erase, Exact, Segment, Prefixes}
 use Rattle.cedar_cli.specs.declared.command.Verb.TheVariants.{Predict, Entries, Figures}
 
--- what to do, and with which key
+-- what a line asks for: what to do, and with which key
 abbrev pub Order : Type 0
 Order = Verb × List ℕ
 
--- whether a value is from -2147483648 to 2147483647
+-- whether a number is from -2147483648 to 2147483647
 abbrev pub fits_value : ℤ → Bool
 fits_value v = int_le (negsuc 2147483647) v && int_le v (pos 2147483647)
 
--- a number: `+`, `-` or neither, and then one or more digits
+-- the value that a text says: `+`, `-` or neither, and then one or more decimal digits, which lies in -2147483648 to
+-- 2147483647. Leading zeros are allowed
 abbrev pub value_of : List ℕ → Option ℤ
 value_of text =
     if is_filled (without_leading_sign text) && list_all is_digit (without_leading_sign text) && fits_value (signed_digits_value 10 text)
     then Some (signed_digits_value 10 text) else None
 
--- a key: `.` for the empty one, else a nonempty, even number of hexadecimal digits
+-- the key that a text says: `.` for the empty key, or a nonempty, even number of hexadecimal digits of either case
 abbrev pub key_of : List ℕ → Option (List ℕ)
 key_of [] = None
 key_of (b ∷ bs) = if b == 46 && nat_eq (length bs) 0 then Some [] else result_ok (decode_of (b ∷ bs))
 
--- a key alone
+-- the order of a line with a key alone
 abbrev pub with_key : Verb → List ℕ → Option Order
 with_key verb text = option_map (λ key. (verb, key)) (key_of text)
 
+-- whether a byte is a space
 abbrev pub is_space : ℕ → Bool
 is_space b = b == 32
 
--- a key, a space and a value
+-- the order of a line with a key, a space and a value
 abbrev pub with_key_and_value : List ℕ → Option Order
 with_key_and_value text =
     option_and_then (λ key. option_map (λ v. (Put v, key)) (value_of (after_first is_space text))) (key_of (before_first is_space text))
 
--- a line without a key
+-- the order of a line without a key
 abbrev pub alone : ℕ → Option Order
 alone c = if c == 42 then Some (Entries, []) else if c == 35 then Some (Figures, []) else None
 

@@ -1,5 +1,5 @@
--- What a script's run writes, and what it leaves: first of one order, then of the lines of a script,
--- and last of a run that has come to some position in its script.
+-- What a script's run writes, and what it leaves: of one order, of the lines of a script, and of a run that has come
+-- to some position in its script.
 use Rattle.std.specs.Prelude.{◌≡◌, ◌⊎◌, ℕ, ◌<◌, Bool, true, false, if◌then◌else◌, ℤ, List, [], ◌∷◌}
 use Rattle.std.specs.Prelude.{◌++◌, length, Option, Some, None, Result, Err, OnOk, IfErr, IsSome}
 use Rattle.std.specs.Prelude.{MatchOption, codes, decimal, is_some}
@@ -24,14 +24,14 @@ use Rattle.cedar_cli.specs.Lines.{lines_of}
 use Rattle.cedar_cli.specs.View.{View, cut_in, holds_path, put_in, slots_held, view_of}
 use Rattle.text_lines.specs.Written.{WritesFront}
 
--- a pair was at fault, and no call wanted memory or slots
+-- the error is a pair's fault, and no want of memory or slots
 abbrev pub IsPairFault : CedarError → Type 0
 IsPairFault EmptyKey = Unit {0}
 IsPairFault (NulByte at) = Unit {0}
 IsPairFault (InvalidValue v) = Unit {0}
 IsPairFault _ = ⊥
 
--- what is answered to a put, by its pair's fault
+-- what is answered to a put, by its pair's fault: `ok`, or `refused` and the fault with its number
 abbrev pub put_text : Option CedarError → List ℕ
 put_text None = codes "ok"
 put_text (Some EmptyKey) = codes "refused EmptyKey"
@@ -48,38 +48,38 @@ found_text (Some v) n = signed_decimal v ++ 32 ∷ decimal n
 abbrev pub colon_field : ℕ → List ℕ
 colon_field n = decimal n ++ codes ":"
 
--- a token's number, or `-`
+-- the text of a token's number, or `-`
 abbrev pub number_text : Option ℤ → List ℕ
 number_text None = codes "-"
 number_text (Some v) = signed_decimal v
 
--- a token: where it begins, how many bytes it has, and its number
+-- the text of a token: where it begins, how many bytes it has, and its number, as `S:L:V`
 abbrev pub token_text : Token → List ℕ
 token_text t = colon_field t.0 ++ (colon_field t.1 ++ number_text t.2)
 
--- the texts of some things, each after a space
+-- the texts of some things, each behind a space
 abbrev pub spaced_texts : {T : Type 0} → (T → List ℕ) → List T → List ℕ
 spaced_texts text [] = []
 spaced_texts text (thing ∷ things) = (codes " " ++ text thing) ++ spaced_texts text things
 
--- their texts with one space between them, or `none`
+-- the texts of some things with one space between them, or `none`
 abbrev pub joined_texts : {T : Type 0} → (T → List ℕ) → List T → List ℕ
 joined_texts text [] = codes "none"
 joined_texts text (thing ∷ things) = text thing ++ spaced_texts text things
 
--- tokens with one space between them, or `none`
+-- the texts of some tokens with one space between them, or `none`
 abbrev pub tokens_text : List Token → List ℕ
 tokens_text tokens = joined_texts token_text tokens
 
--- what a walk found: a number, and a count of bytes
+-- the text of what a walk found, a number and a count of bytes, as `V:N`
 abbrev pub pair_text : ℤ × ℕ → List ℕ
 pair_text pair = signed_decimal pair.0 ++ (codes ":" ++ decimal pair.1)
 
--- all that it found, with one space between them, or `none`
+-- the texts of all that a walk found with one space between them, or `none`
 abbrev pub pairs_text : List (ℤ × ℕ) → List ℕ
 pairs_text pairs = joined_texts pair_text pairs
 
--- the line of an entry: its key in hexadecimal, its number and byte 10
+-- the line of an entry: its key in lower case hexadecimal, a space, its number and byte 10
 abbrev pub hex_entry_line : Entry → List ℕ
 hex_entry_line entry = encode_lower entry.0 ++ (codes " " ++ (signed_decimal entry.1 ++ 10 ∷ []))
 
@@ -114,7 +114,7 @@ view_after_order s (Some (verb, key)) = s
 -- What a device holds is known or not: `Some` bytes, or `None` where it doesn't report it. Below, `held` is what the
 -- writer held at first, and `holds` what it holds in the end.
 
--- what the key held before is put back: it is taken away again, or holds that value
+-- a put is taken back: the key is erased, or holds what it held before
 abbrev pub IsTakenBack : Option ℤ → List ℕ → Dictionary → Dictionary → Type 0
 IsTakenBack held key before after =
     MatchOption held (after.state ≡ after_erase before.state key) (λ v. fault key v ≡ None → IsSome (number_at before.state.tree key) → after.state ≡ after_put before.state key v)
@@ -123,8 +123,9 @@ IsTakenBack held key before after =
 abbrev pub Obeys : Option Order → View → View → Option (List ℕ) → Option (List ℕ) → Type 0
 Obeys order old new held holds = (new ≡ view_after_order old order) × Appends held holds (reply old order ++ 10 ∷ [])
 
--- What stays when this fault ends a run: all that is seen, but after one of the writer the state alone. A value whose answer can't be
--- written is taken back, and in the reduced layout the numbers that moved into slots for its key stay there.
+-- what stays of what is seen when this fault ends a run: all of it, and after a fault of the writer the state alone.
+-- A value whose answer can't be written is taken back, and in the reduced layout the numbers that moved into slots
+-- for its key stay there
 abbrev pub Stays : ScriptError → View → View → Type 0
 Stays Write old new = new.state ≡ old.state
 Stays fault old new = new ≡ old
@@ -133,13 +134,14 @@ Stays fault old new = new ≡ old
 abbrev pub Disobeys : ScriptError → Option Order → View → View → Option (List ℕ) → Option (List ℕ) → Type 0
 Disobeys fault order old new held holds = Stays fault old new × WritesFront held holds (reply old order ++ 10 ∷ [])
 
--- an order was obeyed, and its answer written whole; or it was not
+-- an order was obeyed, and its answer written whole, if the result is `Ok`; and it was not obeyed by the fault, if it
+-- is `Err`
 pub record Answers (layout : LayoutKind) (order : Option Order) (before after : Dictionary) (held holds : Option (List ℕ)) (result : Result (Unit {0}) ScriptError) : Type 0 where
   pub ok : OnOk result (Obeys order (view_of layout before) (view_of layout after) held holds)
   pub err : IfErr result (λ fault. Disobeys fault order (view_of layout before) (view_of layout after) held holds)
 
--- Lines are answered, or the writer failed, which the tests before a call and after it say; or memory or slots are wanting, and then the
--- writer did not fail. The reader isn't asked.
+-- what a call that answers lines says of its writer: it has failed after `Write`, and is as it was after `Ok` and
+-- after want of memory or slots. The fault is never `Read`
 pub record AnswersOrFails (before after : Bool) (result : Result (Unit {0}) ScriptError) : Type 0 where
   pub unfailed : OnOk result (after ≡ before)
   pub cause : result ≡ Err Write → after ≡ true
@@ -153,16 +155,16 @@ lists_all None = false
 lists_all (Some (Entries, key)) = true
 lists_all (Some (verb, key)) = false
 
--- An order may fail for want of memory: it lists all entries, and so copies keys, or the dictionary has no block spare and may have
--- more slots.
+-- an order may fail for want of memory: it lists all entries (`lists_all`), and so copies keys; or the dictionary has
+-- no block spare and may have more slots
 abbrev pub MayLackMemory : ℕ → Option Order → Dictionary → Type 0
 MayLackMemory slots order d = (lists_all order ≡ true) ⊎ ((d.size ≡ d.capacity) × (d.capacity < slots))
 
--- so may its line, or that line is longer than those that there is always room for
+-- a line may fail for want of memory: it has more than 8,192 bytes, or its order may (`MayLackMemory`)
 abbrev pub LineMayLackMemory : ℕ → List ℕ → Dictionary → Type 0
 LineMayLackMemory slots line d = (8192 < length line) ⊎ MayLackMemory slots (order_of line) d
 
--- this fault may end a run at the first of these lines: if it is want of memory, the line may fail with that
+-- if the fault is want of memory, the first of these lines may fail for it
 abbrev pub MayStop : ℕ → Dictionary → ScriptError → List (List ℕ) → Type 0
 MayStop slots d Memory (line ∷ lines) = LineMayLackMemory slots line d
 MayStop slots d fault lines = Unit {0}
@@ -181,7 +183,8 @@ abbrev pub view_after : View → List (List ℕ) → View
 view_after s [] = s
 view_after s (line ∷ lines) = view_after (view_after_order s (order_of line)) lines
 
--- a dictionary came from one state to another by these lines, and the writer took their answers
+-- what is seen went from `old` to `new` by these lines, and the writer, which held `held`, holds that and their
+-- answers
 abbrev pub Finishes : View → View → Option (List ℕ) → Option (List ℕ) → List (List ℕ) → Type 0
 Finishes old new held holds lines = (new ≡ view_after old lines) × Appends held holds (answers old lines)
 
@@ -190,23 +193,24 @@ abbrev pub IsCutShort : View → List (List ℕ) → List ℕ → Type 0
 IsCutShort s [] part = part ≡ []
 IsCutShort s (line ∷ lines) part = (rest : List ℕ) × (0 < length rest) × (answer s line ≡ part ++ rest)
 
--- Some lines of a script were finished, and no other: their answers were written whole, the next one's was not, and what is seen is theirs as
--- far as the fault lets it stay. Want of memory has a reason in the next line, or no line was finished: room for lines is asked for first.
+-- some lines of a script were finished, and no other: their answers were written whole, the next one's wasn't, and
+-- what is seen is theirs as far as the fault lets it stay. Want of memory has a reason in the next line, or no line
+-- was finished: room for lines is asked for first
 abbrev pub StopsAfter : ℕ → Dictionary → ScriptError → View → View → Option (List ℕ) → Option (List ℕ) → List (List ℕ) → List (List ℕ) → Type 0
 StopsAfter slots d fault old new held holds finished others =
     (part : List ℕ) × Stays fault (view_after old finished) new
     × Appends held holds (answers old finished ++ part) × IsCutShort (view_after old finished) others part
     × ((finished ≡ []) ⊎ MayStop slots d fault others)
 
--- This fault ended a run before its script did: the script's first lines are finished, and no other. Here nothing follows
--- the script, so its last piece is a line without a byte 10 too.
+-- the fault ended a run before its script did: the script's first lines were finished, and no other (`StopsAfter`).
+-- Nothing follows the script, so its last piece is a line without a byte 10 too
 abbrev pub EndsEarly : ℕ → Dictionary → ScriptError → View → View → Option (List ℕ) → Option (List ℕ) → List ℕ → Type 0
 EndsEarly slots d fault old new held holds script =
     (finished : List (List ℕ)) × (others : List (List ℕ)) × (lines_of script ≡ finished ++ others)
     × StopsAfter slots d fault old new held holds finished others
 
--- However a text goes on, its lines are these, and then those of what is left of it. So the finished lines all
--- have their byte 10 in the text: a line that could still grow is not among them.
+-- however a text goes on, its lines are these, and then those of what is left of it. So each finished line has its
+-- byte 10 in the text
 abbrev pub Splits : List ℕ → List (List ℕ) → List ℕ → Type 0
 Splits text finished left = (rest : List ℕ) → lines_of (text ++ rest) ≡ finished ++ lines_of (left ++ rest)
 
@@ -215,7 +219,7 @@ abbrev pub Advances : View → View → Option (List ℕ) → Option (List ℕ) 
 Advances old new held holds text left =
     (finished : List (List ℕ)) × Splits text finished left × Finishes old new held holds finished
 
--- this fault stopped the run in a text: some of its lines are finished, and the next one's answer was not written whole
+-- the fault stopped the run in a text: some of its lines are finished, and the next one's answer wasn't written whole
 abbrev pub Stops : ℕ → Dictionary → ScriptError → View → View → Option (List ℕ) → Option (List ℕ) → List ℕ → Type 0
 Stops slots d fault old new held holds text =
     (finished : List (List ℕ)) × (left : List ℕ) × (part : List ℕ) × Splits text finished left
@@ -225,14 +229,18 @@ Stops slots d fault old new held holds text =
 
 -- ---- the same of dictionaries of a layout, before and after
 
+-- the same as `Finishes` of two dictionaries of a layout
 abbrev pub FinishesLines : LayoutKind → Dictionary → Dictionary → List (List ℕ) → Option (List ℕ) → Option (List ℕ) → Type 0
 FinishesLines layout before after lines held holds = Finishes (view_of layout before) (view_of layout after) held holds lines
 
+-- the same as `EndsEarly` of two dictionaries of a layout
 abbrev pub EndsScript : ℕ → LayoutKind → Dictionary → Dictionary → ScriptError → List ℕ → Option (List ℕ) → Option (List ℕ) → Type 0
 EndsScript slots layout before after fault script held holds = EndsEarly slots after fault (view_of layout before) (view_of layout after) held holds script
 
+-- the same as `Advances` of two dictionaries of a layout
 abbrev pub AdvancesBy : LayoutKind → Dictionary → Dictionary → List ℕ → List ℕ → Option (List ℕ) → Option (List ℕ) → Type 0
 AdvancesBy layout before after text left held holds = Advances (view_of layout before) (view_of layout after) held holds text left
 
+-- the same as `Stops` of two dictionaries of a layout
 abbrev pub StopsIn : ℕ → LayoutKind → Dictionary → Dictionary → ScriptError → List ℕ → Option (List ℕ) → Option (List ℕ) → Type 0
 StopsIn slots layout before after fault text held holds = Stops slots after fault (view_of layout before) (view_of layout after) held holds text

@@ -16,8 +16,8 @@ fault_text Write = codes "cedar: write fault\n"
 fault_text Memory = codes "cedar: out of memory\n"
 fault_text SlotLimit = codes "cedar: slot limit\n"
 
--- What a fault of a script shows of its devices, by the tests before a run (`unread`, of the reader) and after it: a reader or a
--- writer that has failed; or memory or slots were wanting, and then no read of the run failed.
+-- what a fault of a script shows of its devices. After `Read` the reader has failed, after `Write` the writer. After
+-- want of memory or slots the reader has failed exactly if it had before the run
 abbrev pub ShowsCause : Bool → Bool → Bool → ScriptError → Type 0
 ShowsCause unread read written Read = read ≡ true
 ShowsCause unread read written Write = written ≡ true
@@ -33,7 +33,7 @@ EndsBy asked unread read written (Save e) = is_some asked.save ≡ true
 abbrev pub WritesOrFailed : {E : Type 0} → (E → Option (List ℕ)) → Watched E → Watched E → List ℕ → Type 0
 WritesOrFailed contents before after line = Writes contents before after line ⊎ (has_failed after ≡ true)
 
--- a fault is reported: one of the script by its line and status 1, and one of a load or a save by status 3
+-- a fault of a script is reported by its line and status 1, and one of a load or a save by status 3
 abbrev pub IsReported : {E : Type 0} → (E → Option (List ℕ)) → Watched E → Watched E → Fault → ℕ → Type 0
 IsReported contents before after (Script fault) status = (status ≡ 1) × WritesOrFailed contents before after (fault_text fault)
 IsReported contents before after (Load e) status = status ≡ 3

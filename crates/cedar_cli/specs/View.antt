@@ -7,35 +7,40 @@ use Rattle.cedarwood.specs.State.{State, after_put, after_erase}
 use Rattle.cedarwood.specs.Layouts.{LayoutKind, default_layout, reduced_layout}
 use Rattle.cedarwood.specs.Dictionary.{Dictionary, some_numbers}
 
--- its layout, the state that its results come from, and the tree with just those numbers that have slots of their own
+-- what a script sees of a dictionary
 pub record View : Type 0 where
+  -- its layout
   pub layout : LayoutKind
+  -- its tree, and whether labels ascend
   pub state : State
+  -- the tree of marks
   pub marked : Tree
 
--- by default each number has a slot of its own
+-- the tree of marks as a script sees it: by default each number has a slot of its own
 abbrev pub marked_in : LayoutKind → Dictionary → Tree
 marked_in default_layout d = d.state.tree
 marked_in reduced_layout d = d.marked
 
+-- what a script sees of a dictionary of a layout
 abbrev pub view_of : LayoutKind → Dictionary → View
 view_of layout d = record { layout = layout; state = d.state; marked = marked_in layout d }
 
--- how many slots are held: one for the root, one for each nonempty front of a key, and one for each number that has a slot of
--- its own, which by default is each
+-- how many slots are held in a layout: one for the root, one for each prefix of the tree, and one for each number
+-- that has a slot of its own, which by default is each
 abbrev pub slots_in : LayoutKind → View → ℕ
 slots_in default_layout s = slots_of_tree s.state.tree
 slots_in reduced_layout s = 1 + length (prefixes s.state.tree) + length (walk s.marked)
 
+-- how many slots are held of what is seen
 abbrev pub slots_held : View → ℕ
 slots_held s = slots_in s.layout s
 
--- of a tree's numbers those that have slots of their own: by default all, and else those whose paths pass a test
+-- the tree of marks: by default all numbers of a tree, and else those whose paths pass a test
 abbrev pub marked_by : LayoutKind → (List ℕ → Bool) → Tree → Tree
 marked_by default_layout test t = t
 marked_by reduced_layout test t = some_numbers test t
 
--- this state, where a test says which numbers have slots of their own
+-- this state, with marks at the numbers whose paths pass a test
 abbrev pub with_state : View → (List ℕ → Bool) → State → View
 with_state s test state = record { layout = s.layout; state = state; marked = marked_by s.layout test state.tree }
 
@@ -43,21 +48,23 @@ with_state s test state = record { layout = s.layout; state = state; marked = ma
 abbrev pub has_slot : View → List ℕ → Bool
 has_slot s path = is_some (number_at s.marked path)
 
+-- whether a path is held
 abbrev pub holds_path : View → List ℕ → Bool
 holds_path s path = is_some (number_at s.state.tree path)
 
--- whether a path is a shorter front of a key
+-- whether a path is a front of a key, and shorter
 abbrev pub is_proper_front : List ℕ → List ℕ → Bool
 is_proper_front path [] = false
 is_proper_front [] (b ∷ key) = true
 is_proper_front (a ∷ path) (b ∷ key) = a == b && is_proper_front path key
 
--- whether a path has a node, and so is a front of a key that is held
+-- whether a path has a node
 abbrev pub has_node : Tree → List ℕ → Bool
 has_node t path = not (is_bare (node_at t path))
 
--- whether the number at a path has a slot of its own once a key is stored. Over a number none moves. Those of a new key's fronts
--- move into slots, and the new number is put into one where longer keys are held
+-- whether the number at a path has a slot of its own once a key is stored. Over a number none moves. Else the numbers
+-- that have slots keep them, those of the new key's held proper fronts move into slots, and the new number is put
+-- into one if longer keys are held
 abbrev pub has_slot_beside : View → List ℕ → List ℕ → Bool
 has_slot_beside s key path =
     if holds_path s key then has_slot s path

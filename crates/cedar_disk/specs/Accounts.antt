@@ -7,6 +7,6 @@ use Rattle.cedar_disk.specs.declared.account.Account.{Account}
 use Rattle.cedar_disk.specs.Calls.{Call}
 
 module _ {T : Type 0} {r : read.Ghosts T} {w : write.Ghosts T} {s : seek.Ghosts T} where
-  -- the calls on the file, of which the newest comes first
+  -- the calls on the file of an account, the newest first
   abbrev pub calls_of : Account T r w s → List Call
   calls_of account = account.file.history.calls

@@ -6,7 +6,7 @@ use Rattle.std_io.specs.IoError.{error_kind}
 use Rattle.cedar_disk.specs.declared.system.OpenError.{OpenError}
 use Rattle.cedar_disk.specs.declared.system.OpenError.TheVariants.{Io, Memory}
 
--- want of memory as such, and any other error itself
+-- an error of the system of the kind `OutOfMemory` is reported as lack of memory, and any other itself
 pub record TellsKind (error : Error) (gives : OpenError) : Type 0 where
   pub memory : error_kind error ≡ OutOfMemory → gives ≡ Memory
   pub other : error_kind error ≢ OutOfMemory → gives ≡ Io error

@@ -8,6 +8,6 @@ use Rattle.cedar_disk.specs.Accounts.{calls_of}
 use Rattle.cedar_disk.specs.Calls.{Call}
 
 module _ {F A G D : Type 0} {r : read.Ghosts G} {w : write.Ghosts G} {s : seek.Ghosts G} {d : read.Ghosts D} where
-  -- the calls, of which the newest comes first
+  -- the calls on the file of a device, the newest first
   abbrev pub device_calls : FileDevice F A G D r w s d → List Call
   device_calls device = calls_of device.account

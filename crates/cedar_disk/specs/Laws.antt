@@ -3,12 +3,12 @@ use Rattle.std.specs.Prelude.{◌≤◌, ℕ, List, [], ◌∷◌, length}
 use Rattle.std.proofs.Common.{inl, inr, arith}
 use Rattle.cedar_disk.specs.Calls.{Call, MayLeave, LeftSince}
 
--- this moment is one of those since an earlier one
+-- the law of `Device` that this moment is one of those since an earlier one
 abbrev pub counts_now : (calls : List Call) (t : ℕ) (c : List ℕ) → t ≤ length calls → MayLeave calls c → LeftSince calls t c
 counts_now [] t c le now = now
 counts_now (call ∷ earlier) t c le now = inl now
 
--- since this moment there is no other
+-- the law of `Device` that since this moment there is no other
 abbrev pub only_now : (calls : List Call) (c : List ℕ) → LeftSince calls (length calls) c → MayLeave calls c
 only_now [] c left = left
 only_now (call ∷ earlier) c (inl now) = now

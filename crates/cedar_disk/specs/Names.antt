@@ -3,19 +3,19 @@ use Rattle.std.specs.Prelude.{◌≡◌, ◌≢◌, ◌<◌, ◌≤◌, ◌⊎�
 use Rattle.std.specs.Prelude.{if◌then◌else◌, length, nat_lt, ℕ, List, take}
 use Rattle.std.specs.Str.{NoCharPasses}
 
--- what ends the name of a file while it is written
+-- what ends the name of a file while it is written: `.new`
 abbrev pub new_suffix : List ℕ
 new_suffix = codes ".new"
 
--- what ends the name of the file that is to take the place of a store's
+-- what ends the name of the file that is to take the place of a store's: `.cedar-compaction`
 abbrev pub compaction_suffix : List ℕ
 compaction_suffix = codes ".cedar-compaction"
 
--- the path of that file
+-- the path of the file that is to take the place of the one at a path
 abbrev pub compaction_path : List ℕ → List ℕ
 compaction_path path = path ++ compaction_suffix
 
--- What comes before `.new`: nothing, or a full stop and a number of one digit or two, as `.7`.
+-- what comes before `.new` in a name: nothing, or a full stop and a number of one digit or two, as `.7`
 abbrev pub mark_of : ℕ → List ℕ
 mark_of number = if number == 0 then [] else if nat_lt number 10 then 46 ∷ (48 + number) ∷ [] else 46 ∷ (48 + number / 10) ∷ (48 + number % 10) ∷ []
 
@@ -23,15 +23,17 @@ mark_of number = if number == 0 then [] else if nat_lt number 10 then 46 ∷ (48
 abbrev pub HasNoSlash : List ℕ → Type 0
 HasNoSlash name = NoCharPasses (λ c. c == 47) name
 
--- What is kept of a name that further bytes follow: a front, so that both are no longer than the 255 bytes that a name may have; all of
--- it, if it is short enough, and otherwise so little that both are shorter than it.
+-- what is kept of a name that `more` bytes follow: a front, so that both have no more than the 255 bytes that a name
+-- may have. It is all of the name, if that is short enough, and otherwise so little that both are shorter than the
+-- name
 pub record KeepsFront (more : ℕ) (name kept : List ℕ) : Type 0 where
   pub front : kept ≡ take (length kept) name
   pub room : length kept + more ≤ 255
   pub whole : length name + more ≤ 255 → kept ≡ name
   pub other : (kept ≡ name) ⊎ (length kept + more < length name)
 
--- A path beside another one, which it never is: in the same folder, with what is kept of that one's last name, and the suffix.
+-- a path in the same folder as another one: it has what is kept of that one's last name, and the suffix. It is never
+-- the same path
 pub record IsBeside (path beside : List ℕ) : Type 0 where
   pub folder : List ℕ
   pub name : List ℕ
@@ -44,6 +46,6 @@ pub record IsBeside (path beside : List ℕ) : Type 0 where
   pub is : beside ≡ folder ++ (kept ++ (mark_of number ++ new_suffix))
   pub other : beside ≢ path
 
--- a path beside another one, as a fact with one proof
+-- a path is beside another one (`IsBeside`), as a fact with one proof
 abbrev pub LiesBeside : List ℕ → List ℕ → Type 0
 LiesBeside path beside = ∥ IsBeside path beside ∥₁

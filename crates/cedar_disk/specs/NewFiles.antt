@@ -8,14 +8,14 @@ use Rattle.cedar_disk.specs.Calls.{Call, seen_after}
 use Rattle.cedar_disk.specs.NotedFiles.{noted_calls}
 
 module _ {F G D : Type 0} {r : read.Ghosts G} {w : write.Ghosts G} {s : seek.Ghosts G} {d : read.Ghosts D} where
-  -- the calls on it, of which the newest comes first
+  -- the calls on a new file, the newest first
   abbrev pub new_calls : NewFile F G D r w s d → List Call
   new_calls new = noted_calls new.file
 
-  -- the path whose place it is to take, as bytes
+  -- the path whose place a new file is to take, as bytes
   abbrev pub new_path : NewFile F G D r w s d → List ℕ
   new_path new = new.path.now
 
-  -- what was written to it
+  -- what was written to a new file
   abbrev pub new_bytes : NewFile F G D r w s d → List ℕ
   new_bytes new = seen_after (new_calls new)

@@ -3,10 +3,10 @@ use Rattle.std.specs.Prelude.{Bool, List}
 use Rattle.cedar_disk.specs.declared.noted.Noted.{Noted}
 use Rattle.cedar_disk.specs.Calls.{Call}
 
--- the calls on it, of which the newest comes first
+-- the calls on a file, the newest first
 abbrev pub noted_calls : {T : Type 0} → Noted T → List Call
 noted_calls file = file.history.calls
 
--- it lies beside the one that it is to replace
+-- whether a file lies beside the one that it is to replace
 abbrev pub is_beside : {T : Type 0} → Noted T → Bool
 is_beside file = file.is_beside

@@ -5,7 +5,7 @@ use Rattle.cedar_disk.specs.declared.noted.PathCalls.{PathCalls}
 use Rattle.cedar_disk.specs.declared.noted.Place.{Place}
 use Rattle.cedar_disk.specs.Calls.{Call}
 
--- the calls on the file that was made beside, of which the newest comes first
+-- the calls on the file that was made beside the one at a path, the newest first
 abbrev pub path_calls : PathCalls → List Call
 path_calls calls = calls.history.calls
 

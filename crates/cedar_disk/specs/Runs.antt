@@ -9,26 +9,27 @@ use Rattle.cedar_disk.specs.Calls.{rename_call, seen_after, write_call}
 use Rattle.cedar_disk.specs.declared.wrote.Wrote.{Wrote}
 use Rattle.cedar_disk.specs.declared.wrote.Wrote.TheVariants.{Bytes, Nothing, Full, Failed}
 
--- A write of these bytes at this offset, as it is noted: exactly those that the system took, or that any of them may be there. Of one that
--- found no room none are.
+-- a write of these bytes at this offset as it is noted, by what the system took: exactly these bytes; any of them may
+-- be there; or none, if it found no room
 abbrev pub write_by_outcome : ℕ → List ℕ → Wrote → Call
 write_by_outcome at bytes (Bytes n) = write_call at (take n bytes) true
 write_by_outcome at bytes Nothing = refused_call
 write_by_outcome at bytes (Full e) = refused_call
 write_by_outcome at bytes (Failed e) = write_call at bytes false
 
--- of n bytes at this offset some were taken
+-- if the system took some of n bytes at this offset, these are at most n, and the offset is below 2^63
 abbrev pub TookSome : ℕ → ℕ → Wrote → Type 0
 TookSome at n (Bytes count) = (0 < count) × (count ≤ n) × (at < 2 ^ 63)
 TookSome at n Nothing = Unit {0}
 TookSome at n (Full e) = Unit {0}
 TookSome at n (Failed e) = Unit {0}
 
--- Time goes on from the one list to the other: what a crash may leave now, or might have left before, and nothing else.
+-- time goes on from the one list of calls to the other: what a crash may leave now, or might have left before, and
+-- nothing else
 abbrev pub TimePasses : List Call → List Call → Type 0
 TimePasses old new = Elapses (length old) (length new) (LeftSince old) (LeftSince new) (MayLeave new)
 
--- Between these calls nothing was changed but n bytes at this offset, in part or whole.
+-- between two lists of calls nothing was changed but n bytes at this offset, in part or whole
 pub record Spoils (at n : ℕ) (old new : List Call) : Type 0 where
   pub crash : Follows (Torn at n) (MayLeave old) (MayLeave new)
   pub time : TimePasses old new
@@ -36,16 +37,18 @@ pub record Spoils (at n : ℕ) (old new : List Call) : Type 0 where
   pub within : IsTrue (all_within old) → IsTrue (all_within new)
   pub known : IsTrue (is_named_after old) → IsTrue (is_named_after new)
 
--- And these bytes were written there, the first of those n. No call failed but such as changed nothing.
+-- these bytes were written at this offset, as the first of n (`Spoils`), and no call failed but such as changed
+-- nothing
 pub record AreWritten (at n : ℕ) (bytes : List ℕ) (old new : List Call) : Type 0 where
   pub seen : seen_after new ≡ overlay (seen_after old) at bytes
   pub usable : IsTrue (is_usable_after old) → IsTrue (is_usable_after new)
   pub spoils : Spoils at n old new
 
--- Or only the first of them were: for the next there was no room.
+-- only the first of these bytes were written at this offset, and for the next there was no room
 abbrev pub AreWrittenInPart : ℕ → List ℕ → List Call → List Call → Type 0
 AreWrittenInPart at bytes old new = (front : List ℕ) × (length front ≤ length bytes) × AreWritten at (length bytes) front old new
 
--- The file of these bytes was given the name, or not; or it was, and that isn't known to be on the disk.
+-- a file of these bytes wasn't given the name: that call failed, or the sync of the folder behind it did, and then
+-- the name isn't known to be on the disk
 abbrev pub IsUnplaced : List ℕ → List Call → List Call → Type 0
 IsUnplaced bytes old new = (new ≡ rename_call bytes false ∷ old) ⊎ (new ≡ folder_sync_call false ∷ rename_call bytes true ∷ old)

@@ -12,19 +12,20 @@ IsNoFile found = IsFile (file_type found) → ⊥
 abbrev pub found_at : List ℕ → Call
 found_at path = (9, 0, true, path)
 
--- it took these bytes
+-- something that isn't a file took these bytes
 abbrev pub send_call : List ℕ → Call
 send_call bytes = (10, 0, true, bytes)
 
--- a path behind its length, so that where it ends is known whatever follows
+-- a path behind its length, so that its end is known whatever follows
 abbrev pub address : List ℕ → List ℕ
 address path = length path ∷ path
 
--- What the calls show: where it was found, and then all the bytes that it took, in their order.
+-- what the calls on something that isn't a file say: where it was found (`address`), and then all bytes that it took,
+-- in their order
 abbrev pub told_after : List Call → List ℕ
 told_after [] = []
 told_after (call ∷ earlier) = if call.0 == 9 then address call.3 else if call.0 == 10 then told_after earlier ++ call.3 else told_after earlier
 
--- what was found at this path, and isn't a file, has taken exactly these bytes
+-- what was found at this path, and isn't a file, took exactly these bytes
 abbrev pub IsSentTo : List ℕ → List ℕ → List Call → Type 0
 IsSentTo path bytes calls = told_after calls ≡ address path ++ bytes

@@ -5,14 +5,14 @@ use Rattle.cedar_disk.specs.declared.special.Special.{Special}
 use Rattle.cedar_disk.specs.Calls.{Call}
 use Rattle.cedar_disk.specs.Sending.{told_after}
 
--- the calls on it, of which the newest comes first
+-- the calls on something that isn't a file, the newest first
 abbrev pub sent_calls : Sent → List Call
 sent_calls sent = sent.history.calls
 
--- those on one that is open
+-- the calls on something that isn't a file and is open, the newest first
 abbrev pub special_calls : {T : Type 0} → Special T → List Call
 special_calls special = sent_calls special.sent
 
--- what these show
+-- what the calls on something that isn't a file and is open say
 abbrev pub special_told : {T : Type 0} → Special T → List ℕ
 special_told special = told_after (special_calls special)

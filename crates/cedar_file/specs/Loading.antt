@@ -12,30 +12,32 @@ use Rattle.cedar_format.specs.Reading.{IsIo, LacksNoMore, LacksTable}
 use Rattle.cedar_format.specs.Refusal.{CorruptData, refusal, refusal_of}
 use Rattle.cedar_format.specs.Tables.{table_bytes, IsTableFile}
 
--- the bytes are those of the table that was loaded, which is well-formed, in one of the versions; or they are of no
--- well-formed table in any, and the data is corrupt
+-- what the bytes behind a header that passes decide: the table that was loaded is well-formed, and these are its
+-- bytes in one of the versions; or they are those of no well-formed table in any version, and the data is corrupt
 abbrev pub IsDecided : {X : Type 0} → (X → Fields) → ℕ → List ℕ → Result X CedarPersistenceError → Type 0
 IsDecided table slots bytes (Ok x) = (version : ℕ) × IsTableFile version slots (table x) bytes
 IsDecided table slots bytes (Err e) = (refusal_of e ≡ CorruptData) × ((version : ℕ) (T : Fields) → IsTableFile version slots T bytes → ⊥)
 
--- one of the four lists found no room, after the header had passed
+-- one of the four lists found no room after the header had passed
 abbrev pub LacksMemory : {X : Type 0} → ℕ → ℕ → ℕ → List ℕ → Result X CedarPersistenceError → Type 0
 LacksMemory layout slots limit bytes answer =
     let h = header_at (take 88 bytes) in
     IsErrAnd answer (LacksTable h) × (header_refusal layout (take 88 bytes) ≡ None) × (size_refusal slots limit h ≡ None)
 
--- the first refusal, if there is one, else whether the bytes are those of a well-formed table; or a list found no room
+-- a load returns the first refusal of `header_answer`; without one, what the bytes decide (`IsDecided`), or that a
+-- list found no room after the header had passed (`LacksMemory`)
 abbrev pub LoadAnswers : {X : Type 0} → (X → Fields) → LayoutKind → ℕ → ℕ → List ℕ → Result X CedarPersistenceError → Type 0
 LoadAnswers table kind slots limit bytes answer =
     LacksMemory (layout_byte kind) slots limit bytes answer
     ⊎ MatchOption (header_answer (layout_byte kind) slots limit bytes) (IsDecided table slots bytes answer) (λ r. refusal answer ≡ Some r)
 
--- something with a table was loaded of a source that had `before` left and now has `after`; `failed` is whether a read of it failed so far
+-- all that a load promises of a source that had `before` left and has `after` now. Whatever is loaded has the fields
+-- that `table` says. `failed` is whether a read of the source has failed so far
 pub record LoadsBy {X : Type 0} (table : X → Fields) (kind : LayoutKind) (slots limit : ℕ) (before after : Option (List ℕ)) (failed : Bool) (result : Result X CedarPersistenceError) : Type 0 where
-  -- whatever the reader does, a table comes only with just its bytes, and it is well-formed
+  -- whatever the source does, a table comes only with exactly its bytes, and it is well-formed
   pub bytes : IfOk result (λ x. (version : ℕ) × IsVersion version × Consumes before after (table_bytes version (table x)))
   pub formed : IfOk result (λ x. IsWellFormed slots (table x))
-  -- a reader that reports its bytes and doesn't fail, as bytes in memory, gets the result that they decide
+  -- a source that reports its bytes and doesn't fail, as bytes in memory, gets the result that they decide
   pub answer : IfSome before (λ bytes. failed ≡ false → LoadAnswers table kind slots limit bytes result)
   pub io : IfErr result (λ e. IsIo e → failed ≡ true)
   pub lacks : IfErr result (LacksNoMore (Passes (layout_byte kind) slots limit before))

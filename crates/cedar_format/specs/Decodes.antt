@@ -8,13 +8,14 @@ use Rattle.cedar_format.specs.Format.{listed_bytes, listed_in, DecodeAnswers}
 use Rattle.cedar_format.specs.Format.{IsFile, IsHeader, Passes}
 use Rattle.cedar_format.specs.Reading.{IsIo, LacksNoMore}
 
--- fields were read of a source that had `before` left and now has `after`; `failed` is whether a read of it failed so far
+-- all that a decoding promises of a source that had `before` left and has `after` now. `failed` is whether a read of
+-- the source has failed so far
 pub record DecodesBy {A : Type 0} (layout slots limit : ℕ) (before after : Option (List ℕ)) (failed : Bool) (result : Result (Decoded A) CedarPersistenceError) : Type 0 where
-  -- whatever the reader does, fields come only with just their bytes
+  -- whatever the source does, fields come only with exactly their bytes
   pub bytes : IfOk result (λ d. (front : List ℕ) × IsHeader layout front d.header
       × Consumes before after (front ++ listed_bytes (listed_in d.header) d.nodes.items d.n_infos.items d.blocks.items d.reject.items))
   pub file : IfOk result (λ d. IsFile slots limit d.header d.nodes.items d.n_infos.items d.blocks.items d.reject.items)
-  -- a reader that reports its bytes and doesn't fail gets the first refusal, if there is one
+  -- a source that reports its bytes and doesn't fail gets the first refusal, if there is one
   pub answer : IfSome before (λ bytes. failed ≡ false → DecodeAnswers layout slots limit bytes result)
   pub at_end : OnOk result (failed ≡ false → IsAtEnd after)
   pub io : IfErr result (λ e. IsIo e → failed ≡ true)

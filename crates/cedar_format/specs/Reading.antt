@@ -1,4 +1,4 @@
--- What reads and writes say of the bytes that a reader has left and a writer holds, where those are known.
+-- What reads and writes say of the bytes that a source has left and a writer holds, where those are known.
 use Rattle.std.specs.Prelude.{ℕ, ◌≡◌, ◌<◌, ◌/◌, ◌⊎◌, Bool, true, false, List, length, take, Option}
 use Rattle.std.specs.Prelude.{Some, None, ⊤, Result, IfErr, IfOk, MatchResult}
 use Rattle.std.specs.Io.KnownBytes.{Consumes}
@@ -13,50 +13,51 @@ abbrev pub EndsWithin : Option (List ℕ) → ℕ → Type 0
 EndsWithin None n = ⊤
 EndsWithin (Some bytes) n = length bytes < n
 
--- why n bytes could not be read: the reader failed, or fewer than n were left
+-- why n bytes couldn't be read: the reader failed, or fewer than n were left
 abbrev pub Misses : Option (List ℕ) → Bool → ℕ → CedarPersistenceError → Type 0
 Misses left failed n (Io cause) = failed ≡ true
 Misses left failed n Truncated = failed ≡ false → EndsWithin left n
 Misses left failed n _ = ⊥
 
--- the device failed
+-- the error is `Io`: the device failed
 abbrev pub IsIo : CedarPersistenceError → Type 0
 IsIo (Io cause) = ⊤
 IsIo _ = ⊥
 
--- where a success or an end of the input is returned, no read was broken off
+-- if a success or an end of the input is returned, no read was broken off
 abbrev pub TellsBreaks : {X : Type 0} → Bool → Bool → Result X CedarPersistenceError → Type 0
 TellsBreaks old new answer = MatchResult answer (λ x. new ≡ old) (λ e. e ≡ Truncated → new ≡ old)
 
--- `len` bytes were read as one thing of a source that had `before` left and now has `after`, or they couldn't be read
+-- so many bytes (`len`) were read as one thing of a source that had `before` left and has `after` now, or they
+-- couldn't be read. A source that has failed stays so
 pub record ReadsBy {X : Type 0} (bytes_of : X → List ℕ) (len : ℕ) (before after : Option (List ℕ)) (failed_before failed_after : Bool) (result : Result X CedarPersistenceError) : Type 0 where
   pub bytes : IfOk result (λ x. Consumes before after (bytes_of x))
   pub misses : IfErr result (Misses before failed_after len)
   pub failed : failed_before ≡ true → failed_after ≡ true
 
--- memory was refused
+-- the error is `AllocationFailed`: memory was refused
 abbrev pub IsLack : CedarPersistenceError → Type 0
 IsLack (AllocationFailed n) = ⊤
 IsLack _ = ⊥
 
--- what a byte behind the end makes a read return, or a fault there
+-- a byte was left behind the end, or the reader failed there
 abbrev pub Trails : Option (List ℕ) → Bool → CedarPersistenceError → Type 0
 Trails left failed (Io cause) = failed ≡ true
 Trails None failed TrailingData = ⊤
 Trails (Some bytes) failed TrailingData = 0 < length bytes
 Trails left failed _ = ⊥
 
--- one of the four tables had no room, in their order of size
+-- the error is `AllocationFailed` with the length of one of the four lists of the header h
 abbrev pub LacksTable : Header → CedarPersistenceError → Type 0
 LacksTable h (AllocationFailed n) = (n ≡ h.capacity) ⊎ ((n ≡ h.capacity / 256) ⊎ (n ≡ h.reject_len))
 LacksTable h _ = ⊥
 
--- where memory was refused, it was for one of the four tables of a header with this property
+-- if memory was refused, it was for one of the four lists of a header that `passed` holds of
 abbrev pub LacksNoMore : (Header → Type 0) → CedarPersistenceError → Type 0
 LacksNoMore passed (AllocationFailed n) = (h : Header) × passed h × ((n ≡ h.capacity) ⊎ ((n ≡ h.capacity / 256) ⊎ (n ≡ h.reject_len)))
 LacksNoMore passed _ = ⊤
 
--- these bytes come first
+-- these bytes come first, if the source reports its bytes
 abbrev pub BeginsWithFront : Option (List ℕ) → List ℕ → Type 0
 BeginsWithFront None front = ⊤
 BeginsWithFront (Some bytes) front = take (length front) bytes ≡ front

@@ -14,11 +14,11 @@ use Rattle.cedar_format.specs.Format.{filled_list, header_bytes, listed_slots}
 use Rattle.cedar_format.specs.Format.{listed_bytes, FitsHeader, IsVersion}
 use Rattle.cedar_format.specs.Records.{FitsBody}
 
--- how many slots a table's file of this version lists
+-- how many slots the file of a table lists in this version
 abbrev pub slots_listed : ℕ → Fields → ℕ
 slots_listed version T = listed_slots version (capacity_of T) (size_of T)
 
--- what the header of this version, which is the minor one, says of a table
+-- what the header of this version says of a table
 abbrev pub header_of : ℕ → Fields → Header
 header_of version T = record {
   minor = version;
@@ -36,7 +36,7 @@ header_of version T = record {
   entries = T.entries;
 }
 
--- the bytes of a table: its fields one after another, as far as this version lists them
+-- the bytes of a table's header and of its four lists, as far as this version lists them
 abbrev pub table_bytes : ℕ → Fields → List ℕ
 table_bytes version T =
     header_bytes (layout_byte T.layout) (header_of version T)
@@ -47,7 +47,7 @@ pub record FitsTable (version : ℕ) (T : Fields) : Type 0 where
   pub header : FitsHeader (header_of version T)
   pub body : FitsBody (take (slots_listed version T) T.places.slots.nodes) (take (slots_listed version T) T.places.slots.infos) (take (slots_listed version T / 256) T.places.blocks.records) T.places.reject
 
--- the parts have their sizes, and what this version doesn't list is blank
+-- the parts of the table have their sizes, and what this version doesn't list is blank
 pub record IsListed (version : ℕ) (T : Fields) : Type 0 where
   pub shaped : Shaped T.places
   pub nodes : T.places.slots.nodes ≡ filled_list blank_node (capacity_of T) (take (slots_listed version T) T.places.slots.nodes)
@@ -74,7 +74,7 @@ file_fields kind h nodes infos blocks reject = record {
   };
 }
 
--- the bytes are those of the well-formed table T, which may have `slots` slots, in this version
+-- the bytes are those of T in this version; T is well-formed for `slots` slots, and fits
 pub record IsTableFile (version slots : ℕ) (T : Fields) (bytes : List ℕ) : Type 0 where
   pub known : IsVersion version
   pub formed : IsWellFormed slots T

@@ -2,15 +2,15 @@
 use Rattle.std.specs.Prelude.{ℕ, Bool, true, ◌&&◌, ◌==◌, not, List, length, Result, Ok, Err}
 use Rattle.cedar_format.specs.declared.watched.Watched.{Watched}
 
--- the reader or writer inside
+-- the reader or writer inside a `Watched`
 abbrev pub device_of : {D : Type 0} → Watched D → D
 device_of w = w.device
 
--- whether one of its calls failed so far
+-- whether one of its calls has failed so far
 abbrev pub has_failed : {D : Type 0} → Watched D → Bool
 has_failed w = w.failed
 
--- whether one of its reads was broken off so far: by a fault that is neither an end of the input nor an interruption
+-- whether one of its reads was broken off so far, by a fault that is neither an end of the input nor an interruption
 abbrev pub is_broken : {D : Type 0} → Watched D → Bool
 is_broken w = w.broken
 

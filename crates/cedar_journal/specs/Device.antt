@@ -4,49 +4,51 @@ use Rattle.std.specs.Prelude.{take, drop, Result, IsErrOf}
 use Rattle.cedar_journal.specs.declared.device.DeviceError.{DeviceError}
 use Rattle.cedar_journal.specs.declared.device.DeviceError.TheVariants.{Failed, NoRoom}
 
--- new is old with these bytes at this offset
+-- a file is what another one was, with these bytes at this offset
 abbrev pub Holds : List ℕ → ℕ → List ℕ → List ℕ → Type 0
 Holds old at bytes new = new ≡ take at old ++ bytes ++ drop (at + length bytes) old
 
--- after a write of n bytes that a crash cuts short: any bytes in the range and past the old end, the same elsewhere. The old end may be
--- in front of the range, where a write past the end wasn't on the disk yet.
+-- what a file may be after a write of n bytes that a crash cuts short: any bytes in the range and past the old end,
+-- and elsewhere as it was. The old end may be in front of the range, if a write past the end wasn't on the disk yet
 pub record Torn (at n : ℕ) (old new : List ℕ) : Type 0 where
   pub before : take (min at (length old)) new ≡ take at old
   pub after : drop (at + n) new ≡ drop (at + n) old
   pub no_shorter : length old ≤ length new
   pub no_longer : length new ≤ max (length old) (at + n)
 
--- after a cut: some length between. What was shorter before, since a write past the end wasn't on the disk, stays.
+-- what a file may be after a cut that a crash cuts short: some length between the two. What was shorter before, since
+-- a write past the end wasn't on the disk, stays so
 pub record Cut (n : ℕ) (old new : List ℕ) : Type 0 where
   pub no_shorter : min n (length old) ≤ length new
   pub front : take (length new) old ≡ new
 
--- each new outcome of a crash is an old outcome after a step
+-- what a crash may leave now, it might have left before, except for this step
 abbrev pub Follows : (List ℕ → List ℕ → Type 0) → (List ℕ → Type 0) → (List ℕ → Type 0) → Type 0
 Follows step old new = (c : List ℕ) → new c → (d : List ℕ) × old d × step d c
 
--- the two have the same first bytes, so many
+-- two files have the same first n bytes
 abbrev pub HasFront : ℕ → List ℕ → List ℕ → Type 0
 HasFront n file c = take n c ≡ take n file
 
--- a crash leaves this and nothing else
+-- a crash leaves this file and nothing else
 abbrev pub Only : List ℕ → (List ℕ → Type 0) → Type 0
 Only file outcomes = (c : List ℕ) → outcomes c → c ≡ file
 
--- Time goes on: a crash since t might have left what it might have left before, or what it may leave now.
+-- time goes on in a device's call: what a crash since t might have left now, it might have left before, or it is what
+-- a crash may leave now
 pub record Elapses (before now : ℕ) (past since : ℕ → List ℕ → Type 0) (may_leave : List ℕ → Type 0) : Type 0 where
   pub later : before ≤ now
   pub nothing_else : (t : ℕ) (c : List ℕ) → t ≤ before → since t c → past t c ⊎ may_leave c
   pub keeps : (t : ℕ) (c : List ℕ) → t ≤ before → past t c → since t c
 
--- A crash at any moment since old leaves a file that has P.
+-- a crash at any moment since `old` leaves a file that P holds of
 pub record LeavesOnly {D : Type 0} (moment : D → ℕ) (left_since : D → ℕ → List ℕ → Type 0) (old new : D) (P : List ℕ → Type 0) : Type 0 where
   pub later : moment old ≤ moment new
   pub each : (c : List ℕ) → left_since new (moment old) c → P c
-  -- for a run that began earlier
+  -- what a crash since an earlier moment t might have left, it might have left by then, or P holds of it
   pub before : (t : ℕ) (c : List ℕ) → t ≤ moment old → left_since new t c → left_since old t c ⊎ P c
 
--- `Failed` is reported only where the disk has failed since, and `NoRoom` only where a write has found no room
+-- `Failed` is reported only if the disk has failed since, and `NoRoom` only if a write has found no room
 pub record HasCause {T : Type 0} (before now : ℕ) (result : Result T DeviceError) : Type 0 where
   pub later : before ≤ now
   pub failed : IsErrOf result Failed → before < now

@@ -3,7 +3,7 @@ use Rattle.std.specs.Prelude.{ℕ, ◌-◌, List, [], ◌∷◌, ◌++◌, lengt
 use Rattle.cedar_journal.specs.declared.format.Format.TheVariants.{Summed}
 use Rattle.cedar_journal.specs.Files.{journal_header}
 
--- the file of these records
+-- the bytes of a file of these records
 abbrev pub image_of : List ℕ → List ℕ
 image_of records = journal_header Summed ++ (records ++ 0 ∷ [])
 

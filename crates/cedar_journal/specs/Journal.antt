@@ -6,14 +6,15 @@ use Rattle.cedar_journal.specs.Device.{Only}
 use Rattle.cedar_journal.specs.Files.{IsWholeFront, with_payload, file_payloads}
 use Rattle.cedar_journal.specs.Formats.{frame_of}
 
--- The file is a header that names this format, whole records, a closed gate and whatever is behind that, all of it on the disk. The records
--- end here.
+-- the file is a header that names this format, whole records, a closed gate and whatever is behind that, all of it on
+-- the disk. The records end at `end`
 pub record IsSettled {D : Type 0} (seen : D → List ℕ) (may_leave : D → List ℕ → Type 0) (device : D) (format : Format) (end : ℕ) : Type 0 where
   pub split : seen device ≡ take end (seen device) ++ 0 ∷ drop (end + 1) (seen device)
   pub front : IsWholeFront format (take end (seen device))
   pub durable : Only (seen device) (may_leave device)
 
--- and the closed gate is followed by a record of this payload, with a closed gate of its own behind it
+-- the file is settled (`IsSettled`), and its closed gate is followed by the rest of a record of this payload, with a
+-- closed gate of its own behind it
 pub record IsStaged {D : Type 0} (seen : D → List ℕ) (may_leave : D → List ℕ → Type 0) (device : D) (format : Format) (end : ℕ) (payload : List ℕ) : Type 0 where
   pub settled : IsSettled seen may_leave device format end
   pub rest : List ℕ

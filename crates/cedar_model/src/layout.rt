@@ -14,6 +14,7 @@ pub enum Stored {
 
 /// How a node's base and number are kept in its base field.
 pub trait Layout {
+    /// Which layout it is.
     ghost kind: { LayoutKind };
 
     /// Returns whether a node that owns no slot keeps its number in its own base field.

@@ -7,7 +7,7 @@ use Rattle.cedar_plan.specs.declared.plan.Plan.{Plan}
 use Rattle.cedar_plan.specs.declared.plan.Step.{Step}
 use Rattle.cedar_plan.specs.declared.plan.TheConstants.{CUT}
 
--- the header of a new journal, and the closed gate behind it
+-- the bytes of the header of a new journal, with a closed gate behind it
 abbrev pub header : List ℕ
 header = 1 ∷ header_frame Summed
 
@@ -15,9 +15,10 @@ header = 1 ∷ header_frame Summed
 abbrev pub work_of : List ℕ → Step → Work
 work_of bytes s = if s.kind == CUT then cut_to s.at else write_to s.at (take s.length (drop s.from bytes))
 
+-- the steps of a plan
 abbrev pub steps_of : Plan → List Step
 steps_of p = take p.count (p.first ∷ p.second ∷ p.third ∷ p.fourth ∷ [])
 
--- what a plan of these bytes does
+-- what a plan does that has these bytes
 abbrev pub works_of : List ℕ → Plan → List Work
 works_of bytes p = map (work_of bytes) (steps_of p)

@@ -22,17 +22,17 @@ after_call s (call.Batch changes) = all_changed s (changes_told changes.now)
 after_call s call.Compact = s
 after_call s (call.Rule compaction) = s
 
--- what an error of a change says came of it
+-- what came of a change that returned this error
 abbrev pub outcome_of : DurableError → Outcome
 outcome_of (error.Device e) = Failed
 outcome_of _ = Nothing
 
--- what an error of a compaction says
+-- what came of a compaction that returned this error
 abbrev pub outcome_of_compaction : CompactError → Outcome
 outcome_of_compaction compact.Failed = Failed
 outcome_of_compaction _ = Nothing
 
--- what an erasure says that found its key, or didn't
+-- what came of an erasure, by whether it found its key
 abbrev pub outcome_of_erasure : Bool → Outcome
 outcome_of_erasure true = Made
 outcome_of_erasure false = Nothing
@@ -43,37 +43,40 @@ pub record Point (D : Type 0) : Type 0 where
   pub held : State
   pub failed : Bool
 
+-- a store as a point
 abbrev pub point_of : {T A D : Type 0} → (T → State) → Store T A D → Point D
 point_of state store = record { device = store.journal.device; held = state store.words; failed = store.failed }
 
--- The dictionary after a call, which would make this state of it.
+-- the dictionary after a call with this outcome, which would make the state `after` of it
 abbrev pub held_once : Outcome → State → State → State
 held_once Made held after = after
 held_once Nothing held after = held
 held_once Failed held after = after
 
--- what counts for sure after it
+-- what counts for sure after a call with this outcome, which would make the state `after` of the dictionary
 abbrev pub sure_once : Outcome → State → State → State
 sure_once Made sure after = after
 sure_once Nothing sure after = sure
 sure_once Failed sure after = sure
 
+-- whether the store has failed after a call with this outcome
 abbrev pub failed_once : Outcome → Bool → Bool
 failed_once Made failed = false
 failed_once Nothing failed = failed
 failed_once Failed failed = true
 
--- what may be there during a call besides what counts for sure: a store that has failed makes no change
+-- what a crash may leave during a call besides what counts for sure. A store that has failed makes no change
 abbrev pub under_way : Bool → State → State → State
 under_way true held after = held
 under_way false held after = after
 
--- A crash leaves a file that represents what counts for sure, or the dictionary. These are one, unless the store has failed.
+-- a crash leaves a file that represents what counts for sure, or the dictionary. These are one, unless the store has
+-- failed
 pub record IsKnown {D : Type 0} (may_leave : D → List ℕ → Type 0) (sure : State) (p : Point D) : Type 0 where
   pub one : p.failed ≡ false → sure ≡ p.held
   pub left : (file : List ℕ) → may_leave p.device file → IsEither sure p.held file
 
--- A call that would make this state of the dictionary: what it leaves, and what a crash at any moment of it does.
+-- what a call leaves that would make the state `after` of the dictionary, and what a crash at any moment of it leaves
 pub record IsCallStep {D : Type 0} (moment : D → ℕ) (left_since : D → ℕ → List ℕ → Type 0) (may_leave : D → List ℕ → Type 0) (old : Point D) (after : State) (outcome : Outcome) (new : Point D) : Type 0 where
   pub held : new.held ≡ held_once outcome old.held after
   pub failed : new.failed ≡ failed_once outcome old.failed

@@ -8,7 +8,8 @@ use Rattle.cedar_slots.specs.declared.blocks.BlockType.{BlockType}
 use Rattle.cedar_slots.specs.declared.blocks.BlockType.TheVariants.{Open, Closed, Full}
 use Rattle.cedar_slots.specs.Ring.{first_of, occurs, Ring}
 
--- the blocks' records, the heads of their lists, and what the lists go by
+-- the records of all blocks, the heads of their three lists, how many blocks are in use (`active`), and how many
+-- failed searches close a block (`max_trial`)
 pub record BlockFields : Type 0 where
   pub records : List BlockRecord
   pub full_head : ℤ
@@ -17,54 +18,62 @@ pub record BlockFields : Type 0 where
   pub active : ℕ
   pub max_trial : ℤ
 
--- a block that is not in use
+-- the record of a block that is not in use
 abbrev pub blank_block : BlockRecord
 blank_block = record { prev = pos 0; next = pos 0; num = pos 256; reject = pos 257; trial = pos 0; e_head = pos 0 }
 
+-- the record of block b; a blank one behind the end
 abbrev pub block_at : List BlockRecord → ℕ → BlockRecord
 block_at blocks b = slice_index_or blocks b blank_block
 
+-- the number of the block that block b names as the next one in its list
 abbrev pub next_at : List BlockRecord → ℕ → ℤ
 next_at blocks b = (block_at blocks b).next
 
+-- the number of the block that block b names as the one before it in its list
 abbrev pub prev_at : List BlockRecord → ℕ → ℤ
 prev_at blocks b = (block_at blocks b).prev
 
--- the block b comes after the block a
+-- block b comes after block a: each names the other
 abbrev pub BlockLink : List BlockRecord → ℕ → ℕ → Type 0
 BlockLink blocks a b = (next_at blocks a ≡ pos b) × (prev_at blocks b ≡ pos a)
 
+-- the records once block b names z as the next one
 abbrev pub set_next : List BlockRecord → ℕ → ℤ → List BlockRecord
 set_next blocks b z = slice_set blocks b (record (block_at blocks b) { next = z })
 
+-- the records once block b names z as the one before it
 abbrev pub set_prev : List BlockRecord → ℕ → ℤ → List BlockRecord
 set_prev blocks b z = slice_set blocks b (record (block_at blocks b) { prev = z })
 
--- the blocks once b comes after a
+-- the records once block b comes after block a
 unfoldable pub linked_blocks : List BlockRecord → ℕ → ℕ → List BlockRecord
 linked_blocks blocks a b = set_prev (set_next blocks a (pos b)) b (pos a)
 
+-- the head of a list: the number of its first block, 0 where the list is empty
 abbrev pub head_of : BlockFields → BlockType → ℤ
 head_of blocks Open = blocks.open_head
 head_of blocks Closed = blocks.closed_head
 head_of blocks Full = blocks.full_head
 
--- a record without its links
+-- what a block counts: its record without links
 abbrev pub counts_of : BlockRecord → Counts
 counts_of block = record { num = block.num; reject = block.reject; trial = block.trial; e_head = block.e_head }
 
+-- what block b counts
 abbrev pub counts_at : List BlockRecord → ℕ → Counts
 counts_at blocks b = counts_of (block_at blocks b)
 
--- what the block b counts while all of its slots are free
+-- what block b counts while all of its slots are free
 abbrev pub fresh_counts : ℕ → Counts
 fresh_counts b = record { num = pos 256; reject = pos 257; trial = pos 0; e_head = pos (256 * b) }
 
--- the list that a block's counts name
+-- the list that a block's counts name: the full one if no slot is free, the closed one if one slot is free or as many
+-- searches have failed as close a block, and else the open one
 abbrev pub kind_of : ℤ → Counts → BlockType
 kind_of max_trial counts = cond (int_eq counts.num (pos 0)) Full (cond (int_eq counts.num (pos 1) || int_eq counts.trial max_trial) Closed Open)
 
--- the members of a list's ring: block 0 closes the full ring
+-- the members of a list's ring: those of the list, and in the full ring block 0 besides
 abbrev pub ring_of : BlockType → List ℕ → List ℕ
 ring_of Open xs = xs
 ring_of Closed xs = xs
@@ -92,12 +101,13 @@ pub record ListRings (blocks : BlockFields) (lists : BlockType → List ℕ) : T
   pub is_linked : (list : BlockType) → Ring (BlockLink blocks.records) (ring_of list (lists list))
   pub headed : (list : BlockType) → head_of blocks list ≡ pos (first_of (lists list))
 
--- the lists hold each active block but block 0, each in the list that its counts name
+-- the lists have each block in use but block 0, each in the list that its counts name, and no other block
 pub record BlockLists (blocks : BlockFields) (lists : BlockType → List ℕ) : Type 0 where
   pub rings : ListRings blocks lists
   pub listed : (b : ℕ) → 0 < b → b < blocks.active → occurs b (lists (kind_of blocks.max_trial (counts_at blocks.records b))) ≡ 1
   pub only : (list : BlockType) (b : ℕ) → 0 < occurs b (lists list) → (0 < b) × (b < blocks.active) × (kind_of blocks.max_trial (counts_at blocks.records b) ≡ list)
 
+-- there are three such lists (`BlockLists`)
 abbrev pub HasLists : BlockFields → Type 0
 HasLists blocks = (lists : BlockType → List ℕ) × BlockLists blocks lists
 
@@ -113,7 +123,7 @@ KeepsLinks before after = (b : ℕ) → (next_at after b ≡ next_at before b) �
 abbrev pub SameFrom : ℕ → List BlockRecord → List BlockRecord → Type 0
 SameFrom n before after = (b : ℕ) → n ≤ b → block_at after b ≡ block_at before b
 
--- block 0 is in use, and each block in use is there
+-- block 0 is in use, each block in use is there, and there are at most 2^22 blocks
 pub record Sized (blocks : BlockFields) : Type 0 where
   pub some : 0 < blocks.active
   pub active_in : blocks.active ≤ length blocks.records

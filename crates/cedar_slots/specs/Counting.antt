@@ -5,7 +5,7 @@ use Rattle.cedar_slots.specs.declared.blocks.Blocks.{Blocks}
 use Rattle.cedar_slots.specs.declared.blocks.Counts.{Counts}
 use Rattle.cedar_slots.specs.Views.{blocks_of}
 
--- the block b has these counts and is in the list that they name, and nothing else has changed
+-- block b has these counts and is in the list that they name, and nothing else has changed
 pub record SetsCounts {A : Type 0} (before after : Blocks A) (b : ℕ) (counts : Counts) : Type 0 where
   pub lists : HasLists (blocks_of after)
   pub made : counts_at after.records.items b ≡ counts

@@ -1,4 +1,4 @@
--- Lists of which only a front was written yet.
+-- Lists of which only a front is in memory.
 use Rattle.std.specs.Prelude.{ℕ, List, ◌++◌, ◌-◌, length, replicate}
 
 -- all items, how many of them are in memory, and for how many there is room
@@ -7,6 +7,6 @@ pub record Items (T : Type 0) : Type 0 where
   pub used : ℕ
   pub room : ℕ
 
--- the items, and behind them blanks up to a length
+-- a list with blanks behind it up to a length
 abbrev pub with_blanks : {T : Type 0} → T → ℕ → List T → List T
 with_blanks blank len items = items ++ replicate (len - length items) blank

@@ -20,17 +20,18 @@ pub record PlaceFields : Type 0 where
   pub blocks : BlockFields
   pub reject : List ℤ
 
--- the counts of the block b, whose free slots are xs: in block 0 the root counts too
+-- the counts of block b, whose free slots are xs. `num` is how many these are, in block 0 one more for the root.
+-- `e_head` is the free slot from which the ring is entered; if no slot is free, it may be anything
 pub record Counted (counts : Counts) (b : ℕ) (xs : List ℕ) : Type 0 where
   pub num : counts.num ≡ pos (length xs + cond (b == 0) 1 0)
   pub e_head : 0 < length xs → counts.e_head ≡ pos (first_of xs)
 
--- xs are the free slots of the block b, from its e_head on
+-- xs are the free slots of block b, in the order of their ring, from its `e_head` on
 pub record FreeBlock (table : PlaceFields) (b : ℕ) (xs : List ℕ) : Type 0 where
   pub ring : FreeRing table.slots.nodes table.slots.infos b xs
   pub counted : Counted (counts_at table.blocks.records b) b xs
 
--- each active block has the ring of its free slots
+-- each block in use has the ring of its free slots
 abbrev pub HasFree : PlaceFields → Type 0
 HasFree table = (b : ℕ) → b < table.blocks.active → (xs : List ℕ) × FreeBlock table b xs
 
@@ -39,20 +40,21 @@ pub record Within (low z high : ℤ) : Type 0 where
   pub least : low ≤ℤ z
   pub most : z ≤ℤ high
 
--- what a search for places may read in a block
+-- the reject value of a block is from 1 to 257, and its failed searches are at most `max_trial`
 pub record Bounded (max_trial : ℤ) (counts : Counts) : Type 0 where
   pub reject : Within (pos 1) counts.reject (pos 257)
   pub trial : Within (pos 0) counts.trial max_trial
 
+-- the reject value for i free slots; 1 behind the end of the list
 abbrev pub reject_at : List ℤ → ℕ → ℤ
 reject_at rejects i = slice_index_or rejects i (pos 1)
 
--- there is a reject value for each number of free slots
+-- there is a reject value for each number of free slots from 0 to 256, from 1 to one more than that number
 pub record Rejects (rejects : List ℤ) : Type 0 where
   pub len : length rejects ≡ 257
   pub value : (i : ℕ) → i ≤ 256 → Within (pos 1) (reject_at rejects i) (pos (i + 1))
 
--- the figures that prune a search for places
+-- the figures that prune a search for places are in range; in block 0 no search is tried
 pub record Pruned (blocks : BlockFields) : Type 0 where
   pub max_trial : pos 1 ≤ℤ blocks.max_trial
   pub bounded : (b : ℕ) → b < blocks.active → Bounded blocks.max_trial (counts_at blocks.records b)
@@ -64,16 +66,19 @@ pub record Inactive (table : PlaceFields) : Type 0 where
   pub infos : (s : ℕ) → 256 * table.blocks.active ≤ s → info_at table.slots.infos s ≡ blank_info
   pub blocks : (b : ℕ) → table.blocks.active ≤ b → block_at table.blocks.records b ≡ blank_block
 
--- how large the parts of a table are
+-- how large the parts of a table are: a node record and an info record for each slot, and 256 slots for each block
 pub record Shaped (table : PlaceFields) : Type 0 where
   pub blocks : Sized table.blocks
   pub nodes : length table.slots.nodes ≡ 256 * length table.blocks.records
   pub infos : length table.slots.infos ≡ length table.slots.nodes
 
+-- n is a power of two
 abbrev pub IsPowerOfTwo : ℕ → Type 0
 IsPowerOfTwo n = (k : ℕ) × (n ≡ 2 ^ k)
 
--- the free slots are in rings, the blocks in lists, a search stays in range, and the rest is blank
+-- what holds between any two calls. The free slots are in rings, the blocks in lists, a search stays in range, the
+-- number of blocks is a power of two, and what is not in use is blank. Nothing is said of the order of a ring or of a
+-- list, nor of the exact reject values
 pub record Sound (table : PlaceFields) : Type 0 where
   pub shaped : Shaped table
   pub doubled : IsPowerOfTwo (length table.blocks.records)
@@ -99,7 +104,7 @@ pub record FreesSlot (before after : SlotFields) (e : ℕ) : Type 0 where
   pub infos : (s : ℕ) → (s ≡ e → ⊥) → info_at after.infos s ≡ info_at before.infos s
   pub blank : info_at after.infos e ≡ blank_info
 
--- the two tables are the same, but that blank slots and blocks may have come to their ends
+-- the two tables are the same, but that blank slots and blocks may have come to the ends of their lists
 pub record Grown (before after : PlaceFields) : Type 0 where
   pub nodes : (s : ℕ) → node_record_at after.slots.nodes s ≡ node_record_at before.slots.nodes s
   pub infos : (s : ℕ) → info_at after.slots.infos s ≡ info_at before.slots.infos s
@@ -123,23 +128,24 @@ pub record AddsBlock (before after : PlaceFields) (b : ℕ) : Type 0 where
   pub capacity : length after.blocks.records ≡ room_for_one before
   pub max_trial : after.blocks.max_trial ≡ before.blocks.max_trial
 
--- how many slots a table may have
+-- a number of slots that a table may have: a power of two from 256 to 2^30
 pub record IsSlotLimit (slots : ℕ) : Type 0 where
   pub power : (k : ℕ) × (slots ≡ 256 * 2 ^ k)
   pub most : slots ≤ 2 ^ 30
 
--- what holds of a table that may have `slots` slots, between any two of its operations
+-- the table is sound, and has no more than `slots` slots, which are a limit of slots
 pub record IsTable (slots : ℕ) (table : PlaceFields) : Type 0 where
   pub sound : Sound table
   pub limit : IsSlotLimit slots
   pub within : 256 * length table.blocks.records ≤ slots
 
--- when a table may refuse a new block: memory only where the tables have to grow, the limit only where all slots are in use
+-- when a table may refuse a new block: for memory only where its lists have to grow and may, and for slots only where
+-- all `slots` are in use
 abbrev pub MayRefuse : PlaceFields → ℕ → Shortage → Type 0
 MayRefuse table slots Memory = (table.blocks.active ≡ length table.blocks.records) × (256 * table.blocks.active < slots)
 MayRefuse table slots SlotLimit = 256 * table.blocks.active ≡ slots
 
--- a free slot outside block 0
+-- the slot is a place: free, in use and outside block 0
 pub record IsFreePlace (table : PlaceFields) (slot : ℕ) : Type 0 where
   pub free : is_free table.slots.nodes slot ≡ true
   pub not_root : 0 < slot / 256
@@ -178,7 +184,7 @@ pub record SameSlots (before after : PlaceFields) : Type 0 where
 abbrev pub root_block : BlockRecord
 root_block = record { prev = pos 0; next = pos 0; num = pos 256; reject = pos 257; trial = pos 0; e_head = pos 1 }
 
--- one block, whose slots but the root's are free, each before the next one in their ring
+-- one block, whose slots but the root's are free, each linked to the next one in their ring
 pub record IsNewPlaces (places : PlaceFields) (trials : ℤ) : Type 0 where
   pub nodes_len : length places.slots.nodes ≡ 256
   pub steps : (s : ℕ) → 1 ≤ s → s < 255 → SlotLink places.slots.nodes s (s + 1)

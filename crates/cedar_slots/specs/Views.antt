@@ -6,9 +6,11 @@ use Rattle.cedar_slots.specs.Slots.{SlotFields}
 use Rattle.cedar_slots.specs.Blocks.{BlockFields}
 use Rattle.cedar_slots.specs.Places.{PlaceFields}
 
+-- the records of all slots, blank ones among them
 abbrev pub slots_of : {A : _} → Slots A → SlotFields
 slots_of slots = record { nodes = slots.nodes.items; infos = slots.infos.items }
 
+-- the records of all blocks, blank ones among them, and their lists
 abbrev pub blocks_of : {A : _} → Blocks A → BlockFields
 blocks_of blocks = record {
   records = blocks.records.items;
@@ -19,6 +21,7 @@ blocks_of blocks = record {
   max_trial = blocks.max_trial;
 }
 
+-- the records of all slots and blocks, and the reject values
 abbrev pub places_of : {A : _} → Places A → PlaceFields
 places_of places = record {
   slots = slots_of places.slots;

@@ -16,7 +16,7 @@ pub struct Counts {
     pub reject: i16,
     /// How often a search for a place has failed in the block.
     pub trial: i32,
-    /// A free slot of the block, if it has one.
+    /// The head of the empty slots, as the original calls free ones: a free slot of the block, if it has one.
     pub e_head: i32,
 }
 

@@ -9,6 +9,7 @@ use std::marker::Model;
 
 /// What a record that is not in use holds.
 pub trait Blank: Copy + Drop {
+    /// The record of what is not in use.
     ghost BLANK: { Self };
 
     /// The record of what is not in use.

@@ -112,7 +112,7 @@ impl<A: Allocator> Places<A> {
         self.reject[num as usize]
     }
 
-    /// Takes the free slot `slot`, and stores `node` in it.
+    /// Takes the free slot `slot`, and stores `node` in it. The name is the original's, whose e stands for empty: free.
     pub fn pop_e_node(&mut self, slot: usize, node: NodeRecord)
         requires sound { Sound (places_of self.old) }
         requires slot_in { slot / 256 < self.old.blocks.active }
@@ -142,7 +142,8 @@ impl<A: Allocator> Places<A> {
             .change_counts(block, counts, counts.less(slot, next));
     }
 
-    /// Frees `slot`, which comes in its block after the free slot at the head, if there is one.
+    /// Frees `slot`, which comes in its block after the free slot at the head, if there is one. The e of the name stands for empty, as
+    /// that of `pop_e_node`.
     pub fn push_e_node(&mut self, slot: usize)
         requires sound { Sound (places_of self.old) }
         requires slot_in { slot / 256 < self.old.blocks.active }

@@ -35,11 +35,17 @@ impl NInfoRecord {
 /// A block of 256 slots, with its neighbours in its list.
 #[derive(Clone, Copy, Debug, PartialEq, Eq)]
 pub struct BlockRecord {
+    /// The block before this one in its list.
     pub prev: i32,
+    /// The block after this one in its list.
     pub next: i32,
+    /// How many slots are free; in block 0 the root counts too.
     pub num: i16,
+    /// A set of this many labels finds no place in the block.
     pub reject: i16,
+    /// How often a search for a place has failed in the block.
     pub trial: i32,
+    /// The head of the empty slots, as the original calls free ones: a free slot of the block, if it has one.
     pub e_head: i32,
 }
 

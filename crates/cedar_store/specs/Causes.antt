@@ -14,14 +14,14 @@ use Rattle.cedar_store.specs.declared.error.DurableError.{DurableError}
 use Rattle.cedar_store.specs.declared.error.DurableError.TheVariants as error
 use Rattle.cedar_store.specs.Files.{IsCorrupt}
 
--- Why the changes of some payloads weren't all made: one of them is no change, or memory or slots were wanting.
+-- why the changes of some payloads weren't all made: one of them is no change, or memory or slots were wanting
 abbrev pub ReplayCause : Option State → DurableError → Type 0
 ReplayCause outcome error.Corrupt = outcome ≡ None
 ReplayCause outcome (error.Refused e) = IsShortage e
 ReplayCause outcome _ = ⊥
 
--- Why no dictionary was made of a file's bytes: it is of another kind; or the record at this position is damaged; it is a journal's, and
--- one of its records is no change, or memory or slots were wanting.
+-- why no dictionary was made of a file's bytes: it is of another kind; or the record at a position is damaged; or one
+-- of its records is no change; or memory or slots were wanting
 abbrev pub LoadCause : List ℕ → DurableError → Type 0
 LoadCause file error.Foreign = file_reading file ≡ None
 LoadCause file (error.Damaged at) = file_reading file ≡ Some (damaged at)
@@ -29,51 +29,53 @@ LoadCause file error.Corrupt = IsCorrupt file
 LoadCause file (error.Refused e) = IsSome (file_payloads file) × IsShortage e
 LoadCause file _ = ⊥
 
--- Why a file wasn't opened: as above, or there was no memory for its bytes, or the device failed, which has reported so often before and
--- now that it did.
+-- why a device wasn't opened: as of its file's bytes (`LoadCause`); or there was no memory for these; or the device
+-- failed. `before` and `now` are how often it has failed
 abbrev pub OpenCause : List ℕ → ℕ → ℕ → DurableError → Type 0
 OpenCause file before now (error.Device e) = e ≡ Failed → before < now
 OpenCause file before now (error.Refused e) = (e ≡ cedar.Memory) ⊎ (IsSome (file_payloads file) × IsShortage e)
 OpenCause file before now e = LoadCause file e
 
--- why it wasn't read: there was no memory for its bytes, or the disk failed, which is reported as `Failed` whatever the device returned
+-- why a file wasn't read: there was no memory for its bytes; or the disk failed, which is reported as `Failed`
+-- whatever the device returned
 abbrev pub ReadCause : ℕ → ℕ → DurableError → Type 0
 ReadCause before now (error.Device e) = (e ≡ Failed) × (before < now)
 ReadCause before now (error.Refused e) = e ≡ cedar.Memory
 ReadCause before now _ = ⊥
 
--- the device hasn't been written to
+-- the error isn't the device's, which wasn't written to
 abbrev pub IsBeforeWrites : DurableError → Type 0
 IsBeforeWrites (error.Device e) = ⊥
 IsBeforeWrites _ = Unit {0}
 
--- Why no record was made of a payload of this length, for a file whose records end here: it is too long, they end too far back, or memory
--- was wanting.
+-- why no record was made of a payload of n bytes, for a file whose records end at `end`: it is too long, they end too
+-- far back, or memory was wanting
 abbrev pub FrameCause : ℕ → ℕ → DurableError → Type 0
 FrameCause end n error.TooLong = 4294967296 ≤ n
 FrameCause end n error.Full = 1152921504606846976 ≤ end
 FrameCause end n (error.Refused e) = e ≡ cedar.Memory
 FrameCause end n _ = ⊥
 
--- why no payload of this length was made: it is too long, or memory was wanting
+-- why no payload of n bytes was made: it is too long, or memory was wanting
 abbrev pub PayloadCause : ℕ → DurableError → Type 0
 PayloadCause n error.TooLong = 4294967296 ≤ n
 PayloadCause n (error.Refused e) = e ≡ cedar.Memory
 PayloadCause n _ = ⊥
 
--- the device failed, which has reported so often before and now that it did
+-- the error is the device's, which failed. `before` and `now` are how often it has failed
 abbrev pub IsOfDevice : ℕ → ℕ → DurableError → Type 0
 IsOfDevice before now (error.Device e) = e ≡ Failed → before < now
 IsOfDevice before now _ = ⊥
 
--- That, or it had no room for a record. The flags: whether the store has failed before and now.
+-- why a record wasn't written: the device failed, and so has the store; or there was no room, and the store goes on.
+-- `was` and `failed` are whether the store has failed before and now
 abbrev pub IsUnwritten : ℕ → ℕ → Bool → Bool → DurableError → Type 0
 IsUnwritten before now was failed (error.Device e) = (e ≡ Failed → before < now) × (failed ≡ true)
 IsUnwritten before now was failed error.NoRoom = (before < now) × (failed ≡ was)
 IsUnwritten before now was failed _ = ⊥
 
--- Why a change wasn't made: the store has failed before, the pair has a fault, the dictionary or memory for the record was wanting, the
--- payload has too many bytes, the records end too far back, the device had no room for the record, or it failed.
+-- why a put wasn't made: the store has failed before; the pair has a fault; memory or slots were wanting; no record
+-- was made (`FrameCause`); there was no room for it; or the device failed
 abbrev pub ChangeCause : Bool → Option CedarError → ℕ → ℕ → ℕ → ℕ → DurableError → Type 0
 ChangeCause failed fault end n before now error.Failed = failed ≡ true
 ChangeCause failed fault end n before now (error.Refused e) = (fault ≡ Some e) ⊎ IsShortage e
@@ -81,7 +83,7 @@ ChangeCause failed fault end n before now (error.Device e) = e ≡ Failed → be
 ChangeCause failed fault end n before now error.NoRoom = before < now
 ChangeCause failed fault end n before now e = FrameCause end n e
 
--- why an erasure wasn't made: as of a change, but that no pair has a fault, and no slots are asked for
+-- why an erasure wasn't made: as of a put, but that no pair has a fault and no slots are wanted
 abbrev pub EraseCause : Bool → ℕ → ℕ → ℕ → ℕ → DurableError → Type 0
 EraseCause failed end n before now error.Failed = failed ≡ true
 EraseCause failed end n before now (error.Device e) = e ≡ Failed → before < now
@@ -93,19 +95,21 @@ abbrev pub IsRefusedAt : List Change → DurableError → Type 0
 IsRefusedAt changes (error.RefusedAt index e) = (index < length changes) × ((change_fault (change_at changes index) ≡ Some e) ⊎ IsShortage e)
 IsRefusedAt changes _ = ⊥
 
--- why a batch wasn't prepared: one of its changes was refused, or no record was made
+-- why a batch wasn't made before its record was written: one of its changes was refused, or no record was made
 abbrev pub PrepareCause : List Change → ℕ → DurableError → Type 0
 PrepareCause changes end (error.RefusedAt index e) = IsRefusedAt changes (error.RefusedAt index e)
 PrepareCause changes end e = FrameCause end (batch_length changes) e
 
--- why a batch wasn't made: the store has failed before, or it wasn't prepared, or the device had no room for its record or failed
+-- why a batch wasn't made: the store has failed before; or it wasn't prepared (`PrepareCause`); or there was no room
+-- for its record; or the device failed
 abbrev pub BatchCause : Bool → List Change → ℕ → ℕ → ℕ → DurableError → Type 0
 BatchCause failed changes end before now error.Failed = failed ≡ true
 BatchCause failed changes end before now (error.Device e) = e ≡ Failed → before < now
 BatchCause failed changes end before now error.NoRoom = before < now
 BatchCause failed changes end before now e = PrepareCause changes end e
 
--- what an error leaves: one thing where it is the device's, another one where that had no room, a third one else
+-- what an error leaves: `fails` if it is the device's, `lacks` if it is want of room, and `stays` if it is another
+-- one
 abbrev pub Leaves : DurableError → Type 0 → Type 0 → Type 0 → Type 0
 Leaves (error.Device e) fails lacks stays = fails
 Leaves error.NoRoom fails lacks stays = lacks

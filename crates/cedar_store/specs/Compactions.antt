@@ -18,7 +18,7 @@ use Rattle.cedar_store.specs.declared.compaction.CompactError.TheVariants.{Faile
 abbrev pub default_rule : Compaction
 default_rule = Beyond 2 65536
 
--- a file whose records end here is too long for so many bytes
+-- whether a file whose records end at `end` is too long, by a rule, for so many bytes
 abbrev pub is_beyond : Compaction → ℕ → ℕ → Bool
 is_beyond Never bytes end = false
 is_beyond (Beyond factor spare) bytes end = nat_lt (bytes + bytes * (max factor 2 - 1) + spare) end
@@ -34,32 +34,35 @@ pub record IsPutBehind (key : List ℕ) (v : ℤ) (before after : List (List ℕ
   pub behind : after ≡ before ++ payload ∷ []
   pub change : changes_of payload ≡ Some (put_at key v ∷ [])
 
+-- lack of memory, as a compaction reports it
 abbrev pub CompactMemory : CompactError
 CompactMemory = Memory
 
+-- an error of making a record, as a compaction reports it
 abbrev pub compact_error : FrameError → CompactError
 compact_error frame.Memory = Memory
 compact_error frame.TooLong = TooLong
 
+-- an error of replacing a file, as a compaction reports it
 abbrev pub replace_error : ReplaceError → CompactError
 replace_error (replace.Kept e) = Kept e
 replace_error replace.Failed = Failed
 
--- the device hasn't been asked for anything
+-- the error came before the device was asked for anything
 abbrev pub IsBeforeReplacing : CompactError → Type 0
 IsBeforeReplacing Memory = Unit {0}
 IsBeforeReplacing TooLong = Unit {0}
 IsBeforeReplacing _ = ⊥
 
--- Why a file wasn't compacted: no file was made in memory; or the device kept the old one, or failed, which has reported so often before
--- and now that it did.
+-- why a file wasn't compacted: no file was made in memory; or the device kept the old one, or failed. `before` and
+-- `now` are how often it has failed
 abbrev pub CompactCause : ℕ → ℕ → CompactError → Type 0
 CompactCause before now (Kept e) = e ≡ device.Failed → before < now
 CompactCause before now Failed = before < now
 CompactCause before now e = IsBeforeReplacing e
 
--- What an error of a compaction leaves: one thing where it can't be known which file is there, another one where the device kept the old
--- one, and a third one where it wasn't asked.
+-- what an error of a compaction leaves: `fails` if it isn't known which file is there, `keeps` if the device kept the
+-- old one, and `stays` if it wasn't asked
 abbrev pub LeavesFile : CompactError → Type 0 → Type 0 → Type 0 → Type 0
 LeavesFile Failed fails keeps stays = fails
 LeavesFile (Kept e) fails keeps stays = keeps

@@ -5,15 +5,16 @@ use Rattle.cedar_journal.specs.Files.{file_payloads, with_payload}
 use Rattle.cedarwood.specs.State.{State, new_state}
 use Rattle.cedar_store.specs.Changes.{after_payloads, Change, changes_of}
 
--- The state after the changes of all records that count. None: the file is of another kind, or one of its records is no change.
+-- the state of the dictionary that a file represents, whatever a crash made of it: that after the changes of all
+-- records that count. None: the file is of another kind, or one of its records is damaged or no change
 abbrev pub state_of : List ℕ → Option State
 state_of file = option_and_then (after_payloads new_state) (file_payloads file)
 
--- how many records a file has that count; None: it is of another kind
+-- how many records count in a file; none if it is refused
 abbrev pub record_count : List ℕ → Option ℕ
 record_count file = option_map length (file_payloads file)
 
--- one of some payloads is no change
+-- whether one of some payloads is no change
 abbrev pub has_no_change : List (List ℕ) → Bool
 has_no_change [] = false
 has_no_change (payload ∷ payloads) = not (is_some (changes_of payload)) || has_no_change payloads

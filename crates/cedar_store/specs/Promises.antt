@@ -13,70 +13,74 @@ use Rattle.cedar_store.specs.Store.{IsReady}
 use Rattle.cedar_store.specs.declared.error.DurableError.{DurableError}
 use Rattle.cedar_store.specs.declared.store.Store.{Store}
 
--- its labels ascend; and unless it has failed, its file represents its dictionary
+-- the labels of the store's dictionary ascend; and unless the store has failed, its file represents the dictionary
+-- (`IsReady`)
 abbrev pub IsReadyStore : {T A D : Type 0} → (D → List ℕ) → (D → List ℕ → Type 0) → (T → State) → Store T A D → Type 0
 IsReadyStore seen may_leave state store = IsReady seen may_leave store.journal.device store.journal.format store.journal.end (state store.words) store.failed
 
--- Its count is that of the records of its file, unless it has failed.
+-- the store's count is that of the records of its file, unless the store has failed
 abbrev pub IsCounted : {T A D : Type 0} → (D → List ℕ) → Store T A D → Type 0
 IsCounted seen store = store.failed ≡ false → record_count (seen store.journal.device) ≡ Some store.records
 
--- if it was so before, it is so after
+-- if the count was right before, it is right after (`IsCounted`)
 abbrev pub KeepsCount : {T A D : Type 0} → (D → List ℕ) → Store T A D → Store T A D → Type 0
 KeepsCount seen old new = IsCounted seen old → IsCounted seen new
 
--- it hasn't failed, and its dictionary has this state
+-- the store hasn't failed, and its dictionary has this state
 abbrev pub HasState : {T A D : Type 0} → (T → State) → Store T A D → State → Type 0
 HasState state store after = (store.failed ≡ false) × (state store.words ≡ after)
 
--- a crash at any moment of the change leaves a file that represents the dictionary from before it, or this one
+-- a crash at any moment of a change leaves a file that represents the dictionary from before it, or this state
 abbrev pub CrashLeavesEither : {T A D : Type 0} → (D → ℕ) → (D → ℕ → List ℕ → Type 0) → (T → State) → Store T A D → Store T A D → State → Type 0
 CrashLeavesEither moment left_since state old new after =
     old.failed ≡ false → LeavesOnly moment left_since old.journal.device new.journal.device (IsEither (state old.words) after)
 
--- a crash at any moment of the call leaves a file that represents the dictionary
+-- a crash at any moment of a call leaves a file that represents the dictionary
 abbrev pub CrashLeavesState : {T A D : Type 0} → (D → ℕ) → (D → ℕ → List ℕ → Type 0) → (T → State) → Store T A D → Store T A D → Type 0
 CrashLeavesState moment left_since state old new = LeavesOnly moment left_since old.journal.device new.journal.device (StandsFor (state old.words))
 
--- a crash at any moment of the call leaves a file that represents the dictionary, or what it might have left before
+-- a crash at any moment of a call leaves a file that represents the dictionary, or what it might have left before
 abbrev pub CrashLeavesStateOrOld : {T A D : Type 0} → (D → ℕ) → (D → ℕ → List ℕ → Type 0) → (D → List ℕ → Type 0) → (T → State) → Store T A D → Store T A D → Type 0
 CrashLeavesStateOrOld moment left_since may_leave state old new =
     LeavesOnly moment left_since old.journal.device new.journal.device (λ c. may_leave old.journal.device c ⊎ StandsFor (state old.words) c)
 
--- the file has one record more, of these changes, or it was made short
+-- the file has one record more, of these changes (`AddsRecord`), or it was made short (`IsShortened`)
 abbrev pub IsRecordedIn : {T A D : Type 0} → (D → List ℕ) → (T → State) → Store T A D → Store T A D → List Change → Type 0
 IsRecordedIn seen state old new changes = AddsRecord changes (seen old.journal.device) (seen new.journal.device) ⊎ IsShortened seen state old new
 
--- what a compaction leaves where the device kept the file: bytes and store are as they were, and so is what a crash may leave
+-- what a compaction leaves if the device kept the file: bytes and store are as they were, and so is what a crash may
+-- leave
 abbrev pub KeepsFile : {T A D : Type 0} → (D → List ℕ) → (D → List ℕ → Type 0) → Store T A D → Store T A D → Type 0
 KeepsFile seen may_leave old new =
     (new.failed ≡ old.failed) × (seen new.journal.device ≡ seen old.journal.device) × ((c : List ℕ) → may_leave new.journal.device c → may_leave old.journal.device c)
 
--- what an error leaves: a store that has failed, whose dictionary has the change; or, where there was no room, one that hasn't, whose
--- dictionary is as it was, and whose records end where they did; or all as it was
+-- what an error leaves. After the device's the store has failed, and its dictionary has the change. After want of
+-- room it hasn't; its dictionary is as it was, and its records end where they did. After another one all is as it was
 abbrev pub LeavesStore : {T A D : Type 0} → (T → State) → Store T A D → Store T A D → State → DurableError → Type 0
 LeavesStore state old new after e =
     Leaves e ((new.failed ≡ true) × (state new.words ≡ after))
     ((new.failed ≡ false) × (new.journal.end ≡ old.journal.end) × (state new.words ≡ state old.words))
     ((new.failed ≡ old.failed) × (new.journal ≡ old.journal) × (state new.words ≡ state old.words))
 
--- why a value wasn't put whose pair has this fault, or none, and whose payload is so long
+-- why a value wasn't put whose pair has this fault, or none, and whose payload has n bytes (`ChangeCause`)
 abbrev pub IsChangeCause : {T A D : Type 0} → (D → ℕ) → Store T A D → Store T A D → Option CedarError → ℕ → DurableError → Type 0
 IsChangeCause faults old new fault n e = ChangeCause old.failed fault old.journal.end n (faults old.journal.device) (faults new.journal.device) e
 
--- why a key wasn't erased
+-- why a key wasn't erased whose payload has n bytes (`EraseCause`)
 abbrev pub IsEraseCause : {T A D : Type 0} → (D → ℕ) → Store T A D → Store T A D → ℕ → DurableError → Type 0
 IsEraseCause faults old new n e = EraseCause old.failed old.journal.end n (faults old.journal.device) (faults new.journal.device) e
 
--- why a batch wasn't made
+-- why a batch of these changes wasn't made (`BatchCause`)
 abbrev pub IsBatchCause : {T A D : Type 0} → (D → ℕ) → Store T A D → Store T A D → List Change → DurableError → Type 0
 IsBatchCause faults old new changes e = BatchCause old.failed changes old.journal.end (faults old.journal.device) (faults new.journal.device) e
 
--- a record wasn't written: the device failed, and so has the store; or there was no room for it, and the store goes on
+-- a record wasn't written: the device failed, and so has the store; or there was no room for it, and the store goes
+-- on
 abbrev pub LeavesUnwritten : {T A D : Type 0} → (D → ℕ) → Store T A D → Store T A D → DurableError → Type 0
 LeavesUnwritten faults old new e = IsUnwritten (faults old.journal.device) (faults new.journal.device) old.failed new.failed e
 
--- There was no room for a record: the dictionary is as it was, and so is what the file represents, which is at rest and on the disk.
+-- what want of room leaves: dictionary and end as they were, and a file that represents the same, at rest and on the
+-- disk
 pub record LostRoom {T A D : Type 0} (seen : D → List ℕ) (may_leave : D → List ℕ → Type 0) (old new : Store T A D) : Type 0 where
   pub words : new.words ≡ old.words
   pub end : new.journal.end ≡ old.journal.end

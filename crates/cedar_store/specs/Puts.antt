@@ -5,7 +5,7 @@ use Rattle.cedarwood.specs.State.{after_put, State}
 use Rattle.cedarwood.specs.declared.error.CedarError.{CedarError}
 use Rattle.cedarwood.specs.Fault.{fault, IsShortage}
 
--- a put of the value v at a key
+-- what a put of the value v at a key returns, and what it leaves
 pub record IsPut (before after : State) (key : List ℕ) (v : ℤ) (result : Result (Unit {0}) CedarError) : Type 0 where
   pub faulty : IfSome (fault key v) (λ e. result ≡ Err e)
   pub ok : OnOk result (after ≡ after_put before key v)

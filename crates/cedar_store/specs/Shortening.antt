@@ -12,7 +12,7 @@ use Rattle.cedar_store.specs.declared.store.Store.{Store}
 abbrev pub IsUnlooked : {T A D : Type 0} → Store T A D → Store T A D → Type 0
 IsUnlooked old new = (new.base ≡ old.base) × (new.last_compaction ≡ old.last_compaction)
 
--- nor had it to be looked at: the file isn't too long for what it had at the last look
+-- the file's length wasn't looked at, nor had it to be: the file isn't too long for what it had at the last look
 abbrev pub IsNotDue : {T A D : Type 0} → Store T A D → Store T A D → Type 0
 IsNotDue old new = IsUnlooked old new × (is_beyond old.compaction old.base new.journal.end ≡ false)
 
@@ -21,12 +21,13 @@ abbrev pub IsShortEnough : {T A D : Type 0} → (T → State) → Store T A D �
 IsShortEnough state old new =
     (new.last_compaction ≡ old.last_compaction) × (is_beyond old.compaction (compacted_length (walk (state new.words).tree)) new.journal.end ≡ false)
 
--- the file has a record for each entry and nothing else, which only a rule other than `Never` does, and `last_compaction` reports it
+-- the file was made short: it has a record for each entry and nothing else. Only a rule other than `Never` does so,
+-- and `last_compaction` reports it
 abbrev pub IsShortened : {T A D : Type 0} → (D → List ℕ) → (T → State) → Store T A D → Store T A D → Type 0
 IsShortened seen state old new =
     (old.compaction ≡ Never → ⊥) × (new.last_compaction ≡ Some (Ok tt)) × (length (seen new.journal.device) ≡ compacted_length (walk (state new.words).tree))
 
--- why the file is the old one: no new one was made in memory, or the device kept the old one
+-- why a file is the old one: no new one was made in memory, or the device kept the old one
 abbrev pub KeptCause : ℕ → ℕ → CompactError → Type 0
 KeptCause before now Failed = ⊥
 KeptCause before now e = CompactCause before now e
@@ -36,19 +37,21 @@ abbrev pub IsKeptLong : {T A D : Type 0} → (D → ℕ) → Store T A D → Sto
 IsKeptLong faults old new =
     (e : CompactError) × (new.last_compaction ≡ Some (Err e)) × KeptCause (faults old.journal.device) (faults new.journal.device) e
 
--- The file's length was looked at: it is short enough, or it was made short, or it was kept, which is reported.
+-- the file's length was looked at: it is short enough, or was made short, or was kept, which is reported
 abbrev pub IsLookedAt : {T A D : Type 0} → (D → List ℕ) → (D → ℕ) → (T → State) → Store T A D → Store T A D → Type 0
 IsLookedAt seen faults state old new =
     (new.base ≡ new.journal.end) × (IsShortEnough state old new ⊎ IsShortened seen state old new ⊎ IsKeptLong faults old new)
 
--- What a change has done about the length of its file: it wasn't due to be looked at, or it was looked at.
+-- what a change has done about the length of its file: it wasn't due to be looked at (`IsNotDue`), or it was looked
+-- at (`IsLookedAt`)
 abbrev pub IsLookedAfter : {T A D : Type 0} → (D → List ℕ) → (D → ℕ) → (T → State) → Store T A D → Store T A D → Type 0
 IsLookedAfter seen faults state old new = IsNotDue old new ⊎ IsLookedAt seen faults state old new
 
--- the device failed in a compaction, which is reported
+-- the device failed in a compaction, which `last_compaction` reports
 abbrev pub IsFailureTold : {T A D : Type 0} → Store T A D → Type 0
 IsFailureTold new = (new.base ≡ new.journal.end) × (new.last_compaction ≡ Some (Err Failed))
 
--- what a change that wasn't acknowledged has done about it: nothing, unless the device failed in a compaction
+-- what a change that wasn't acknowledged has done about the length of its file: nothing, unless the device failed in
+-- a compaction
 abbrev pub IsLookedAfterError : {T A D : Type 0} → Store T A D → Store T A D → Type 0
 IsLookedAfterError old new = IsUnlooked old new ⊎ IsFailureTold new

@@ -7,6 +7,7 @@ use Rattle.cedar_store.specs.declared.compaction.CompactError.TheVariants as com
 use Rattle.cedar_store.specs.declared.error.DurableError.{DurableError}
 use Rattle.cedar_store.specs.declared.error.DurableError.TheVariants as error
 
+-- the bytes of the text of a store's error, with its numbers in decimal digits
 abbrev pub durable_error_text : DurableError → List ℕ
 durable_error_text error.Foreign = codes "the file is of another kind"
 durable_error_text error.Corrupt = codes "a record of the file is no change of a dictionary"
@@ -21,6 +22,7 @@ durable_error_text (error.Device device.NoRoom) = codes "the device has no room"
 durable_error_text (error.Device device.Failed) = codes "the device failed"
 durable_error_text error.Failed = codes "the device failed in an earlier change: compact the store"
 
+-- the bytes of the text of a compaction's error
 abbrev pub compact_error_text : CompactError → List ℕ
 compact_error_text compact.Memory = codes "out of memory: the file is as it was"
 compact_error_text compact.TooLong = codes "the record of an entry would have 2^32 bytes or more"

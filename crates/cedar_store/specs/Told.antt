@@ -1,4 +1,4 @@
--- The errors of a journal as a store reports them, and the changes that it is given.
+-- The errors of a journal as a store reports them, and the changes that a caller gives.
 use Rattle.std.specs.Prelude.{List, map}
 use Rattle.cedar_journal.specs.declared.frame.FrameError.{FrameError}
 use Rattle.cedar_journal.specs.declared.frame.FrameError.TheVariants as frame
@@ -15,23 +15,27 @@ use Rattle.cedar_store.specs.declared.error.DurableError.TheVariants.{Damaged, D
 use Rattle.cedar_store.specs.declared.error.DurableError.TheVariants.{Full, NoRoom, Refused}
 use Rattle.cedar_store.specs.declared.error.DurableError.TheVariants.{TooLong}
 
+-- why a file is refused, as a store reports it
 abbrev pub file_error : FileFault → DurableError
 file_error fault.Foreign = Foreign
 file_error (fault.Damaged at) = Damaged at
 
+-- an error of making a record, as a store reports it
 abbrev pub frame_error : FrameError → DurableError
 frame_error frame.Memory = Refused Memory
 frame_error frame.TooLong = TooLong
 
+-- an error of a journal's call, as a store reports it
 abbrev pub journal_error : JournalError → DurableError
 journal_error journal.Full = Full
 journal_error journal.NoRoom = NoRoom
 journal_error (journal.Device e) = Device e
 
--- a change of a batch
+-- a change that a caller gives, as one of a dictionary
 abbrev pub change_told : ToldChange → Change
 change_told (change.Update key v) = put_at key.now v
 change_told (change.Erase key) = erase_at key.now
 
+-- the changes that a caller gives, as those of a dictionary
 abbrev pub changes_told : List ToldChange → List Change
 changes_told changes = map change_told changes

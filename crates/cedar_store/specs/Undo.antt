@@ -4,7 +4,7 @@ use Rattle.cedarwood.specs.State.{after_put, State}
 use Rattle.cedarwood.specs.Tree.{IsSound, number_at}
 use Rattle.cedarwood.specs.Fault.{key_fault, value_fault}
 
--- the one state is the other after a value was put at a key, which held this before
+-- the state `after` is `before` after a put of v at a key, which held this number
 pub record IsPutOf (before : State) (key : List ℕ) (held : Option ℤ) (after : State) : Type 0 where
   pub put : (v : ℤ) × (after ≡ after_put before key v)
   pub was : held ≡ number_at before.tree key

@@ -78,7 +78,7 @@ impl<L: Layout, const SLOTS: usize, A: Allocator> Table<L, SLOTS, A> {
         *self.places.slots.nodes.allocator()
     }
 
-    /// Takes the free slot `slot` for `owner`, with `base` in its base field.
+    /// Takes the free slot `slot` for `owner`, with `base` in its base field. The e of the name, the original's, stands for empty: free.
     pub fn pop_e_node(&mut self, slot: usize, base: i32, owner: usize)
         requires sound { IsTable SLOTS (fields self.old).places }
         requires slot_in { slot < size_of (fields self.old) }
@@ -128,7 +128,7 @@ impl<L: Layout, const SLOTS: usize, A: Allocator> Table<L, SLOTS, A> {
         self.write_info(slot, info);
     }
 
-    /// Gives the held slot `slot`, which isn't the root, back to the free ones of its block.
+    /// Gives the held slot `slot`, which isn't the root, back to the free ones of its block. The e stands for empty here too.
     pub fn push_e_node(&mut self, slot: usize)
         requires sound { IsTable SLOTS (fields self.old).places }
         requires slot_in { slot < size_of (fields self.old) }

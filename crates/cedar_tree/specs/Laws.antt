@@ -24,7 +24,7 @@ IsTreeOf pairs t = IsSound t × IsAscending t.children × (walk t ≡ pairs)
 abbrev pub ComesBefore : {X : Type 0} → List X → X → X → Type 0
 ComesBefore {X} xs x y = (before : List X) × (after : List X) × (xs ≡ before ++ x ∷ after) × Contains after y
 
--- some members of a list, in its order
+-- xs has some members of ys, in their order
 abbrev pub IsPartOf : {X : Type 0} → List X → List X → Type 0
 IsPartOf [] ys = Unit {0}
 IsPartOf (x ∷ xs) [] = ⊥

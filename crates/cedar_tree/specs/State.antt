@@ -5,16 +5,16 @@ use Rattle.std.proofs.Common.{refl}
 use Rattle.cedar_tree.specs.Tree.{Tree, empty_tree, put, cut}
 use Rattle.cedar_tree.specs.Stored.{coded_tree}
 
--- the tree, and whether the labels of its nodes ascend
+-- a tree, and whether the labels of its nodes ascend
 pub record State : Type 0 where
   pub tree : Tree
   pub ordered : Bool
 
--- the state with the number v at a path
+-- the state after a put of v at a path
 abbrev pub after_put : State → List ℕ → ℤ → State
 after_put s path v = record { tree = put s.tree s.ordered path v; ordered = s.ordered }
 
--- the state without a number at a path
+-- the state after a cut at a path
 abbrev pub after_erase : State → List ℕ → State
 after_erase s path = record { tree = cut s.tree path; ordered = s.ordered }
 
@@ -22,6 +22,6 @@ after_erase s path = record { tree = cut s.tree path; ordered = s.ordered }
 abbrev pub state_code : Coded State
 state_code = code_by (Tree × Bool) (coded× coded_tree coded_bool) (λ s. (s.tree, s.ordered)) (λ p. record { tree = p.0; ordered = p.1 }) (λ _. refl)
 
--- the state of a new dictionary
+-- the state of a new dictionary: the empty tree, whose labels ascend
 abbrev pub new_state : State
 new_state = record { tree = empty_tree; ordered = true }

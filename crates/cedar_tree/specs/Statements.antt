@@ -73,12 +73,12 @@ PutKeepsPassing =
     (test : ℤ → Bool) (t : Tree) (ordered : Bool) (k : List ℕ) (v : ℤ) → test v ≡ true
     → AllNumbers (λ w. test w ≡ true) t.children → AllNumbers (λ w. test w ≡ true) (put t ordered k v).children
 
--- it stays so after a cut
+-- where each number passes a test, this stays so after a cut
 abbrev pub CutKeepsPassing : Type 0
 CutKeepsPassing =
     (test : ℤ → Bool) (t : Tree) (k : List ℕ) → AllNumbers (λ w. test w ≡ true) t.children → AllNumbers (λ w. test w ≡ true) (cut t k).children
 
--- each number that is found passes it
+-- where each number passes a test, each number that is found passes it
 abbrev pub FoundPasses : Type 0
 FoundPasses =
     (test : ℤ → Bool) (t : Tree) (k : List ℕ) → t.number ≡ None → AllNumbers (λ w. test w ≡ true) t.children
@@ -89,7 +89,7 @@ abbrev pub PutKeepsAscending : Type 0
 PutKeepsAscending =
     (t : Tree) (k : List ℕ) (v : ℤ) → IsAscending t.children → IsAscending (put t true k v).children
 
--- so does a cut
+-- a cut keeps the labels ascending
 abbrev pub CutKeepsAscending : Type 0
 CutKeepsAscending =
     (t : Tree) (k : List ℕ) → IsAscending t.children → IsAscending (cut t k).children
@@ -126,7 +126,7 @@ abbrev pub FrontHasHeld : Type 0
 FrontHasHeld =
     (t : Tree) (q : List ℕ) (v : ℤ) (n : ℕ) → (Contains (front t q) (v, n) ↔ ((n < length q) × (number_at t (take (n + 1) q) ≡ Some v)))
 
--- its positions ascend, so it has each once
+-- the positions of a prefix walk ascend, so it has each once
 abbrev pub FrontAscends : Type 0
 FrontAscends =
     (t : Tree) (q : List ℕ) → IsStrictlySortedBy nat_cmp (map (λ found. found.1) (front t q))
@@ -142,12 +142,12 @@ abbrev pub PredictIsPartOfWalk : Type 0
 PredictIsPartOfWalk =
     (t : Tree) (q : List ℕ) → IsPartOf (predict t q) (map (λ entry. (entry.1, length entry.0 - length q)) (walk t))
 
--- they are the walk of the query's node
+-- the predictions are the walk of the query's node
 abbrev pub PredictIsWalkOfNode : Type 0
 PredictIsWalkOfNode =
     (t : Tree) (q : List ℕ) → IsSoundBelow t.children → predict t q ≡ map (λ entry. (entry.1, length entry.0)) (walk (node_at t q))
 
--- for the empty query they are the whole walk
+-- for the empty query the predictions are the whole walk
 abbrev pub PredictOfNothingIsWalk : Type 0
 PredictOfNothingIsWalk =
     (t : Tree) → predict t [] ≡ map (λ entry. (entry.1, length entry.0)) (walk t)
@@ -157,7 +157,7 @@ abbrev pub PrefixesHaveFronts : Type 0
 PrefixesHaveFronts =
     (t : Tree) (p : List ℕ) → IsSoundBelow t.children → IsFront t p → filter (is_path p) (prefixes t) ≡ p ∷ []
 
--- and no other path
+-- the prefixes have no path but the nonempty fronts of keys
 abbrev pub PrefixesHaveNoOther : Type 0
 PrefixesHaveNoOther =
     (t : Tree) (p : List ℕ) → IsSoundBelow t.children → (IsFront t p → ⊥) → filter (is_path p) (prefixes t) ≡ []
@@ -167,7 +167,7 @@ abbrev pub PutCountsEntries : Type 0
 PutCountsEntries =
     (t : Tree) (ordered : Bool) (k : List ℕ) (v : ℤ) → length (walk (put t ordered k v)) ≡ length (walk t) + (if is_some (number_at t k) then 0 else 1)
 
--- a cut takes one away where its path is held
+-- a cut takes one entry away where its path is held
 abbrev pub CutCountsEntries : Type 0
 CutCountsEntries =
     (t : Tree) (k : List ℕ) → length (walk (cut t k)) + (if is_some (number_at t k) then 1 else 0) ≡ length (walk t)
@@ -177,7 +177,7 @@ abbrev pub PutCountsPrefixes : Type 0
 PutCountsPrefixes =
     (t : Tree) (ordered : Bool) (k : List ℕ) (v : ℤ) → length (prefixes (put t ordered k v)) ≡ length (prefixes t) + missing_nodes t k
 
--- a cut takes away those of the nodes that it leaves bare
+-- a cut takes away the prefixes of the nodes that it leaves bare
 abbrev pub CutCountsPrefixes : Type 0
 CutCountsPrefixes =
     (t : Tree) (k : List ℕ) → length (prefixes (cut t k)) + bare_nodes t k ≡ length (prefixes t)
@@ -209,7 +209,7 @@ abbrev pub HeldMissesNone : Type 0
 HeldMissesNone =
     (t : Tree) (k : List ℕ) (v : ℤ) → number_at t k ≡ Some v → missing_nodes t k ≡ 0
 
--- after a cut those are missing too that it left bare
+-- after a cut those nodes are missing too that it left bare
 abbrev pub CutMissesMore : Type 0
 CutMissesMore =
     (t : Tree) (k : List ℕ) → IsSoundBelow t.children → missing_nodes (cut t k) k ≡ bare_nodes t k + missing_nodes t k
@@ -235,13 +235,13 @@ abbrev pub BuiltIsAscending : Type 0
 BuiltIsAscending =
     (pairs : List Entry) → IsAscending (asc pairs).children
 
--- its numbers pass a test that those of the pairs pass
+-- the numbers of the tree of some pairs pass a test that those of the pairs pass
 abbrev pub BuiltPasses : Type 0
 BuiltPasses =
     (test : ℤ → Bool) (pairs : List Entry) → AllByRecursion (λ pair. test pair.1 ≡ true) pairs
     → AllNumbers (λ w. test w ≡ true) (asc pairs).children
 
--- at each path it holds what the last pair with this path has
+-- at each path the tree of some pairs holds what the last pair with this path has
 abbrev pub BuiltHoldsLast : Type 0
 BuiltHoldsLast =
     (pairs : List Entry) (k : List ℕ) → number_at (asc pairs) k ≡ last_at k None pairs
@@ -251,7 +251,7 @@ abbrev pub SortedPairsHaveTree : Type 0
 SortedPairsHaveTree =
     (pairs : List Entry) → ArePathsKeys pairs → ArePathsAscending pairs → IsTreeOf pairs (asc pairs)
 
--- they have no other
+-- pairs at keys that ascend by bytes have no other tree than that one
 abbrev pub PairsHaveOneTree : Type 0
 PairsHaveOneTree =
     (pairs : List Entry) (t : Tree) (u : Tree) → IsTreeOf pairs t → IsTreeOf pairs u → t ≡ u
@@ -261,7 +261,7 @@ abbrev pub EntriesAreKeys : Type 0
 EntriesAreKeys =
     (t : Tree) → IsSound t → ArePathsKeys (walk t)
 
--- and they make the tree again where its labels ascend
+-- putting the entries of a sound tree whose labels ascend makes that tree again
 abbrev pub EntriesMakeTree : Type 0
 EntriesMakeTree =
     (t : Tree) → IsSound t → IsAscending t.children → asc (walk t) ≡ t

@@ -48,6 +48,7 @@ visits_after t [] = []
 visits_after t (label ∷ up) =
     map (visit_from (forwards up)) (visits_below (behind (node_up t up).children label)) ++ visits_after t up
 
--- what it has left once it has been at that node, and not yet below it
+-- what a walk has left once it has been at the node at the end of a path, given from its last label to its first, and
+-- not yet below it
 abbrev pub visits_left : Tree → List ℕ → List Visit
 visits_left t up = map (visit_from (forwards up)) (visits_below (node_up t up).children) ++ visits_after t up

@@ -10,12 +10,13 @@ use Rattle.cedar_model.specs.Meaning.WellFormed.{cells_in, tree_of}
 abbrev pub keys_of : List (Bor (List ℕ)) → List (List ℕ)
 keys_of keys = map (λ key. key.now) keys
 
--- the bytes of a key behind its first `passed` ones lead on from slot s; with no slot, the key isn't held
+-- where one of several look-ups in step is once `passed` bytes of its key are passed: at slot s, from which the rest
+-- of the key leads on, or at none, and then the key isn't held
 abbrev pub IsLane : Fields → List ℕ → ℕ → Option ℕ → Type 0
 IsLane T key passed None = number_at (tree_of T) key ≡ None
 IsLane T key passed (Some s) =
     (s < size_of T) × ((u : Tree) × Stands (size_of T) (cells_in T) s u × (number_at (tree_of T) key ≡ number_at u (drop passed key)))
 
--- so it is for each key
+-- each of several look-ups in step is so (`IsLane`)
 abbrev pub AreLanes : Fields → List (List ℕ) → ℕ → List (Option ℕ) → Type 0
 AreLanes T keys passed lanes = (i : ℕ) → i < length keys → IsLane T (get_or keys i []) passed (get_or lanes i None)

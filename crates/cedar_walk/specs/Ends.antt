@@ -8,7 +8,7 @@ use Rattle.cedar_model.specs.Meaning.WellFormed.{cells_in, tree_of}
 use Rattle.cedar_walk.specs.Visits.{entries_at, IsBelow, IsNumberedBelow, left_after}
 use Rattle.cedar_walk.specs.Visits.{left_at, owner_of, path_to}
 
--- a place below the root, where a walk has nothing left once it is through with all below the node above
+-- a place below the root, from which a walk has nothing left once it is through with all below the node above
 pub record IsOnLastWay (T : Fields) (place : Place) : Type 0 where
   pub below : IsBelow (cells_in T) [] place.depth place.slot
   pub deep : 0 < place.depth

@@ -9,13 +9,13 @@ use Rattle.cedar_model.specs.Meaning.StandsFor.{Stands}
 use Rattle.cedar_model.specs.Table.TableFields.{Fields, size_of}
 use Rattle.cedar_model.specs.Meaning.WellFormed.{cells_in, tree_of}
 
--- the first bytes of the query, `place` of them, lead to slot s
+-- the first `place` bytes of the query lead to slot s
 pub record IsOnQuery (T : Fields) (query : List ℕ) (place s : ℕ) : Type 0 where
   pub within : place ≤ length query
   pub inside : s < size_of T
   pub stands : Stands (size_of T) (cells_in T) s (node_at (tree_of T) (take place query))
 
--- the next of a tree's fronts of a query behind the first `place` bytes, if one is left
+-- the next front of a query that is held in the tree, behind the first `place` bytes, if one is left
 abbrev pub IsNextFront : Tree → List ℕ → ℕ → Option Front → Type 0
 IsNextFront t query place next =
     MatchOption next (front_from t query place ≡ [])

@@ -14,11 +14,11 @@ use Rattle.cedar_walk.specs.Visits.{entries_at, first_sibling_label, IsBelow}
 use Rattle.cedar_walk.specs.Visits.{left_after, path_to, way_up}
 use Rattle.cedar_walk.specs.Ranges.{siblings_above}
 
--- some last siblings: all, or those behind one
+-- all of some siblings, or those behind one
 abbrev pub AreLast : Forest → Forest → Type 0
 AreLast f g = (g ≡ f) ⊎ ((l : ℕ) × (has_label f l ≡ true) × (g ≡ behind f l))
 
--- those above a label are among some last ones, which begin at this label
+-- the siblings above a label are among some last ones, of which `next` is the first label
 pub record AboveFrom (f : Forest) (m next : ℕ) : Type 0 where
   pub rest : Forest
   pub last : AreLast f rest
@@ -31,18 +31,18 @@ pub record IsReached (T : Fields) (key : List ℕ) (reached : Reached) : Type 0 
   pub at : IsAt (cells_in T) (take reached.depth key) reached.slot
   pub ends : reached.depth < length key → has_label (node_at (tree_of T) (take reached.depth key)).children (get_or key reached.depth 0) ≡ false
 
--- the nodes below slot s, n labels below the root, that hang under labels above this one, and then those that a walk comes to once it
--- is through with all below s
+-- what a walk has left that goes on below slot s, n labels below the root, above a label: the nodes under labels
+-- above it, and those after all below s
 abbrev pub left_above : Fields → ℕ → ℕ → ℕ → List Visit
 left_above T n s label =
     map (visit_from (path_to T n s)) (visits_below (siblings_above (node_up (tree_of T) (way_up (cells_in T) n s)).children label)) ++ left_after T [] n s
 
--- a walk that had these nodes left comes to a place below the root, where the first of them is
+-- a walk that has these nodes left comes to a place below the root: the first of them is there
 pub record BeginsAt (T : Fields) (left : List Visit) (place : Place) : Type 0 where
   pub below : IsBelow (cells_in T) [] place.depth place.slot
   pub deep : 0 < place.depth
   pub entries : visited_entries left ≡ entries_at T [] place.depth place.slot
 
--- it comes to such a place, unless no node is left
+-- a walk comes to the place of the first node of those that it has left, unless none is
 abbrev pub BeginsAtFirst : Fields → List Visit → Option Place → Type 0
 BeginsAtFirst T left place = MatchOption place (left ≡ []) (BeginsAt T left)

@@ -7,19 +7,20 @@ use Rattle.std.specs.Ordering.{is_ge, nat_cmp}
 use Rattle.cedar_model.specs.Tree.{Forest, none, child, Tree}
 use Rattle.cedar_model.specs.Queries.{Entry, front, walk}
 
--- the longest nonempty front of a text that is held: its number, and how many bytes it has
+-- the last of `front t text`, the longest nonempty front of a text that is held, as its number and how many bytes it
+-- has, or none
 abbrev pub longest_front : Tree → List ℕ → Option (ℤ × ℕ)
 longest_front t text = option_map (λ found. (found.0, found.1 + 1)) (last_or None (front t text))
 
--- the entries whose path begins with q, in the order of the walk
+-- of the walk the entries whose path begins with q
 abbrev pub entries_with : Tree → List ℕ → List Entry
 entries_with t q = filter (λ e. starts_with nat_eq e.0 q) (walk t)
 
--- an entry of the node at a path, as one of the whole tree
+-- an entry of the node at a path as one of the whole tree
 abbrev pub behind_path : List ℕ → Entry → Entry
 behind_path q entry = (q ++ entry.0, entry.1)
 
--- the entries at the path q and at those after it by bytes, in the order of the walk
+-- of the walk the entries whose path is q or comes after q by bytes
 abbrev pub entries_since : Tree → List ℕ → List Entry
 entries_since t q = filter (λ e. is_ge (slice_cmp nat_cmp e.0 q)) (walk t)
 

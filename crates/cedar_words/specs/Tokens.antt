@@ -5,7 +5,7 @@ use Rattle.std.specs.List.{last_or}
 use Rattle.cedarwood.specs.Tree.{Tree, number_at}
 use Rattle.cedarwood.specs.Queries.{front}
 
--- where it begins, how many bytes it has, and its number if it has one
+-- a token of a text: where it begins, how many bytes it has, and its number if it has one
 abbrev pub Token : Type 0
 Token = ℕ × ℕ × Option ℤ
 
@@ -13,15 +13,17 @@ Token = ℕ × ℕ × Option ℤ
 abbrev pub longest : Tree → List ℕ → Option (ℤ × ℕ)
 longest tree text = last_or None (front tree text)
 
--- how many bytes a token has where this was found, and its number: without one it is one byte
+-- how many bytes a token has for which `longest` gave this: one if it gave nothing
 abbrev pub len_of : Option (ℤ × ℕ) → ℕ
 len_of None = 1
 len_of (Some found) = found.1 + 1
 
+-- the number of a token for which `longest` gave this
 abbrev pub found_number : Option (ℤ × ℕ) → Option ℤ
 found_number found = option_map (λ f. f.0) found
 
--- the tokens of a text, of which these bytes are left from a position on: so many of them belong to the token before
+-- the tokens of a text that are left if these bytes are left from a position on and the first `taken` of them belong
+-- to the token before
 abbrev pub tokens_behind : Tree → ℕ → ℕ → List ℕ → List Token
 tokens_behind tree taken place [] = []
 tokens_behind tree (suc taken) place (b ∷ rest) = tokens_behind tree taken (place + 1) rest
@@ -29,7 +31,7 @@ tokens_behind tree zero place (b ∷ rest) =
     let found = longest tree (b ∷ rest) in
     (place, len_of found, found_number found) ∷ tokens_behind tree (len_of found - 1) (place + 1) rest
 
--- the tokens of these bytes from a position on are the first one, and then those from its end on
+-- the two equations of the tokens of these bytes from a position on: the first one, and then those from its end on
 abbrev pub TokensGoOn : Tree → ℕ → List ℕ → Type 0
 TokensGoOn tree place text = 0 < length text → (found : Option (ℤ × ℕ)) → longest tree text ≡ found
     → tokens_behind tree 0 place text ≡ (place, len_of found, found_number found) ∷ tokens_behind tree 0 (place + len_of found) (drop (len_of found) text)
@@ -47,8 +49,8 @@ abbrev pub AreAdjacent : List Token → ℕ → ℕ → Type 0
 AreAdjacent [] place end = place ≡ end
 AreAdjacent (t ∷ tokens) place end = (t.0 ≡ place) × (0 < t.1) × AreAdjacent tokens (place + t.1) end
 
--- a token of a text has the number that its bytes hold, nothing longer is held from its position on, and without a number it
--- is one byte
+-- the token's number is what its bytes hold, nothing longer from its position on is held, and without a number it is
+-- one byte
 abbrev pub IsLongest : Tree → List ℕ → Token → Type 0
 IsLongest tree text t =
     (number_at tree (take t.1 (drop t.0 text)) ≡ t.2)

@@ -15,23 +15,23 @@ use Rattle.cedarwood.specs.Builds.{IsBuild}
 use Rattle.cedarwood.specs.Dictionary.{Dictionary, IsMarked}
 use Rattle.cedarwood.specs.Updates.{IsUpdate}
 
--- the pair at an index
+-- the pair at an index of some pairs
 abbrev pub pair_at : List Entry → ℕ → Entry
 pair_at entries index = get_or entries index ([], pos 0)
 
--- the pairs before the one at an index are stored by updates one after another, and that one is refused
+-- the pairs before the one at an index are stored by updates one after another, and the update of that one is refused
 pub record StopsAt (layout : LayoutKind) (slots : ℕ) (before after : Dictionary) (entries : List Entry) (refusal : RefusedPair) : Type 0 where
   pub within : refusal.index < length entries
   pub steps : (between : Dictionary) × IsBuild layout slots before (take refusal.index entries) (Ok tt) between
       × IsUpdate layout slots between after (pair_at entries refusal.index).0 (pair_at entries refusal.index).1 (Err refusal.error)
 
--- the pairs are stored by updates one after another, each of the dictionary that the one before it left; one that is refused is
--- the last, and its index is returned
+-- the pairs are stored by updates one after another, each of the dictionary that the one before it left (`IsBuild`);
+-- or one is refused, which is reported with its index (`StopsAt`)
 abbrev pub IsUpdates : LayoutKind → ℕ → Dictionary → Dictionary → List Entry → Result (Unit {0}) RefusedPair → Type 0
 IsUpdates layout slots before after entries (Ok x) = IsBuild layout slots before entries (Ok tt) after
 IsUpdates layout slots before after entries (Err refusal) = StopsAt layout slots before after entries refusal
 
--- a key is erased, which was held or not
+-- a key is erased, and whether it was held is returned
 pub record IsErasure (before after : Dictionary) (key : List ℕ) (held : Bool) : Type 0 where
   pub answer : IsTrue held ↔ IsSome (number_at before.state.tree key)
   pub state : after.state ≡ after_erase before.state key
@@ -41,13 +41,14 @@ pub record IsErasure (before after : Dictionary) (key : List ℕ) (held : Bool) 
   pub max_trial : after.max_trial ≡ before.max_trial
   pub search_limit : after.search_limit ≡ before.search_limit
 
--- a key is held, and this is its node
+-- the key is held with this value, and this is its node's slot
 pub record IsFound (d : Dictionary) (key : List ℕ) (found : Found) : Type 0 where
   pub value : number_at d.state.tree key ≡ Some found.value
   pub inside : found.slot < size_of d.table
   pub at : IsAt (cells_in d.table) key found.slot
 
--- the keys are erased one after another, each from the dictionary that the one before it left
+-- the keys are erased one after another, each from the dictionary that the one before it left, and it is known of
+-- each whether it was held
 abbrev pub IsErasures : Dictionary → Dictionary → List (List ℕ) → List Bool → Type 0
 IsErasures before after [] answers = (answers ≡ []) × (after ≡ before)
 IsErasures before after (key ∷ keys) answers =

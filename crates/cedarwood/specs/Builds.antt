@@ -28,14 +28,14 @@ IsBuild layout slots before (e ∷ es) result after =
     ((between : Dictionary) × IsUpdate layout slots before between e.0 e.1 (Ok tt) × IsBuild layout slots between es result after)
     ⊎ ((refusal : CedarError) × (result ≡ Err refusal) × IsUpdate layout slots before after e.0 e.1 result)
 
--- the key of the pair at an index
+-- the key of the pair at an index of some pairs
 abbrev pub path_at : List Entry → ℕ → List ℕ
 path_at [] i = []
 path_at (e ∷ es) zero = e.0
 path_at (e ∷ es) (suc i) = path_at es i
 
--- a build that was refused for memory or slots: the pairs before one whose key isn't held then are stored. Memory was wanted where
--- all slots were in use and there might be more, and slots where there might not
+-- the refusal is a shortage, and the pairs before one whose key isn't held then are stored. Memory was wanted if all
+-- slots were in use and there might be more, and slots if there might not
 pub record IsRefusedBuild (slots : ℕ) (before after : Dictionary) (entries : List Entry) (refusal : CedarError) : Type 0 where
   pub shortage : IsShortage refusal
   pub front : (m : ℕ) × (m < length entries) × (after.state ≡ all_stored before.state (take m entries)) × (number_at after.state.tree (path_at entries m) ≡ None)

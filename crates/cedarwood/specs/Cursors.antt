@@ -13,13 +13,14 @@ use Rattle.cedarwood.specs.declared.queries.cursor.CursorPlace.{CursorPlace}
 use Rattle.cedarwood.specs.declared.queries.cursor.CursorPlace.TheVariants.{At, Before, End}
 use Rattle.cedarwood.specs.RangeWalks.{entries_left, follows_end, IsRangePlace, precedes_end}
 
--- a cursor: the key that it holds, the entries that it has left, and how many bytes its buffer has room for
+-- what is seen of a cursor over a range: the key that it holds, the entries that it has left, and how many bytes its
+-- buffer has room for
 pub record Cursor : Type 0 where
   pub key : List ℕ
   pub left : List Entry
   pub room : ℕ
 
--- it serves `impl Model` alone
+-- a cursor as plain data, for `impl Model` alone
 abbrev pub cursor_code : Coded Cursor
 cursor_code =
     code_by (List ℕ × (List (List ℕ × ℤ) × ℕ)) (coded× (coded_list coded_ℕ) (coded× (coded_list (coded× (coded_list coded_ℕ) coded_ℤ)) coded_ℕ))
@@ -27,12 +28,12 @@ cursor_code =
     (λ p. record { key = p.0; left = p.1.0; room = p.1.1 })
     (λ _. refl)
 
--- where it is before it comes to the node of its first entry, if there is one
+-- the place of a cursor before it comes to the node of its first entry, if there is one
 abbrev pub place_before : Option Numbered → CursorPlace
 place_before None = End
 place_before (Some next) = Before next
 
--- and once it has come to a node, if there was one
+-- the place of a cursor that has come to a node, if there was one
 abbrev pub place_at : Option Numbered → CursorPlace
 place_at None = End
 place_at (Some next) = At next.slot next.depth
@@ -43,30 +44,30 @@ cursor_entries T start (Before next) = entries_left T start (Some next)
 cursor_entries T start (At slot depth) = map (behind_path start) (visited_entries (left_at T start depth slot))
 cursor_entries T start End = []
 
--- the place is a node with a number, and the key is that node's once it was given
+-- a cursor is at a node with a number, whose key it holds once it was there
 abbrev pub IsCursorPlace : Fields → List ℕ → List ℕ → CursorPlace → Type 0
 IsCursorPlace T start key (Before next) = IsNumberedBelow T start next.depth next.slot
 IsCursorPlace T start key (At slot depth) = IsNumberedBelow T start depth slot × (key ≡ start ++ path_to T depth slot)
 IsCursorPlace T start key End = Unit {0}
 
--- those of the entries that are before the bound
+-- the entries that a cursor has left: those of its walk that are before the bound
 abbrev pub cursor_left : Fields → List ℕ → Option (List ℕ) → CursorPlace → List Entry
 cursor_left T start to place = filter (λ e. precedes_end to e.0) (cursor_entries T start place)
 
--- the node where the cursor ends: that of the first entry behind the end
+-- the node where the cursor ends: that of the first entry at the bound or after it, as `IsEnd` says
 abbrev pub IsCursorEnd : Fields → List ℕ → Option (List ℕ) → CursorPlace → Option Numbered → Type 0
 IsCursorEnd T start to place end = filter (λ e. follows_end to e.0) (cursor_entries T start place) ≡ entries_left T start end
 
--- from a place the walk comes to a node, that of the first of its entries, or nothing is left
+-- from a place the walk comes to a node, that of the first entry that it has left, or nothing is left
 abbrev pub FindsNext : Fields → List ℕ → CursorPlace → Option Numbered → Type 0
 FindsNext T start place found = (cursor_entries T start place ≡ entries_left T start found) × IsRangePlace T start found
 
--- and its key is written
+-- the walk comes to a node (`FindsNext`), and the key that the cursor holds is that node's
 pub record WritesNextKey (T : Fields) (start : List ℕ) (place : CursorPlace) (key : List ℕ) (found : Option Numbered) : Type 0 where
   pub finds : FindsNext T start place found
   pub stands : IsCursorPlace T start key (place_at found)
 
--- nothing is left before the end: no node is, or the next one is that where the walk ends
+-- nothing is left before the end: no node is left, or the next one is that where the walk ends
 abbrev pub IsAtEnd : Option Numbered → Option Numbered → Type 0
 IsAtEnd found end = MatchOption found (Unit {0}) (λ next. (last : Numbered) × (end ≡ Some last) × (last.slot ≡ next.slot))
 

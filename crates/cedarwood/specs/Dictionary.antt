@@ -14,23 +14,28 @@ use Rattle.cedarwood.specs.TableCode.{fields_code}
 use Rattle.cedarwood.specs.declared.figures.MemoryStats.{MemoryStats}
 use Rattle.cedar_model.specs.Meaning.WellFormed.{is_value}
 
--- the state that its results come from, the tree with just those numbers that have slots of their own, how many failed searches
--- close a block, how many blocks one search tries at most, how many slots are in use and there are, and the table that it is kept in,
--- which is what a file has of it
+-- what a contract sees of a dictionary, which is kept in its `table`
 pub record Dictionary : Type 0 where
+  -- the tree that its results come from, and whether labels ascend
   pub state : State
+  -- the tree of marks: with just those numbers that have slots of their own
   pub marked : Tree
+  -- how many failed searches for places close a block
   pub max_trial : ℤ
+  -- how many blocks one search for places tries at most
   pub search_limit : ℕ
+  -- how many slots are in use, held and free: 256 times the number of blocks in use
   pub size : ℕ
+  -- how many slots there are
   pub capacity : ℕ
+  -- the fields of its table, as a file has them
   pub table : Fields
 
--- the bound of a search that nothing bounds: 2^64 - 1 blocks, so all that there can be
+-- the bound of a search that nothing bounds: 2^64 - 1 blocks
 abbrev pub no_search_limit : ℕ
 no_search_limit = 18446744073709551615
 
--- it serves `impl Model` alone
+-- a dictionary as plain data, for `impl Model` alone
 abbrev pub dictionary_code : Coded Dictionary
 dictionary_code =
     code_by ((((State × Tree) × (ℤ × ℕ)) × (ℕ × ℕ)) × Fields) (coded× (coded× (coded× (coded× state_code coded_tree) (coded× coded_ℤ coded_ℕ)) (coded× coded_ℕ coded_ℕ)) fields_code)
@@ -43,16 +48,16 @@ unfoldable pub capacity_after : ℕ → ℕ → ℕ → ℕ
 capacity_after zero size capacity = capacity
 capacity_after (suc n) size capacity = capacity_after n (size + 256) (cond (size == capacity) (2 * capacity) capacity)
 
--- n blocks of 256 slots more are in use, and the slots have doubled just where they had to
+-- n more blocks of 256 slots are in use, and the slots have doubled exactly if all were in use (`capacity_after`)
 pub record Grows (n : ℕ) (before after : Dictionary) : Type 0 where
   pub size : after.size ≡ before.size + 256 * n
   pub capacity : after.capacity ≡ capacity_after n before.size before.capacity
 
--- how many bytes begin a key: the root's children
+-- how many bytes begin a key: so many children has the root of the tree t
 abbrev pub first_bytes : Tree → ℕ
 first_bytes t = length (labels t.children)
 
--- the slots that are held: one for the root, one for each prefix, and one for each number that has a slot of its own
+-- how many slots are held: one for the root, one for each prefix, and one for each number that has a slot of its own
 abbrev pub held_slots : Dictionary → ℕ
 held_slots d = 1 + length (prefixes d.state.tree) + length (walk d.marked)
 
@@ -65,23 +70,26 @@ with_some test (child l n below rest) = child l (cond (test (l ∷ [])) n None) 
 abbrev pub some_numbers : (List ℕ → Bool) → Tree → Tree
 some_numbers test t = record { number = None; children = with_some test t.children }
 
--- the tree of marks has all nodes, and some of the numbers: so it is known once it is known which keys have marks
+-- the tree of marks has all nodes, and those numbers of the tree whose keys have marks: so it is known once these
+-- keys are
 abbrev pub IsMarked : Dictionary → Type 0
 IsMarked d = d.marked ≡ some_numbers (λ path. is_some (number_at d.marked path)) d.state.tree
 
--- what holds of each dictionary that may have `slots` slots
+-- what holds of each dictionary that may have `slots` slots: the tree is sound, labels ascend if it is ordered, marks
+-- are as `IsMarked` says, and values are in range
 pub record IsValid (slots : ℕ) (d : Dictionary) : Type 0 where
   pub sound : IsSound d.state.tree
   pub ascending : d.state.ordered ≡ true → IsAscending d.state.tree.children
   pub marked : IsMarked d
   pub values : AllNumbers (λ v. is_value v ≡ true) d.state.tree.children
-  -- whole blocks are in use, of a power of two of them, and no more than there may be
+  -- the slots in use are whole blocks, one or more, and no more than there are; there are 256 times a power of two,
+  -- and no more than `slots`
   pub blocks : (n : ℕ) × (0 < n) × (d.size ≡ 256 * n)
   pub doubled : (k : ℕ) × (d.capacity ≡ 256 * 2 ^ k)
   pub room : d.size ≤ d.capacity
   pub within : d.capacity ≤ slots
 
--- figures whose four fields are the same
+-- all four figures are the same
 abbrev pub AreSameFigures : MemoryStats → MemoryStats → Type 0
 AreSameFigures one other =
     (one.entries ≡ other.entries) × (one.used_node_slots ≡ other.used_node_slots) × (one.node_capacity ≡ other.node_capacity) × (one.allocated_bytes ≡ other.allocated_bytes)

@@ -6,11 +6,11 @@ use Rattle.cedar_slots.specs.Places.{IsSlotLimit}
 abbrev pub most_slots : ℕ
 most_slots = 1073741824
 
--- a number of slots that a call takes as the limit: the greatest one, of which a caller says nothing, or else a power of two from 256 on
--- below that
+-- a number of slots that a call takes as the limit: `most_slots`, of which a caller says nothing, or else an
+-- `IsSlotLimit`
 abbrev pub IsLimit : ℕ → Type 0
 IsLimit slots = slots ≢ most_slots → IsSlotLimit slots
 
--- how many bytes a load may allocate, if no other limit is given
+-- how many bytes a load may allocate if no other limit is given: 536870912
 abbrev pub default_load_limit : ℕ
 default_load_limit = 536870912

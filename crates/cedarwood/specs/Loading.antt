@@ -11,13 +11,13 @@ use Rattle.cedar_format.specs.Tables.{header_of, table_bytes, IsTableFile}
 use Rattle.cedarwood.specs.Dictionary.{Dictionary}
 pub use Rattle.cedar_file.specs.Loading.{IsDecided, LacksMemory, LoadAnswers, LoadsBy}
 
--- where a load by path was refused memory, it was for the buffer of 8192 bytes, or for one of the four lists of a header that
--- has passed
+-- if a load by path was refused memory, it was for the buffer of 8192 bytes, or for one of the four lists of a header
+-- that has passed
 abbrev pub LacksByPath : ℕ → ℕ → ℕ → CedarPersistenceError → Type 0
 LacksByPath layout slots limit e = (e ≡ AllocationFailed 8192) ⊎ LacksNoMore (Passes layout slots limit None) e
 
--- something with a table was loaded of an open file that had `before` left, as of a reader (`LoadsBy`); or there was no memory for the
--- buffer of 8192 bytes
+-- what a load promises of an open file that had `before` left: as of a reader (`LoadsBy`), or there was no memory for
+-- the buffer of 8192 bytes
 abbrev pub LoadsOpened : {X : Type 0} → (X → Fields) → LayoutKind → ℕ → ℕ → Option (List ℕ) → Result X CedarPersistenceError → Type 0
 LoadsOpened table kind slots limit before result =
     IsErrAnd result (λ e. e ≡ AllocationFailed 8192)
@@ -29,7 +29,8 @@ OwnFilesLoad = (version slots limit : ℕ) (T : Fields) (answer : Result Diction
     → LoadAnswers (λ d. d.table) T.layout slots limit (table_bytes version T) answer
     → LacksMemory (layout_byte T.layout) slots limit (table_bytes version T) answer ⊎ IsOkAnd answer (λ d. d.table ≡ T)
 
--- what was loaded has the very bytes of its file in the version of that file, so that a save in it gives them back
+-- what was loaded from some bytes has these as the bytes of its table in one of the versions, so that a save in it
+-- gives them back
 abbrev pub LoadedFilesSaveAgain : Type 0
 LoadedFilesSaveAgain = (kind : LayoutKind) (slots limit : ℕ) (bytes : List ℕ) (d : Dictionary) → LoadAnswers (λ x. x.table) kind slots limit bytes (Ok d)
     → (version : ℕ) × IsTableFile version slots d.table bytes × (table_bytes version d.table ≡ bytes)

@@ -14,7 +14,7 @@ use Rattle.cedarwood.specs.Dictionary.{capacity_after, Dictionary, first_bytes}
 use Rattle.cedarwood.specs.Dictionary.{held_slots, no_search_limit}
 use Rattle.cedarwood.specs.SortedInput.{fault_from}
 
--- labels ascend, one failed search closes a block, and one search may try each block that there can be
+-- labels ascend, one failed search closes a block, and nothing bounds a search
 abbrev pub default_settings : CedarBuilder
 default_settings = record { ordered = true; max_trial = pos 1; search_limit = no_search_limit; tried = ≤ℤ_refl (pos 1) }
 
@@ -27,30 +27,31 @@ pub record IsEmpty (settings : CedarBuilder) (d : Dictionary) : Type 0 where
   pub search_limit : d.search_limit ≡ settings.search_limit
   pub size : (d.size ≡ 256) × (d.capacity ≡ 256)
 
--- a new one, or there was no memory for it
+-- an empty dictionary with these settings was made, or there was no memory for it
 abbrev pub IsNew : CedarBuilder → Result Dictionary CedarError → Type 0
 IsNew settings made = MatchResult made (IsEmpty settings) (λ e. e ≡ Memory)
 
--- a new one has replaced another, or there was no memory for it and the other stays
+-- an empty dictionary with these settings has replaced another, or there was no memory for it and the other stays
 abbrev pub IsRenewed : CedarBuilder → Dictionary → Dictionary → Result (Unit {0}) CedarError → Type 0
 IsRenewed settings before after result = MatchResult result (λ _. IsEmpty settings after) (λ e. (e ≡ Memory) × (after ≡ before))
 
--- the dictionary of some pairs with these settings: their tree, whose labels ascend, in one block more at most for each prefix of a
--- key: so slots are wanted only by many of these
+-- a dictionary that was made of pairs with these settings: it has the tree of the pairs, whose labels ascend, and one
+-- block more at most for each prefix of a key. So slots are wanted only by many of these
 pub record IsSorted (layout : LayoutKind) (settings : CedarBuilder) (pairs : List Entry) (d : Dictionary) : Type 0 where
   pub tree : d.state.tree ≡ asc pairs
-  -- where a number may be kept in its node's own slot, just those of keys that begin longer ones have slots of their own; by default
-  -- all have
+  -- in the reduced layout just the numbers of keys that begin longer ones have slots of their own; by default all
+  -- have
   pub marks : SortedMarks layout (asc pairs) d.marked
   pub ordered : d.state.ordered ≡ settings.ordered
   pub max_trial : d.max_trial ≡ settings.max_trial
   pub search_limit : d.search_limit ≡ settings.search_limit
   pub size : (n : ℕ) × (n ≤ length (prefixes (asc pairs))) × (d.size ≡ 256 + 256 * n) × (d.capacity ≡ capacity_after n 256 256)
-  -- at most 255 slots outside the first block are free, and 256 others for each node below the root that takes several
+  -- at most 255 slots outside the first block are free, and 256 others for each node below the root that takes
+  -- several
   pub packed : d.size + first_bytes (asc pairs) ≤ held_slots d + 510 + 256 * count_crowded (asc pairs)
 
--- a sorted build: the first fault of the pairs, if there is one; else their dictionary, or there was no memory, or so many prefixes
--- that all slots might be wanted
+-- a build of sorted pairs returns their first fault, if there is one; or else their dictionary (`IsSorted`), or it is
+-- refused for memory, or for slots if so many prefixes might want all
 pub record IsSortedBuild (layout : LayoutKind) (slots : ℕ) (settings : CedarBuilder) (pairs : List Entry) (made : Result Dictionary CedarError) : Type 0 where
   pub faulty : IfSome (fault_from 0 [] pairs) (λ e. made ≡ Err e)
   pub sorted : IfOk made (IsSorted layout settings pairs)

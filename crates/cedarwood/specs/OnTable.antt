@@ -5,7 +5,8 @@ use Rattle.cedar_model.specs.Meaning.WellFormed.{IsWellFormed, tree_of}
 use Rattle.cedar_model.specs.Table.TableFields.{Fields, capacity_of, size_of}
 use Rattle.cedarwood.specs.Dictionary.{Dictionary}
 
--- its table is well-formed for `slots` slots, and state, marks, settings and sizes are those of this table
+-- the table of a dictionary is well-formed for `slots` slots; its state, marks, settings and sizes are those of this
+-- table
 pub record IsOnTable (slots : ℕ) (d : Dictionary) : Type 0 where
   pub formed : IsWellFormed slots d.table
   pub state : d.state ≡ record { tree = tree_of d.table; ordered = d.table.ordered }
@@ -14,7 +15,7 @@ pub record IsOnTable (slots : ℕ) (d : Dictionary) : Type 0 where
   pub size : d.size ≡ size_of d.table
   pub capacity : d.capacity ≡ capacity_of d.table
 
--- the value of a dictionary over a table, of which one search tries n blocks at most
+-- what is seen of a dictionary over a table, in which one search tries n blocks at most
 abbrev pub dictionary_of : ℕ → Fields → Dictionary
 dictionary_of n T = record {
   state = record { tree = tree_of T; ordered = T.ordered };

@@ -12,6 +12,7 @@ use Rattle.cedar_format.specs.Reading.{IsIo}
 abbrev pub FailsToWrite : CedarPersistenceError → Type 0
 FailsToWrite e = IsIo e ⊎ (e ≡ AllocationFailed 8192)
 
--- a table's own file in a version passes all steps of a load but those on memory, under a limit of at least its need
+-- a table's own file in this version passes all steps of a load but those on memory, under a limit of at least its
+-- need
 abbrev pub PassesAgain : LayoutKind → ℕ → ℕ → Fields → Type 0
 PassesAgain kind slots version T = (limit : ℕ) → need (header_of version T) ≤ limit → header_answer (layout_byte kind) slots limit (table_bytes version T) ≡ None

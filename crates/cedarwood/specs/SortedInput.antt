@@ -11,26 +11,27 @@ use Rattle.cedar_tree.specs.Queries.{Entry}
 use Rattle.cedar_bulk.specs.Sorted.{Pair, entries_of}
 use Rattle.cedarwood.specs.Fault.{fault, or_else}
 
--- a key that isn't above the one before it is at fault: it repeats that one, or it is smaller
+-- the fault of a key that isn't above the one before it, with the pair's index: `DuplicateKey` or `KeysNotSorted`
 abbrev pub fault_of_order : ℕ → Ordering → Option CedarError
 fault_of_order index Less = None
 fault_of_order index Equal = Some (DuplicateKey index)
 fault_of_order index Greater = Some (KeysNotSorted index)
 
--- the fault of a pair that comes behind a key: its own, and then that of its order
+-- the fault of a pair that comes behind a key: its own, or else that of its order
 abbrev pub fault_behind : ℕ → List ℕ → List ℕ → ℤ → Option CedarError
 fault_behind index before key v = or_else (fault key v) (fault_of_order index (slice_cmp nat_cmp before key))
 
--- the first fault of entries that come behind a key, counted from an index on
+-- the first fault of pairs that come behind a key, counted from an index on
 abbrev pub fault_from : ℕ → List ℕ → List Entry → Option CedarError
 fault_from index before [] = None
 fault_from index before (e ∷ es) = or_else (fault_behind index before e.0 e.1) (fault_from (index + 1) e.0 es)
 
--- the first fault of some pairs. The first key has the empty one before it, which no key repeats and none is below.
+-- the first fault of a sorted input, pair by pair: the pair's own, or else that of its order. The first key has the
+-- empty one before it, which no key repeats and none is below
 abbrev pub sorted_fault : List Pair → Option CedarError
 sorted_fault pairs = fault_from 0 [] (entries_of pairs)
 
--- the last key of the first i of some entries that come behind a key
+-- the last key of the first i of some pairs that come behind a key
 abbrev pub key_at : List ℕ → List Entry → ℕ → List ℕ
 key_at before entries zero = before
 key_at before [] (suc i) = before

@@ -12,19 +12,22 @@ use Rattle.cedar_model.specs.Table.Layouts.{LayoutKind, default_layout, reduced_
 use Rattle.cedarwood.specs.Dictionary.{Dictionary, Grows, IsMarked, first_bytes, held_slots}
 use Rattle.cedarwood.specs.Fault.{fault, IsShortage}
 
--- a put of a key makes no block, and at most one where another key has its first byte. It makes more only where at most 255 slots outside
--- the first block are free then, or where none was before; in this case it makes two at most, and another key has its first byte
+-- what `PacksKey` says, of dictionaries
 abbrev pub PacksUpdate : Dictionary → Dictionary → List ℕ → Type 0
 PacksUpdate before after key =
     (after.size ≤ before.size + 256 * joins before.state.tree key)
     ⊎ ((after.size + first_bytes after.state.tree ≤ held_slots after + 510)
     ⊎ ((before.size + first_bytes before.state.tree ≡ held_slots before + 255) × (joins before.state.tree key ≡ 1) × (after.size ≤ before.size + 512)))
 
--- an update of the key with the value v in a dictionary of this layout that may have `slots` slots
+-- all that an update of the key with v says of its result and of the dictionary, in this layout and with `slots`
+-- slots at most
 pub record IsUpdate (layout : LayoutKind) (slots : ℕ) (before after : Dictionary) (key : List ℕ) (v : ℤ) (result : Result (Unit {0}) CedarError) : Type 0 where
+  -- the pair's fault is returned, if it has one, and then nothing has changed
   pub faulty : IfSome (fault key v) (λ e. result ≡ Err e)
   pub unchanged : IsSome (fault key v) → after ≡ before
+  -- after `Ok` the state is that after a put
   pub ok : OnOk result (after.state ≡ after_put before.state key v)
+  -- after an `Err` the state is as before
   pub err : OnErr result (after.state ≡ before.state)
   -- which numbers have slots of their own: by default all. Where a number may be kept in its node's own slot, the numbers of the key's
   -- fronts move into slots, and the key's has one if longer keys are held; all others stay where they are. A refused update moves none
@@ -47,5 +50,6 @@ pub record IsUpdate (layout : LayoutKind) (slots : ℕ) (before after : Dictiona
       → (IsOk result × Grows 0 before after) ⊎ ((layout ≡ default_layout) × (before.size + first_bytes before.state.tree ≡ slots_of_tree before.state.tree + 255))
   -- one slot alone is taken wherever one is free outside the first block
   pub packs : OnOk result (PacksUpdate before after key)
+  -- the settings are as before
   pub max_trial : after.max_trial ≡ before.max_trial
   pub search_limit : after.search_limit ≡ before.search_limit

@@ -23,13 +23,13 @@ pub record IsPrefixPlace (slots : ℕ) (T : Fields) (query : List ℕ) (place s 
 abbrev pub answers_of : List Entry → List (ℤ × ℕ)
 answers_of entries = map (λ entry. (entry.1, length entry.0)) entries
 
--- what a prediction has left at a place
+-- the items that a prediction has left at a place
 abbrev pub predicted_from : Fields → List ℕ → PredictPlace → List (ℤ × ℕ)
 predicted_from T query Start = predict (tree_of T) query
 predicted_from T query (Node slot depth) = answers_of (visited_entries (left_at T query depth slot))
 predicted_from T query End = []
 
--- it is at a node with a number below its query, and keeps siblings that are right for it
+-- a prediction is at a node with a number below its query, and keeps siblings that are right for it
 abbrev pub IsPredictPlace : Fields → List ℕ → PredictPlace → List PendingSibling → Type 0
 IsPredictPlace T query Start siblings = Unit {0}
 IsPredictPlace T query (Node slot depth) siblings = IsNumberedBelow T query depth slot × IsPending T siblings depth slot
@@ -45,13 +45,13 @@ pub record GoesOnTo (T : Fields) (query : List ℕ) (place : PredictPlace) (sibl
 abbrev pub entries_from : Fields → List ℕ → ℕ → ℕ → List Entry
 entries_from T key s left = cond (left == 0) [] (visited_entries (left_at T [] (length key) s))
 
--- it is there as long as there are any: at the root, or at a node with a number
+-- a walk over all keys is at the root or at a node with a number, as long as it has an entry left
 pub record IsEntriesPlace (T : Fields) (key : List ℕ) (s : ℕ) : Type 0 where
   pub below : IsBelow (cells_in T) [] (length key) s
   pub path : path_to T (length key) s ≡ key
   pub number : (s ≡ 0 → ⊥) → (v : ℤ) × (number_below T [] (length key) s ≡ Some v)
 
--- it comes to an entry: the first of those left
+-- a walk over all keys comes to an entry: the first of those left
 pub record ComesToEntry (T : Fields) (left : List Entry) (key : List ℕ) (found : ℕ × ℤ) : Type 0 where
   pub place : IsEntriesPlace T key found.0
   pub entries : left ≡ (key, found.1) ∷ visited_entries (left_at T [] (length key) found.0)
@@ -61,7 +61,7 @@ abbrev pub GoesToEntry : Fields → ℕ → List ℕ → List ℕ → Option (�
 GoesToEntry T s before after next =
     MatchOption next (visited_entries (left_at T [] (length before) s) ≡ []) (ComesToEntry T (visited_entries (left_at T [] (length before) s)) after)
 
--- the same, with a copy of that key, whose bytes `bytes_of` gives
+-- the same as `GoesToEntry`, with a copy of that key, whose bytes `bytes_of` gives
 abbrev pub GoesToCopied : {X : Type 0} → (X → List ℕ) → Fields → ℕ → List ℕ → List ℕ → Option (ℕ × ℤ × X) → Type 0
 GoesToCopied bytes_of T s before after next =
     MatchOption next (visited_entries (left_at T [] (length before) s) ≡ [])

@@ -13,7 +13,7 @@ pub record PrefixWalk : Type 0 where
   pub left : ℕ
   pub query : ℕ
 
--- it serves `impl Model` alone
+-- a prefix walk as plain data, for `impl Model` alone
 abbrev pub prefix_walk_code : Coded PrefixWalk
 prefix_walk_code =
     code_by (List (ℤ × ℕ) × (ℕ × ℕ)) (coded× (coded_list (coded× coded_ℤ coded_ℕ)) (coded× coded_ℕ coded_ℕ))
@@ -27,7 +27,7 @@ pub record CountedWalk : Type 0 where
   pub ticks : ℕ
   pub query : ℕ
 
--- it serves `impl Model` alone
+-- a counted prefix walk as plain data, for `impl Model` alone
 abbrev pub counted_walk_code : Coded CountedWalk
 counted_walk_code =
     code_by (List (ℤ × ℕ) × (ℕ × ℕ)) (coded× (coded_list (coded× coded_ℤ coded_ℕ)) (coded× coded_ℕ coded_ℕ))

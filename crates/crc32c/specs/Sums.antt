@@ -6,20 +6,20 @@ use Rattle.std.specs.Prelude.{ℕ, zero, suc, ◌/◌, ◌%◌, ◌^◌, ◌==�
 abbrev pub generator : ℕ
 generator = 0x82f63b78
 
--- what is added where the bit that leaves the register is set
+-- what is added if the bit that leaves the register is set
 unfoldable pub feedback : ℕ → ℕ
 feedback register = cond (register % 2 == 1) generator 0
 
--- the register after one bit more
+-- the register after one more bit
 unfoldable pub after_bit : ℕ → ℕ
 after_bit register = bit_xor (register / 2) (feedback register)
 
--- and after n bits
+-- the register after n more bits
 unfoldable pub after_bits : ℕ → ℕ → ℕ
 after_bits zero register = register
 after_bits (suc n) register = after_bits n (after_bit register)
 
--- the register after one byte more
+-- the register after one more byte
 unfoldable pub after_byte : ℕ → ℕ → ℕ
 after_byte register byte = after_bits 8 (bit_xor register byte)
 

@@ -2,6 +2,8 @@
 use Rattle.std.specs.Prelude.{◌≡◌, ◌≤◌, ◌≤ℤ◌, length, pos}
 use Rattle.cedar_slots.specs.Places.{IsPowerOfTwo, PlaceFields, Shaped}
 
+-- the sizes are those of a table of at most four blocks, a power of two of them, with 257 reject values, and
+-- `max_trial` is above 0
 pub record IsFitting (places : PlaceFields) : Type 0 where
   pub shaped : Shaped places
   pub doubled : IsPowerOfTwo (length places.blocks.records)

@@ -1,7 +1,7 @@
 -- Bytes of lines.
 use Rattle.std.specs.Prelude.{ℕ, Bool, true, false, ◌&&◌, nat_le, List, [], ◌∷◌}
 
--- a byte `0` to `9`
+-- whether a byte is one from `0` to `9`
 abbrev pub is_digit : ℕ → Bool
 is_digit c = nat_le 48 c && nat_le c 57
 

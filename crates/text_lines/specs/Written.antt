@@ -1,4 +1,4 @@
--- What is said of a watched writer that bytes are written to, by what its own trait reports of the device inside.
+-- What is said of a watched writer to which bytes are written, by what its device reports.
 use Rattle.std.specs.Prelude.{◌≡◌, ℕ, ◌<◌, ◌++◌, Bool, true, List, length, Option}
 use Rattle.std.specs.Prelude.{Result, Err, OnOk, OnErr}
 use Rattle.std.specs.Io.KnownBytes.{Appends}
@@ -8,28 +8,28 @@ use Rattle.cedar_format.specs.declared.watched.Watched.{Watched}
 -- What a device holds is known or not: `Some` bytes, or `None` where it doesn't report it. Below, `held` is what the
 -- writer held at first, and `holds` what it holds in the end.
 
--- of some bytes a first part was written, and not all: nothing, or more, but never the last byte
+-- a first part of some bytes was written, and not all: nothing, or more, but never the last byte
 abbrev pub WritesFront : Option (List ℕ) → Option (List ℕ) → List ℕ → Type 0
 WritesFront held holds bytes = (part : List ℕ) × (rest : List ℕ) × (0 < length rest) × (bytes ≡ part ++ rest) × Appends held holds part
 
--- of some bytes the first ones were written, or all, and nothing else
+-- the first ones of some bytes were written, or all, and nothing else
 abbrev pub AppendsFront : Option (List ℕ) → Option (List ℕ) → List ℕ → Type 0
 AppendsFront held holds bytes = (part : List ℕ) × (rest : List ℕ) × (bytes ≡ part ++ rest) × Appends held holds part
 
--- a writer took these bytes
+-- a writer took these bytes, as far as its device reports what it holds (`contents`)
 abbrev pub Writes : {D : Type 0} → (D → Option (List ℕ)) → Watched D → Watched D → List ℕ → Type 0
 Writes contents before after bytes = Appends (contents (device_of before)) (contents (device_of after)) bytes
 
--- it took a first part of them, and not all
+-- a writer took a first part of these bytes, and not all
 abbrev pub BreaksOff : {D : Type 0} → (D → Option (List ℕ)) → Watched D → Watched D → List ℕ → Type 0
 BreaksOff contents before after bytes = WritesFront (contents (device_of before)) (contents (device_of after)) bytes
 
--- it took the first ones, or all
+-- a writer took the first ones of these bytes, or all
 abbrev pub WritesUpTo : {D : Type 0} → (D → Option (List ℕ)) → Watched D → Watched D → List ℕ → Type 0
 WritesUpTo contents before after bytes = AppendsFront (contents (device_of before)) (contents (device_of after)) bytes
 
--- Whether a writer has failed is a test before a call and one after it. Some bytes were written without a fault, or the writer failed,
--- which is reported by this error and no other.
+-- a call of a writer that fails by this error alone: bytes were written without a fault, or the writer failed.
+-- `before` and `after` are whether it had failed before the call and after it
 pub record WritesOrFails {X E : Type 0} (fault : E) (before after : Bool) (result : Result X E) : Type 0 where
   pub unfailed : OnOk result (after ≡ before)
   pub cause : OnErr result ((result ≡ Err fault) × (after ≡ true))

@@ -15,5 +15,7 @@ abbrev pub times : ℕ → Option ℤ
 times zero = None
 times (suc n) = Some (one_more (times n))
 
+-- what a dictionary of counts holds at a word once these words were counted: nothing if it isn't among them, and else
+-- how often it is, up to the greatest value
 abbrev pub count_of : List ℕ → List (Bor (List ℕ)) → Option ℤ
 count_of word words = times (count_by (λ w. bytes_eq w.now word) words)

@@ -2,6 +2,6 @@
 use Rattle.std.specs.Prelude.{◌≡◌, Bool, ℕ, List, Some}
 use Rattle.cedarwood.specs.Words.{Call, Content, PathLeaves}
 
--- whatever was there before these calls, a crash leaves a file of these bytes
+-- whatever was at a path before these calls, a crash leaves a file of these bytes there
 abbrev pub IsThere : List ℕ → List Call → Type 0
 IsThere bytes calls = (before : Content → Bool) (c : Content) → PathLeaves before calls c → c ≡ Some bytes

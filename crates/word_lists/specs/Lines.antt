@@ -16,7 +16,7 @@ is_plain text b = not (b == 9) && (not (b == 10) && (not (b == 92) && (text || l
 abbrev pub byte_text : Bool → ℕ → List ℕ
 byte_text text b = if is_plain text b then b ∷ [] else (92 ∷ (120 ∷ encode_lower (b ∷ [])))
 
--- some bytes of a word, which is UTF-8 or not
+-- the text of some bytes of a word, which is UTF-8 or not
 abbrev pub escape : Bool → List ℕ → List ℕ
 escape text [] = []
 escape text (b ∷ bytes) = byte_text text b ++ escape text bytes
@@ -25,7 +25,7 @@ escape text (b ∷ bytes) = byte_text text b ++ escape text bytes
 abbrev pub word_text : List ℕ → List ℕ
 word_text word = escape (is_utf8 word) word
 
--- a word, a tab, its number and byte 10
+-- the line of an entry: a word, a tab, its number and byte 10
 abbrev pub entry_line : Entry → List ℕ
 entry_line entry = word_text entry.0 ++ (9 ∷ [] ++ (signed_decimal entry.1 ++ 10 ∷ []))
 
@@ -48,6 +48,7 @@ abbrev pub signed_lines : List ℕ → List Entry → List ℕ
 signed_lines sign [] = []
 signed_lines sign (entry ∷ entries) = signed_line sign entry ++ signed_lines sign entries
 
+-- whether a number is held and is this one
 abbrev pub is_number : Option ℤ → ℤ → Bool
 is_number None v = false
 is_number (Some held) v = int_eq held v

@@ -26,16 +26,17 @@ use Rattle.word_lists.specs.declared.lines.LineFault.TheVariants as faults
 abbrev pub fits_number : ℤ → Bool
 fits_number v = int_le (negsuc 2147483647) v && int_le v (pos 2147483647)
 
--- a number in figures: `+`, `-` or neither, and then one or more digits
+-- the number that figures say: `+`, `-` or neither, and then one or more digits
 abbrev pub figures_number : List ℕ → Option ℤ
 figures_number text =
     if is_filled (without_leading_sign text) && list_all is_digit (without_leading_sign text) && fits_number (signed_digits_value 10 text)
     then Some (signed_digits_value 10 text) else None
 
--- the number of a line that has none: its own
+-- the number of a line without a tab: the line's own
 abbrev pub own_line_number : ℕ → Option ℤ
 own_line_number number = if nat_le number 2147483647 then Some (pos number) else None
 
+-- whether a byte is a tab
 abbrev pub is_tab : ℕ → Bool
 is_tab b = b == 9
 
@@ -43,45 +44,49 @@ is_tab b = b == 9
 abbrev pub word_of : List ℕ → List ℕ
 word_of line = read_as (before_first is_tab line)
 
--- what follows its first tab, if it has one
+-- what follows the first tab of a line, if it has one
 abbrev pub figures_of : List ℕ → Option (List ℕ)
 figures_of line = if is_some (position is_tab line) then Some (after_first is_tab line) else None
 
+-- the number that the figures of a line say, and without figures the line's own
 abbrev pub number_with : ℕ → Option (List ℕ) → Option ℤ
 number_with number None = own_line_number number
 number_with number (Some figures) = figures_number figures
 
--- its number: that in figures behind the first tab, and without a tab the line's own
+-- the number of a line: that in figures behind its first tab, and without a tab the line's own
 abbrev pub number_of_line : ℕ → List ℕ → Option ℤ
 number_of_line number line = number_with number (figures_of line)
 
 -- ---- wants
 
--- want of memory or of slots
+-- the error is want of memory or of slots
 abbrev pub IsWant : StoreError → Type 0
 IsWant (Read e) = ⊥
 IsWant Memory = Unit {0}
 IsWant SlotLimit = Unit {0}
 
--- what a refused update wants, where its key and its value have no fault
+-- what a refused update wants whose key and value have no fault
 abbrev pub want_of : CedarError → StoreError
 want_of OfSlots = SlotLimit
 want_of _ = Memory
 
 -- ---- what a line stores
 
+-- the state with a word and its number, unless they have this fault
 abbrev pub stored_by : Option CedarError → State → List ℕ → ℤ → State
 stored_by None s word v = after_put s word v
 stored_by (Some e) s word v = s
 
+-- the state with a word and its number, unless there is none or the two have a fault
 abbrev pub stored_with : Option ℤ → State → List ℕ → State
 stored_with None s word = s
 stored_with (Some v) s word = stored_by (fault word v) s word v
 
--- the state with a line, which has this number: its word has its number, unless that is none or the two have a fault
+-- the state with a line of this number: its word has its number, unless there is none or the two have a fault
 abbrev pub line_stored : State → ℕ → List ℕ → State
 line_stored s number line = if is_filled line then stored_with (number_of_line number line) s (word_of line) else s
 
+-- what is wrong with a word and its number: this fault, or that the word is held
 abbrev pub told_by : Option CedarError → Bool → Option Fault
 told_by None true = Some faults.Repeated
 told_by None false = None
@@ -89,11 +94,13 @@ told_by (Some EmptyKey) held = Some faults.EmptyWord
 told_by (Some (NulByte at)) held = Some faults.NulByte
 told_by (Some _) held = Some faults.Number
 
+-- what is wrong with a word and its number: there is none, or their fault, or that the word is held
 abbrev pub told_with : Option ℤ → State → List ℕ → Option Fault
 told_with None s word = Some faults.Number
 told_with (Some v) s word = told_by (fault word v) (is_some (number_at s.tree word))
 
--- what is reported of a line: that it has no number, the fault of its word and number, or that its word is held
+-- what is wrong with a line of this number, if anything is: it has no number, its word and number have a fault, or
+-- its word is held
 abbrev pub line_told : State → ℕ → List ℕ → Option Fault
 line_told s number line = if is_filled line then told_with (number_of_line number line) s (word_of line) else None
 
@@ -101,6 +108,7 @@ line_told s number line = if is_filled line then told_with (number_of_line numbe
 abbrev pub Told : Type 0
 Told = ℕ × List ℕ × Fault
 
+-- a line that is reported, if something is wrong with it
 abbrev pub told_one : ℕ → List ℕ → Option Fault → List Told
 told_one number line None = []
 told_one number line (Some f) = (number, line, f) ∷ []
@@ -117,7 +125,7 @@ abbrev pub pairs_stored : State → List Entry → State
 pairs_stored s [] = s
 pairs_stored s (e ∷ es) = pairs_stored (stored_by (fault e.0 e.1) s e.0 e.1) es
 
--- a line that has this number stores behind the first pairs what makes the others
+-- the line of this number adds to the first pairs what makes the others
 abbrev pub AddsLine : List Entry → List Entry → ℕ → List ℕ → Type 0
 AddsLine before after number line = (s : State) → line_stored (pairs_stored s before) number line ≡ pairs_stored s after
 
@@ -133,13 +141,13 @@ abbrev pub lines_stored : State → ℕ → List (List ℕ) → State
 lines_stored s number [] = s
 lines_stored s number (line ∷ lines) = lines_stored (line_stored s number (body_of line)) (number + 1) lines
 
--- what is reported of them
+-- the lines of some that are reported, the first of which has this number
 abbrev pub lines_told : State → ℕ → List (List ℕ) → List Told
 lines_told s number [] = []
 lines_told s number (line ∷ lines) =
     told_one number (body_of line) (line_told s number (body_of line)) ++ lines_told (line_stored s number (body_of line)) (number + 1) lines
 
--- and what is reported of a whole list
+-- the lines of a whole list that are reported
 abbrev pub list_told : State → List ℕ → List Told
 list_told s list = lines_told s 1 (lines_in list)
 
@@ -147,14 +155,15 @@ list_told s list = lines_told s 1 (lines_in list)
 abbrev pub line_erased : State → List ℕ → State
 line_erased s line = if is_filled line then after_erase s (word_of line) else s
 
--- whether its word is held; that of an empty line is
+-- whether the word of a line is held; that of an empty line is
 abbrev pub line_held : State → List ℕ → Bool
 line_held s line = if is_filled line then is_some (number_at s.tree (word_of line)) else true
 
+-- how many words aren't held: none or one
 abbrev pub absent_of : Bool → ℕ
 absent_of held = if held then 0 else 1
 
--- how many words a line has that aren't held: none or one
+-- how many words of a line aren't held: none or one
 abbrev pub line_absent : State → List ℕ → ℕ
 line_absent s line = absent_of (line_held s line)
 
@@ -163,24 +172,24 @@ abbrev pub lines_erased : State → List (List ℕ) → State
 lines_erased s [] = s
 lines_erased s (line ∷ lines) = lines_erased (line_erased s (body_of line)) lines
 
--- how many of them have a word that isn't held once those of the lines before are taken out
+-- how many of some lines have a word that isn't held once the words of the lines before are taken out
 abbrev pub lines_absent : State → List (List ℕ) → ℕ
 lines_absent s [] = 0
 lines_absent s (line ∷ lines) = line_absent s (body_of line) + lines_absent (line_erased s (body_of line)) lines
 
 -- ---- a reader and a reporter, where it is known what they have left or heard
 
--- a list grows by some members, where it is known
+-- a list grew by some members, if it is known
 abbrev pub Adds : {T : Type 0} → Option (List T) → Option (List T) → List T → Type 0
 Adds None after more = Unit {0}
 Adds (Some xs) None more = ⊥
 Adds (Some xs) (Some ys) more = ys ≡ xs ++ more
 
--- something is so of the bytes that a reader has left, if they are known and fewer than 2^63
+-- P holds of the bytes that a reader has left, if they are known and fewer than 2^63
 abbrev pub OnKnown : Option (List ℕ) → (List ℕ → Type 0) → Type 0
 OnKnown known P = IfSome known (λ input. length input < 2 ^ 63 → P input)
 
--- these are the first lines of what a reader had left, and what it has left now are the others
+-- these lines are the first ones of what a reader had left, and what it has left now are the others, if that is known
 abbrev pub TakesLines : Option (List ℕ) → Option (List ℕ) → List (List ℕ) → Type 0
 TakesLines None after came = Unit {0}
 TakesLines (Some input) after came = (rest : List ℕ) × (after ≡ Some rest) × (lines_in input ≡ came ++ lines_in rest)
@@ -190,7 +199,7 @@ abbrev pub TakesNext : Option (List ℕ) → Option (List ℕ) → List ℕ → 
 TakesNext before after line true = TakesLines before after (line ∷ [])
 TakesNext before after line false = IfSome before (λ input. input ≡ [])
 
--- these are the first lines of what a reader had left, or all
+-- these lines are the first ones of what a reader had left, or all
 abbrev pub AreFirstLines : Option (List ℕ) → List (List ℕ) → Type 0
 AreFirstLines known came = IfSome known (λ input. (later : List (List ℕ)) × (lines_in input ≡ came ++ later))
 
@@ -199,7 +208,7 @@ abbrev pub StoresFirstLines : Option (List ℕ) → State → State → Option (
 StoresFirstLines known s t told tells =
     (came : List (List ℕ)) × AreFirstLines known came × (t ≡ lines_stored s 1 came) × Adds told tells (lines_told s 1 came)
 
--- the words of the first lines are taken out, or of all
+-- the words of the first lines of what a reader had left are taken out, or of all
 abbrev pub ErasesFirstLines : Option (List ℕ) → State → State → Type 0
 ErasesFirstLines known s t = (came : List (List ℕ)) × AreFirstLines known came × (t ≡ lines_erased s came)
 

@@ -12,7 +12,7 @@ use Rattle.word_lists.specs.declared.cut.Style.{Style}
 use Rattle.word_lists.specs.declared.cut.Style.TheVariants.{Parted, Marked, Replaced}
 use Rattle.word_lists.specs.Lines.{entry_line}
 
--- a word that a text begins with, by its number and one less than its bytes
+-- the entry of a word that a text begins with, of which its number and one less than its bytes are known
 abbrev pub front_entry : List ℕ → ℤ × ℕ → Entry
 front_entry text found = (take (found.1 + 1) text, found.0)
 
@@ -36,7 +36,7 @@ without_last b line = if ends_with b line then take (length line - 1) line else 
 abbrev pub body_of : List ℕ → List ℕ
 body_of line = if ends_with 10 line then without_last 13 (without_last 10 line) else line
 
--- the bytes that end it
+-- the bytes that end a line: byte 10 and a byte 13 before that, if it has them
 abbrev pub ending_of : List ℕ → List ℕ
 ending_of line = drop (length (body_of line)) line
 
@@ -62,7 +62,7 @@ is_parted text t = ltb 0 t.0 && (is_some t.2 || not (continues_character (get_or
 abbrev pub parting : List ℕ → List ℕ → Token → List ℕ
 parting sign text t = if is_parted text t then sign else []
 
--- a token, and what comes before it
+-- the text of a token, and before it what comes there (`parting`)
 abbrev pub parted_token : List ℕ → List ℕ → Token → List ℕ
 parted_token sign text t = parting sign text t ++ text_part text t.0 t.1
 
@@ -83,22 +83,23 @@ line_cut sign line tokens = cut_text sign (body_of line) tokens ++ ending_of lin
 abbrev pub greedy_line : Tree → List ℕ → List ℕ → List ℕ
 greedy_line tree sign line = line_cut sign line (segments tree (body_of line))
 
--- what begins the colour of a match on a terminal, as grep writes it, and what ends it
+-- what begins the colour of a match on a terminal, as grep writes it
 abbrev pub mark_on : List ℕ
 mark_on = 27 ∷ (codes "[01;31m" ++ (27 ∷ codes "[K"))
 
+-- what ends the colour of a match on a terminal, as grep writes it
 abbrev pub mark_off : List ℕ
 mark_off = 27 ∷ (codes "[m" ++ (27 ∷ codes "[K"))
 
--- a word in that colour
+-- a word in the colour of a match
 abbrev pub mark_text : List ℕ → List ℕ
 mark_text word = mark_on ++ (word ++ mark_off)
 
--- a token of a text; a key in the colour of a match
+-- the text of a token; that of a key in the colour of a match
 abbrev pub marked_token : List ℕ → Token → List ℕ
 marked_token text t = if is_some t.2 then mark_text (text_part text t.0 t.1) else text_part text t.0 t.1
 
--- a line with each of its keywords in that colour; nothing where it has none
+-- a line with each of its keywords in the colour of a match; nothing if it has none
 abbrev pub marked_line : Tree → List ℕ → List ℕ
 marked_line tree line =
     if ltb 0 (length (keywords_in tree (body_of line))) then texts_of (marked_token (body_of line)) (segments tree (body_of line)) ++ ending_of line else []
@@ -111,15 +112,16 @@ line_at lines place own = get_or (map (λ line. line.now) lines) place own
 abbrev pub replacement : List (Bor (List ℕ)) → ℤ → List ℕ → List ℕ
 replacement lines number own = if int_le (pos 1) number then line_at lines (unsigned_abs number - 1) own else own
 
+-- the line of a number, if there is a number, or else the word itself
 abbrev pub replaced_by : List (Bor (List ℕ)) → Option ℤ → List ℕ → List ℕ
 replaced_by lines None own = own
 replaced_by lines (Some number) own = replacement lines number own
 
--- a token of a text; a key as the line of its number, if there is one
+-- the text of a token; that of a key as the line of its number, if there is one
 abbrev pub replaced_token : List (Bor (List ℕ)) → List ℕ → Token → List ℕ
 replaced_token lines text t = replaced_by lines t.2 (text_part text t.0 t.1)
 
--- the tokens of a text, each key as the line of its number
+-- the text of some tokens, each key as the line of its number
 abbrev pub replaced_text : List (Bor (List ℕ)) → List ℕ → List Token → List ℕ
 replaced_text lines text tokens = texts_of (replaced_token lines text) tokens
 
@@ -127,26 +129,26 @@ replaced_text lines text tokens = texts_of (replaced_token lines text) tokens
 abbrev pub replaced_line : Tree → List (Bor (List ℕ)) → List ℕ → List ℕ
 replaced_line tree lines line = replaced_text lines (body_of line) (segments tree (body_of line)) ++ ending_of line
 
--- a token in a style
+-- the text of a token in a style
 abbrev pub style_text : Style → List ℕ → Token → List ℕ
 style_text (Parted sign) text t = parted_token sign.now text t
 style_text Marked text t = marked_token text t
 style_text (Replaced lines) text t = replaced_token lines.now text t
 
--- the tokens of a text in a style
+-- the text of some tokens in a style
 abbrev pub styled_text : Style → List ℕ → List Token → List ℕ
 styled_text style text tokens = texts_of (style_text style text) tokens
 
--- a cut of a text that costs the least, where a key costs its number and a character that no key has this much, and that is ahead of all
--- that cost as little. Of a text of fewer than 2^32 bytes there is one such cut. Of a longer one sums above 2^64 - 1 count as 2^64 - 1, and
--- it is ahead of those that cost as little and no more than 2^64 - 1
+-- a cut of a text that costs the least, if a key costs its number and a character that no key has this much, and that
+-- is ahead of all that cost as little. Of a text of fewer than 2^32 bytes there is one such cut. Of a longer one sums
+-- above 2^64 - 1 count as 2^64 - 1, and it is ahead of those that cost as little and no more than 2^64 - 1
 pub record IsCheapestCut (tree : Tree) (unknown : ℕ) (text : List ℕ) (tokens : List Token) : Type 0 where
   pub cut : IsCut tree text tokens
   pub least : length text < 2 ^ 32 → IsCheapestBy tree (character_price unknown text) text tokens
   pub capped : IsLeastCapped tree (character_price unknown text) text tokens
   pub ahead : IsAheadCapped tree (character_price unknown text) text tokens
 
--- something is so of a line that is cut into the tokens of a cheapest cut, with a sign between them
+-- P holds of a line that is cut into the tokens of a cheapest cut (`IsCheapestCut`), with a sign between them
 abbrev pub OnCheapestLine : Tree → ℕ → List ℕ → List ℕ → (List ℕ → Type 0) → Type 0
 OnCheapestLine tree unknown sign line P = (tokens : List Token) × IsCheapestCut tree unknown (body_of line) tokens × P (line_cut sign line tokens)
 
@@ -159,14 +161,15 @@ tab_field number = decimal number ++ 9 ∷ []
 abbrev pub spot_line : ℕ → List ℕ → Spot → List ℕ
 spot_line number text s = tab_field number ++ (tab_field (1 + characters (take s.0 text)) ++ entry_line (text_part text s.0 s.1, s.2))
 
--- the lines of some words
+-- the lines of some words that are in a text
 abbrev pub spot_lines : ℕ → List ℕ → List Spot → List ℕ
 spot_lines number text [] = []
 spot_lines number text (s ∷ spots) = spot_line number text s ++ spot_lines number text spots
 
--- those of all words that are in a line, and those of its keywords
+-- the lines of all words that are in a line
 abbrev pub match_lines : Tree → ℕ → List ℕ → List ℕ
 match_lines tree number line = spot_lines number (body_of line) (spots_from tree 0 (body_of line))
 
+-- the lines of all keywords of a line
 abbrev pub keyword_lines : Tree → ℕ → List ℕ → List ℕ
 keyword_lines tree number line = spot_lines number (body_of line) (keywords_in tree (body_of line))

@@ -1,4 +1,4 @@
--- What the steps of an edit ask of a table, each as one fact: a caller's check is dear for each part of a clause list.
+-- What the steps of an edit require of a table, each as one fact: a caller that has it hands it on.
 use Rattle.std.specs.Prelude.{◌≢◌, ◌<◌, ◌^◌, ℕ, List, length, pos}
 use Rattle.cedar_slots.specs.Places.{IsTable}
 use Rattle.cedar_model.specs.Table.Cells.{Held}
@@ -7,14 +7,14 @@ use Rattle.cedar_model.specs.Edit.NodeEdits.{HasChain, IsBehind}
 use Rattle.cedar_model.specs.Meaning.Family.{base_of, below, Links}
 use Rattle.cedar_model.specs.Meaning.WellFormed.{cells_in}
 
--- the node s has a chain, and its slot for the label isn't its own
+-- slot s is a node with a chain, and its slot for the label isn't its own
 pub record SeeksPlace (T : Fields) (s label : ℕ) : Type 0 where
   pub node_in : s < size_of T
   pub based : base_of (cells_in T) s < size_of T
   pub chain : HasChain (size_of T) (cells_in T) T.ordered s
   pub absent : (cells_in T).check (below (cells_in T) s label) ≢ pos s
 
--- from start on the node s has a chain, and its slot for the label, which goes behind start, isn't its own
+-- slot s is a node with a chain from `start` on, and its slot for the label, which goes behind `start`, isn't its own
 pub record SeeksBehind (T : Fields) (s start label : ℕ) : Type 0 where
   pub node_in : s < size_of T
   pub based : base_of (cells_in T) s < size_of T

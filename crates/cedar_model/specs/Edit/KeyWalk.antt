@@ -14,8 +14,8 @@ use Rattle.cedar_model.specs.Edit.Steps.{MakesBlocks, root_of, SameModes, tree_a
 use Rattle.cedar_model.specs.Table.TableFields.{Fields, SameSettings, size_of}
 use Rattle.cedar_model.specs.Meaning.WellFormed.{cells_in, IsWellFormed, TableHolds, tree_of}
 
--- the table after steps along the front w of a key, of which rest is left: the node at w is at slot a, and the tree is
--- that of before but for bare leaves that were added along w
+-- a walk along a key is at slot a, at the front w of the key, and `rest` is left. It has added only bare leaves along
+-- w: so a trim gives the tree of before (`tree_after_trim`), and a put at the key gives the same as before
 pub record Walked (slots : ℕ) (before after : Fields) (key w rest : List ℕ) (a : ℕ) : Type 0 where
   pub table : IsTable slots after.places
   pub root_check : (cells_in after).check 0 ≡ (cells_in before).check 0
@@ -41,7 +41,7 @@ pub record Walked (slots : ℕ) (before after : Fields) (key w rest : List ℕ) 
   -- all is as before, or the last step has added a leaf, which has no base yet
   pub fresh : IsAt (cells_in before) w a × (cells_in after ≡ cells_in before) ⊎ ((a ≡ 0 → ⊥) × ((cells_in after).stored a ≡ AtBase 0))
 
--- an update of a key was refused, and the tree is as before
+-- what a refusal leaves: the tree of before, in a well-formed table
 pub record TakenBack (slots : ℕ) (before after : Fields) (key : List ℕ) (error : Shortage) : Type 0 where
   pub well_formed : IsWellFormed slots after
   pub tree : tree_of after ≡ tree_of before

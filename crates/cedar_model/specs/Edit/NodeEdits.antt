@@ -8,7 +8,7 @@ use Rattle.cedar_model.specs.Meaning.Family.{below, Family, Head, InRange, top}
 use Rattle.cedar_model.specs.Meaning.StandsFor.{HoldsTree, OnPath, slot_at}
 use Rattle.cedar_model.specs.Meaning.Reading.{first_in}
 
--- the forest below slot s, with the node at slot a changed by number and children
+-- the siblings below slot s, with the number and the children of the node at slot a changed by two functions
 abbrev pub edit : Cells → ℕ → (Option ℤ → Option ℤ) → (Forest → Forest) → ℕ → Forest → Forest
 edit T a number children s none = none
 edit T a number children s (child l n u rest) =
@@ -21,10 +21,9 @@ abbrev pub follow_on : List ℕ → List ℕ → List ℕ
 follow_on [] q = q
 follow_on (l ∷ w) q = follow_on w (l ∷ q)
 
--- T' differs from T in slot a, in the slots that a owns, of which x is taken, given up or overwritten, and
--- nowhere else
+-- T' differs from T only in slot a, and in slots that a owns, of which x was taken, given back or overwritten
 pub record Touches (T T' : Cells) (a x : ℕ) : Type 0 where
-  -- the other nodes
+  -- the other nodes: each slot of theirs has what it had
   pub base : (q : ℕ) → Held T q → (q ≡ a → ⊥) → (q ≡ x → ⊥) → T'.base q ≡ T.base q
   pub stored : (q : ℕ) → Held T q → (q ≡ a → ⊥) → (q ≡ x → ⊥) → T'.stored q ≡ T.stored q
   pub child : (q : ℕ) → Held T q → (q ≡ a → ⊥) → (q ≡ x → ⊥) → T'.child q ≡ T.child q
@@ -32,20 +31,20 @@ pub record Touches (T T' : Cells) (a x : ℕ) : Type 0 where
   pub check : (q c : ℕ) → T.check q ≡ pos c → (c ≡ a → ⊥) → T'.check q ≡ pos c
   pub back : (q c : ℕ) → T'.check q ≡ pos c → (c ≡ a → ⊥) → T.check q ≡ pos c
   pub root : (0 ≡ a → ⊥) → T'.sibling 0 ≡ T.sibling 0
-  -- slot a and what it owns
+  -- slot a: its base is as it was if it owned a slot, and of its slots only x may have come or gone
   pub place : (q : ℕ) → T.check q ≡ pos a → T'.stored a ≡ T.stored a
   pub mine : (q : ℕ) → T.check q ≡ pos a → (q ≡ x → ⊥) → T'.check q ≡ pos a
   pub only : (q : ℕ) → T'.check q ≡ pos a → (T.check q ≡ pos a) ⊎ (q ≡ x)
-  -- slot x, which owns nothing and is a's or nobody's
+  -- slot x: it owns nothing, isn't the root's, and is a's or nobody's
   pub alone : (q : ℕ) → T.check q ≡ pos x → ⊥
   pub owner : (c : ℕ) → T.check x ≡ pos c → c ≡ a
   pub not_root : x ≡ 0 → ⊥
 
--- a new leaf in front of all
+-- a new leaf in front of all siblings
 abbrev pub add_first : ℕ → Forest → Forest
 add_first l f = child l None none f
 
--- label l of slot a is taken, in front of a's other labels
+-- slot a has a new leaf at label l, in front of its other labels
 pub record AddsFirst (size : ℕ) (T T' : Cells) (a l : ℕ) : Type 0 where
   pub touches : Touches T T' a (below T' a l)
   pub positive : 0 < l
@@ -63,7 +62,7 @@ pub record AddsFirst (size : ℕ) (T T' : Cells) (a l : ℕ) : Type 0 where
   pub at_node : (a ≡ 0 → ⊥) → (T.check (below T a 0) ≡ pos a → ⊥) → (T'.child a ≡ l) × (T'.sibling (below T' a l) ≡ T.child a)
   pub at_number : T.check (below T a 0) ≡ pos a → (T'.child a ≡ T.child a) × (T'.base (below T a 0) ≡ T.base (below T a 0)) × (T'.child (below T a 0) ≡ T.child (below T a 0)) × (T'.sibling (below T a 0) ≡ l) × (T'.sibling (below T' a l) ≡ T.sibling (below T a 0))
 
--- slot a gets the number v in a slot of its own, a new one or the one that it has
+-- the number v of slot a was set in a slot of its own, a new one or the one that it had
 pub record SetsNumber (size : ℕ) (T T' : Cells) (a : ℕ) (v : ℤ) : Type 0 where
   pub touches : Touches T T' a (below T' a 0)
   pub in_range : InRange size (T'.stored a)
@@ -74,7 +73,7 @@ pub record SetsNumber (size : ℕ) (T T' : Cells) (a : ℕ) (v : ℤ) : Type 0 w
   pub first : T'.sibling (below T' a 0) ≡ first_in T a
   pub next : (q : ℕ) → T.check q ≡ pos a → (q ≡ below T a 0 → ⊥) → T'.sibling q ≡ T.sibling q
 
--- the slot of a's number is given up
+-- the number of slot a was taken away, and its slot given back
 pub record DropsNumber (size : ℕ) (T T' : Cells) (a : ℕ) : Type 0 where
   pub touches : Touches T T' a (below T a 0)
   pub in_range : InRange size (T'.stored a)
@@ -83,12 +82,12 @@ pub record DropsNumber (size : ℕ) (T T' : Cells) (a : ℕ) : Type 0 where
   pub first : T'.child a ≡ T.sibling (below T a 0)
   pub next : (q : ℕ) → T.check q ≡ pos a → (q ≡ below T a 0 → ⊥) → T'.sibling q ≡ T.sibling q
 
--- a list of labels without l
+-- the labels without l
 abbrev pub without_label : ℕ → List ℕ → List ℕ
 without_label l [] = []
 without_label l (m ∷ ms) = cond (nat_eq m l) ms (m ∷ without_label l ms)
 
--- label l of slot a, a leaf without number, is given up: what led to l leads to what came after it
+-- slot a has lost the leaf at label l, which had no number. What named l names what came after it
 pub record Removes (size : ℕ) (T T' : Cells) (a l : ℕ) : Type 0 where
   pub touches : Touches T T' a (below T a l)
   pub positive : l ≡ 0 → ⊥
@@ -100,21 +99,21 @@ pub record Removes (size : ℕ) (T T' : Cells) (a l : ℕ) : Type 0 where
   pub first : T'.child a ≡ cond (nat_eq (T.child a) l) (T.sibling (below T a l)) (T.child a)
   pub number : T.check (below T a 0) ≡ pos a → (T'.base (below T a 0) ≡ T.base (below T a 0)) × (T'.child (below T a 0) ≡ T.child (below T a 0))
 
--- a list of ascending labels with l
+-- the ascending labels with l at its place
 abbrev pub with_ascending_label : ℕ → List ℕ → List ℕ
 with_ascending_label l [] = l ∷ []
 with_ascending_label l (m ∷ ms) = cond (nat_lt l m) (l ∷ m ∷ ms) (m ∷ with_ascending_label l ms)
 
--- the labels ascend from above b
+-- the labels ascend, and the first one is above b
 abbrev pub Above : ℕ → List ℕ → Type 0
 Above b [] = Unit {0}
 Above b (m ∷ ms) = (b < m) × Above m ms
 
--- a chain goes on here with labels above l, or ends
+-- a chain goes on with labels above l, or ends
 abbrev pub IsPlaceFor : ℕ → ℕ → Type 0
 IsPlaceFor l c = (c ≡ 0) ⊎ (l < c)
 
--- label l of slot a is taken, behind a's labels below it: the link to what is above l leads to l, and l's own
+-- slot a has a new leaf at label l, behind its labels below l: the link to what is above l leads to l, and l's own
 -- link goes on from there
 pub record AddsBehind (size : ℕ) (T T' : Cells) (a l : ℕ) : Type 0 where
   pub touches : Touches T T' a (below T' a l)
@@ -131,12 +130,12 @@ pub record AddsBehind (size : ℕ) (T T' : Cells) (a l : ℕ) : Type 0 where
   pub child_same : T'.child a ≡ T.child a
   pub at_node : (a ≡ 0 → ⊥) → (T.check (below T a 0) ≡ pos a → ⊥) → (T.child a ≡ 0 → ⊥) × (T.child a < l)
   pub at_number : T.check (below T a 0) ≡ pos a → (T'.base (below T a 0) ≡ T.base (below T a 0)) × (T'.child (below T a 0) ≡ T.child (below T a 0)) × (T'.sibling (below T a 0) ≡ T.sibling (below T a 0)) × (T.sibling (below T a 0) ≡ 0 → ⊥) × (T.sibling (below T a 0) < l)
-  -- the labels
+  -- the labels of a's chain below l name what they named, but for the one right before l
   pub before : (m : ℕ) → T.check (below T a m) ≡ pos a → 0 < m → m < l → (T.sibling (below T a m) ≡ 0 → ⊥) → T.sibling (below T a m) < l → T'.sibling (below T a m) ≡ T.sibling (below T a m)
   pub here : (m : ℕ) → T.check (below T a m) ≡ pos a → 0 < m → m < l → IsPlaceFor l (T.sibling (below T a m)) → (T'.sibling (below T a m) ≡ l) × (T'.sibling (below T' a l) ≡ T.sibling (below T a m))
   pub after : (m : ℕ) → T.check (below T a m) ≡ pos a → l < m → T'.sibling (below T a m) ≡ T.sibling (below T a m)
 
--- label l can be taken below slot a, whose base has a free slot for it
+-- label l can come below slot a: the base of a has a free slot for it
 pub record CanAdd (size : ℕ) (T : Cells) (a l : ℕ) : Type 0 where
   pub held : Held T a
   pub positive : 0 < l
@@ -148,7 +147,7 @@ pub record CanAdd (size : ℕ) (T : Cells) (a l : ℕ) : Type 0 where
   pub root : (c : ℕ) → T.check 0 ≡ pos c → ⊥
   pub not_own : T.check a ≡ pos a → ⊥
 
--- slot x with label l is in its chain behind slot b
+-- slot x with label l comes right after slot b in its chain now, and nothing else has changed
 pub record LinkedBehind (T T' : Cells) (b x l : ℕ) : Type 0 where
   pub stored : (q : ℕ) → T'.stored q ≡ T.stored q
   pub base : (q : ℕ) → T'.base q ≡ T.base q
@@ -158,7 +157,7 @@ pub record LinkedBehind (T T' : Cells) (b x l : ℕ) : Type 0 where
   pub next : T'.sibling x ≡ T.sibling b
   pub other : (q : ℕ) → (q ≡ b → ⊥) → (q ≡ x → ⊥) → T'.sibling q ≡ T.sibling q
 
--- slot x with label l is the first of a's chain, which begins in child a
+-- slot x with label l comes first in a's chain now, by the field `child` of slot a, and nothing else has changed
 pub record LinkedChild (T T' : Cells) (a x l : ℕ) : Type 0 where
   pub stored : (q : ℕ) → T'.stored q ≡ T.stored q
   pub base : (q : ℕ) → T'.base q ≡ T.base q
@@ -191,11 +190,12 @@ pub record SetsChild (T T' : Cells) (q l : ℕ) : Type 0 where
   pub at : T'.child q ≡ l
   pub other : (x : ℕ) → (x ≡ q → ⊥) → T'.child x ≡ T.child x
 
--- the labels w, the first one first, lead from the root to slot s
+-- the labels of the path w, the first one first, lead from the root to slot s
 abbrev pub IsAt : Cells → List ℕ → ℕ → Type 0
 IsAt T w s = OnPath T (follow_on w []) × (slot_at T (follow_on w []) ≡ s)
 
--- slot a is a node of the tree with the children f, whose labels ascend if they are ordered
+-- slot a is at the end of a path, in slots that hold the tree with the children f, whose labels ascend if they are
+-- ordered
 pub record IsNodeOf (size : ℕ) (T : Cells) (ordered : Bool) (f : Forest) (a : ℕ) : Type 0 where
   pub holds : HoldsTree size T f
   pub ascending : ordered ≡ true → IsAscending f
@@ -210,11 +210,11 @@ pub record HasChain (size : ℕ) (T : Cells) (ordered : Bool) (a : ℕ) : Type 0
   pub root : a ≡ 0 → head ≡ top
   pub ascends : ordered ≡ true → Ascends listed
 
--- slot b is the one that a's chain begins behind: the root's own, or that of a's number
+-- slot b is the one that names the first label of a: the root's own slot, or that of a's number
 abbrev pub IsLead : Cells → ℕ → ℕ → Type 0
 IsLead T a b = ((a ≡ 0) × (b ≡ 0)) ⊎ ((T.check (below T a 0) ≡ pos a) × (b ≡ below T a 0))
 
--- slot b is that of a label m of slot a
+-- slot b is the slot of label m of slot a
 pub record IsLabelOf (T : Cells) (a m b : ℕ) : Type 0 where
   pub positive : 0 < m
   pub small : m < 256
@@ -226,32 +226,32 @@ pub record IsLabelOf (T : Cells) (a m b : ℕ) : Type 0 where
 abbrev pub IsBehind : Cells → Bool → ℕ → ℕ → ℕ → Type 0
 IsBehind T ordered a l b = IsLead T a b ⊎ ((ordered ≡ true) × (m : ℕ) × (m < l) × IsLabelOf T a m b)
 
--- label l goes behind slot b
+-- label l comes right behind slot b in a's chain
 pub record GoesBehind (size : ℕ) (T : Cells) (ordered : Bool) (a l b : ℕ) : Type 0 where
   pub inside : b < size
   pub behind : IsBehind T ordered a l b
   pub place : ordered ≡ true → IsPlaceFor l (T.sibling b)
 
--- label l begins the chain of slot a, which has no number
+-- label l comes first in the chain of slot a, which has no number
 pub record GoesFirst (T : Cells) (ordered : Bool) (a l : ℕ) : Type 0 where
   pub not_root : a ≡ 0 → ⊥
   pub no_number : T.check (below T a 0) ≡ pos a → ⊥
   pub place : ordered ≡ true → IsPlaceFor l (T.child a)
 
--- the label that slot a's chain begins with, or 0
+-- P holds of the label that slot a's chain begins with, or of 0 if it has none
 abbrev pub FirstIs : Cells → ℕ → (ℕ → Type 0) → Type 0
 FirstIs T a P = (a ≡ 0 → P (T.sibling a)) × ((a ≡ 0 → ⊥) → P (first_in T a))
 
--- label l of slot a is taken: at its ascending place if ordered, and first if not
+-- slot a has a new leaf at label l: at its ascending place if ordered, and first if not
 abbrev pub AddsLabel : ℕ → Bool → Cells → Cells → ℕ → ℕ → Type 0
 AddsLabel size ordered T T' a l =
     (AddsFirst size T T' a l × (ordered ≡ true → FirstIs T a (IsPlaceFor l))) ⊎ ((ordered ≡ true) × AddsBehind size T T' a l)
 
--- slot b is in a's chain: before all labels, or it is a label's
+-- slot b is in a's chain: before all labels, or it is a label's slot
 abbrev pub IsLink : Cells → ℕ → ℕ → Type 0
 IsLink T a b = IsLead T a b ⊎ ((m : ℕ) × IsLabelOf T a m b)
 
--- slot b is in a's chain right before label l
+-- slot b comes right before label l in a's chain
 pub record LeadsTo (size : ℕ) (T : Cells) (a l b : ℕ) : Type 0 where
   pub inside : b < size
   pub link : IsLink T a b

@@ -6,7 +6,7 @@ use Rattle.cedar_model.specs.Table.Cells.{Cells}
 use Rattle.cedar_model.specs.Edit.NodeEdits.{IsAt}
 use Rattle.cedar_model.specs.Meaning.Family.{below}
 
--- the base field of slot a now says st, and nothing else has changed
+-- the base field of slot a says `st` now, and nothing else has changed
 pub record FieldSet (T T' : Cells) (a : ℕ) (st : Stored) : Type 0 where
   pub check : (q : ℕ) → T'.check q ≡ T.check q
   pub sibling : (q : ℕ) → T'.sibling q ≡ T.sibling q
@@ -15,12 +15,12 @@ pub record FieldSet (T T' : Cells) (a : ℕ) (st : Stored) : Type 0 where
   pub stored : (q : ℕ) → (q ≡ a → ⊥) → T'.stored q ≡ T.stored q
   pub set : T'.stored a ≡ st
 
--- the node at slot s does not keep its number in its own base field
+-- the node at slot s doesn't keep its number in its own base field
 abbrev pub NoOwn : Cells → ℕ → Type 0
 NoOwn T s = (v : ℤ) → T.stored s ≡ OwnNumber v → ⊥
 
--- from slot s along a key, as far as there are nodes, none of which labels come below keeps its number in its own base
--- field: only the last one of a whole key may
+-- no node of the key from slot s on that labels come below keeps its number in its own base field. The node of a
+-- whole key may
 abbrev pub HasWay : Cells → ℕ → List ℕ → Type 0
 HasWay T s [] = Unit {0}
 HasWay T s (l ∷ rest) = NoOwn T s × (T.check (below T s l) ≡ pos s → HasWay T (below T s l) rest)
@@ -29,6 +29,6 @@ HasWay T s (l ∷ rest) = NoOwn T s × (T.check (below T s l) ≡ pos s → HasW
 abbrev pub IsOwnAt : Cells → List ℕ → Type 0
 IsOwnAt T w = (s : ℕ) × IsAt T w s × (v : ℤ) × (T.stored s ≡ OwnNumber v)
 
--- no path of these labels leads to a node
+-- the path of these labels leads to no node
 abbrev pub LacksNode : Cells → List ℕ → Type 0
 LacksNode T w = (s : ℕ) → IsAt T w s → ⊥

@@ -13,7 +13,8 @@ use Rattle.cedar_model.specs.Table.TableFields.{Fields, size_of}
 abbrev pub count_held : Fields → ℕ
 count_held T = count_by (is_held (cells_in T)) (range_with_len 0 (size_of T))
 
--- where the root has so many children, which are in block 0 beside it, at most 255 slots outside block 0 are free, and `spare` others
+-- where the root has so many children, which are in block 0 with it, at most 255 slots outside block 0 are free, and
+-- `spare` others
 abbrev pub Packs : ℕ → ℕ → Fields → Type 0
 Packs first spare T = size_of T + first ≤ count_held T + 510 + spare
 
@@ -27,11 +28,12 @@ TakesAnother T T' = (x : ℕ) × (Held T x → ⊥) × Held T' x
 abbrev pub MakesIfFull : Fields → Fields → Type 0
 MakesIfFull before after = MakesBlocks 0 before after ⊎ NoPlace (size_of before) (cells_in before)
 
--- no block was made, or one since no slot outside block 0 was free, and a slot was taken
+-- the step makes no block, or one since no slot outside block 0 was free; and it takes a slot
 abbrev pub TakesOne : Fields → Fields → Type 0
 TakesOne before after = MakesBlocks 0 before after ⊎ (NoPlace (size_of before) (cells_in before) × TakesAnother (cells_in before) (cells_in after))
 
--- what was held is held, and one slot more is at most, for which no block was made unless no slot outside block 0 was free
+-- what was held is held, and one slot more at most, for which no block was made unless no slot outside block 0 was
+-- free
 pub record TakesSingle (before after : Fields) : Type 0 where
   pub keeps : (x : ℕ) → Held (cells_in before) x → Held (cells_in after) x
   pub one : TakesOne before after
@@ -51,8 +53,9 @@ abbrev pub joins : Tree → List ℕ → ℕ
 joins t [] = 0
 joins t (b ∷ rest) = cond (has_label t.children b) 1 0
 
--- a put of a key makes no block, and at most one where another key has its first byte. It makes more only where at most 255 slots outside
--- block 0 are free then, or where none was before; in this case it makes two at most, and another key has its first byte
+-- a put of a key makes no block, and at most one if another key has its first byte (`joins`). It makes more only if
+-- at most 255 slots outside block 0 are free then, or none was before. In this last case it makes at most two, and
+-- another key has its first byte
 abbrev pub PacksKey : Fields → Fields → List ℕ → Type 0
 PacksKey before after key =
     StaysSmall (size_of before + 256 * joins (tree_of before) key) after

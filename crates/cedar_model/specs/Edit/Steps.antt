@@ -17,26 +17,28 @@ unfoldable pub blocks_after : ℕ → ℕ → ℕ → ℕ
 blocks_after zero active blocks = blocks
 blocks_after (suc n) active blocks = blocks_after n (active + 1) (cond (active == blocks) (2 * blocks) blocks)
 
--- n more blocks are in use, and the table has doubled just where it had to
+-- n more blocks are in use, and the table has doubled exactly if it had to
 pub record MakesBlocks (n : ℕ) (before after : Fields) : Type 0 where
   pub active : after.places.blocks.active ≡ before.places.blocks.active + n
   pub capacity : length after.places.blocks.records ≡ blocks_after n before.places.blocks.active (length before.places.blocks.records)
 
--- one more block is in use at most; the root's check and the settings are the same
+-- at most one more block is in use, and the root's check and the settings are as before
 pub record MayAddBlock (before after : Fields) : Type 0 where
   pub blocks : (n : ℕ) × (n ≤ 1) × MakesBlocks n before after
   pub root_check : (cells_in after).check 0 ≡ (cells_in before).check 0
   pub settings : SameSettings before after
 
 -- slot a of a table is a node of the tree with the children f, whose labels ascend if the table is ordered
+-- (`IsNodeOf`)
 abbrev pub HasNode : Fields → Forest → ℕ → Type 0
 HasNode T f a = IsNodeOf (size_of T) (cells_in T) T.ordered f a
 
--- the tree of these siblings, below a root without number
+-- the tree with the children f and no number
 abbrev pub root_of : Forest → Tree
 root_of f = record { number = None; children = f }
 
--- the node that was at slot a is at slot s, which has a base, if it isn't the root's, and a free slot for label l
+-- the node that was at slot a is at slot s, on every path that led to it. Slot s has a base, unless it is the root's,
+-- and a free slot for label l
 pub record Placed (before after : Fields) (a l s : ℕ) : Type 0 where
   pub inside : s < size_of after
   pub at : (w : List ℕ) → IsAt (cells_in before) w a → IsAt (cells_in after) w s
@@ -45,11 +47,12 @@ pub record Placed (before after : Fields) (a l s : ℕ) : Type 0 where
   pub free : Held (cells_in after) (below (cells_in after) s l) → ⊥
   pub marks : KeepsMarks (cells_in before) (cells_in after)
 
--- the tree with a child under label l of the node at a path, which is added as a bare leaf where there is none
+-- the tree whose node at the path has a child under label l: as it is, or with a new bare leaf
 abbrev pub with_child : Tree → Bool → List ℕ → ℕ → Tree
 with_child t ordered w l = if has_label (node_at t w).children l then t else with_leaf t ordered w l
 
--- slot s is that of the child under label l of the node that was at slot a; where there was none, it is a new leaf
+-- slot s is that of the child under label l of the node that was at slot a. If there was no child, it is a new bare
+-- leaf (`with_child`)
 pub record StepsTo (before after : Fields) (a l s : ℕ) : Type 0 where
   pub inside : s < size_of after
   pub not_root : s ≡ 0 → ⊥
@@ -61,11 +64,12 @@ pub record StepsTo (before after : Fields) (a l s : ℕ) : Type 0 where
   -- a step at the root takes no slot outside block 0
   pub outside : a ≡ 0 → (x : ℕ) → 256 ≤ x → Held (cells_in after) x → Held (cells_in before) x
 
--- the tree once a bare node at the end of a path was taken away, and each node above that then was bare
+-- the tree after a trim: the node at the end of the path is taken away if it is bare, and each node above it that was
+-- bare then
 abbrev pub tree_after_trim : Tree → List ℕ → Tree
 tree_after_trim t w = if is_bare (node_at t w) then cut t w else t
 
--- what an update and an erasure leave as it is
+-- order and `max_trial` are as before
 pub record SameModes (before after : Fields) : Type 0 where
   pub ordered : after.ordered ≡ before.ordered
   pub max_trial : after.places.blocks.max_trial ≡ before.places.blocks.max_trial

@@ -8,11 +8,11 @@ use Rattle.cedar_model.specs.Edit.NodeEdits.{IsAt}
 use Rattle.cedar_model.specs.Meaning.StandsFor.{HoldsTree}
 use Rattle.cedar_model.specs.Edit.Steps.{root_of}
 
--- the result is whether slot a is that of a node below the root with neither number nor child
+-- the result says whether the node at slot a, below the root, is bare
 abbrev pub TellsBare : ℕ → Cells → ℕ → Bool → Type 0
 TellsBare size T a answer = (f : Forest) (w : List ℕ) → HoldsTree size T f → IsAt T w a → answer ≡ cond (nat_eq a 0) false (is_bare (node_at (root_of f) w))
 
--- the slots represent the tree f without the leaf at the path w, and the node above that leaf is at slot a
+-- the slots hold the tree f without the leaf at the path w, and the node above that leaf is at slot a
 pub record LosesLeaf (size : ℕ) (T : Cells) (f : Forest) (w : List ℕ) (a : ℕ) : Type 0 where
   pub path : List ℕ
   pub label : ℕ

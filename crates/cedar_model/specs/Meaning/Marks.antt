@@ -1,4 +1,5 @@
--- The keys whose numbers are in slots of their own.
+-- Marks: which numbers are in slots of their own. By default all are; in the reduced layout some are in their node's
+-- own base field.
 use Rattle.std.specs.Prelude.{◌≡◌, ◌↔◌, ◌⊎◌, ℕ, ◌<◌, Bool, true, false, cond, List, length}
 use Rattle.std.specs.Prelude.{take, Option, None, Some, is_some}
 use Rattle.cedar_tree.specs.Tree.{Forest, none, child, has_label, number_at, Tree}
@@ -13,21 +14,23 @@ use Rattle.cedar_model.specs.Meaning.Reading.{has_number_slot}
 use Rattle.cedar_model.specs.Table.TableFields.{Fields}
 use Rattle.cedar_model.specs.Meaning.WellFormed.{cells_in, tree_of}
 
--- siblings below slot s with just those of their numbers that are in slots of their own
+-- siblings below slot s with all nodes, and just those of their numbers that are in slots of their own
 abbrev pub marks_below : Cells → ℕ → Forest → Forest
 marks_below T s none = none
 marks_below T s (child l n f rest) = child l (cond (has_number_slot T (below T s l)) n None) (marks_below T (below T s l) f) (marks_below T s rest)
 
--- a table's tree with just the keys whose numbers are in slots of their own, and all nodes
+-- the tree of marks: a table's tree with all nodes, and just the numbers that have slots of their own
 abbrev pub marks : Fields → Tree
 marks T = record { number = None; children = marks_below (cells_in T) 0 (tree_of T).children }
 
--- how a node keeps its number, if it has one: true in a slot of its own, false in the node's own base field
+-- false if a base field is a node's own number, and else none
 abbrev pub own_mark : Stored → Option Bool
 own_mark (AtBase b) = None
 own_mark (OwnNumber v) = Some false
 own_mark Nothing = None
 
+-- how the node at slot s keeps its number: true in a slot of its own, false in its own base field, and none without a
+-- number
 abbrev pub mark : Cells → ℕ → Option Bool
 mark T s = cond (has_number_slot T s) (Some true) (own_mark (T.stored s))
 
@@ -35,11 +38,11 @@ mark T s = cond (has_number_slot T s) (Some true) (own_mark (T.stored s))
 abbrev pub KeepsMarks : Cells → Cells → Type 0
 KeepsMarks T T' = (w : List ℕ) (s : ℕ) (m : Bool) → IsAt T w s → mark T s ≡ Some m → (s' : ℕ) × IsAt T' w s' × (mark T' s' ≡ Some m)
 
--- each but that of the node at slot a
+-- each number but that of the node at slot a is kept as it was, at the same path
 abbrev pub KeepsOtherMarks : Cells → Cells → ℕ → Type 0
 KeepsOtherMarks T T' a = (w : List ℕ) (s : ℕ) (m : Bool) → IsAt T w s → (s ≡ a → ⊥) → mark T s ≡ Some m → (s' : ℕ) × IsAt T' w s' × (mark T' s' ≡ Some m)
 
--- at the path w is a number, and m says how it is kept
+-- at the path w is a number, and m says how it is kept (`mark`)
 abbrev pub MarkedAt : Cells → List ℕ → Bool → Type 0
 MarkedAt T w m = (s : ℕ) × IsAt T w s × (mark T s ≡ Some m)
 
@@ -48,17 +51,18 @@ pub record PutsMark (T T' : Cells) (a : ℕ) (m : Bool) : Type 0 where
   pub here : (w : List ℕ) → IsAt T w a → MarkedAt T' w m
   pub others : KeepsOtherMarks T T' a
 
--- a key begins with w, and goes on
+-- the key begins with w, and goes on
 abbrev pub IsProperFront : List ℕ → List ℕ → Type 0
 IsProperFront w key = (n : ℕ) × (n < length key) × (w ≡ take n key)
 
--- the number of a key that an update has put: where the key was not held, it has a slot of its own if the key is a front of
--- one that is held, and in the reduced layout only then
+-- the number of a key that an update has put, where the key wasn't held: it has a slot of its own if the key is a
+-- front of one that is held, and in the reduced layout only then
 pub record NewMark (before after : Fields) (key : List ℕ) : Type 0 where
   pub front : number_at (tree_of before) key ≡ None → IsFront (tree_of before) key → MarkedAt (cells_in after) key true
   pub last : before.layout ≡ reduced_layout → (IsFront (tree_of before) key → ⊥) → MarkedAt (cells_in after) key false
 
--- what an update of a key has done to the numbers' places
+-- what an update of a key does to marks. Where the key was held, nothing; the number of each proper front that is
+-- held has a slot; each other number is kept as it was; a new key's number is as `NewMark` says
 pub record PutsMarks (before after : Fields) (key : List ℕ) : Type 0 where
   -- where the key was held, nothing
   pub over : is_some (number_at (tree_of before) key) ≡ true → KeepsMarks (cells_in before) (cells_in after)
@@ -68,22 +72,22 @@ pub record PutsMarks (before after : Fields) (key : List ℕ) : Type 0 where
   pub others : (w : List ℕ) (m : Bool) → (IsProperFront w key → ⊥) → MarkedAt (cells_in before) w m → MarkedAt (cells_in after) w m
   pub new : NewMark before after key
 
--- of a tree with just the numbers that have slots of their own: the one at the path w does
+-- a tree of marks has the number at the path w
 abbrev pub HasMark : Tree → List ℕ → Type 0
 HasMark m w = is_some (number_at m w) ≡ true
 
--- what an update of a key does to such trees in the reduced layout, where t was the tree and m that of marks: over a number nothing.
--- Else what was marked stays so, and besides are marked just the key's proper fronts that are held, and the key if it is a
--- front of one that is held
+-- what an update of a key does to trees of marks in the reduced layout, where t was the tree and m the tree of marks.
+-- Over a number it does nothing. Else what was marked stays marked, and besides are marked just the key's proper
+-- fronts that are held, and the key if it is a front of one that is held
 pub record MarksPut (t m m' : Tree) (key : List ℕ) : Type 0 where
   pub over : is_some (number_at t key) ≡ true → (w : List ℕ) → HasMark m' w ↔ HasMark m w
   pub new : number_at t key ≡ None → (w : List ℕ) → HasMark m' w ↔ (HasMark m w ⊎ (IsProperFront w key × (is_some (number_at t w) ≡ true)) ⊎ ((w ≡ key) × IsFront t key))
 
--- an erasure takes away the mark of its key alone
+-- what an erasure does to trees of marks: it takes away the mark of its key alone
 abbrev pub MarksCut : Tree → Tree → List ℕ → Type 0
 MarksCut m m' key = (w : List ℕ) → HasMark m' w ↔ ((w ≡ key → ⊥) × HasMark m w)
 
--- the number of the node at the path u, which the tree t has with no node below it, has moved from the node's own base field into
+-- the number at the path u, which the tree t has with no node below it, has moved from the node's own base field into
 -- a slot
 pub record MovesOut (T T' : Cells) (t : Tree) (u : List ℕ) : Type 0 where
   pub slot : ℕ

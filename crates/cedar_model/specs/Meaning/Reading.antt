@@ -12,6 +12,7 @@ use Rattle.cedar_model.specs.Meaning.Family.{below}
 abbrev pub has_number_slot : Cells → ℕ → Bool
 has_number_slot T s = int_eq (T.check (below T s 0)) (pos s)
 
+-- the number that a base field says, if it says one
 abbrev pub own_number : Stored → Option ℤ
 own_number (AtBase b) = None
 own_number (OwnNumber v) = Some v
@@ -25,7 +26,7 @@ number_in T s = cond (has_number_slot T s) (Some (T.base (below T s 0))) (own_nu
 abbrev pub first_in : Cells → ℕ → ℕ
 first_in T s = cond (has_number_slot T s) (T.sibling (below T s 0)) (T.child s)
 
--- the labels from c on in the chain of slot s, n of them at most
+-- the labels in the chain of slot s from label c on, at most n of them
 unfoldable pub chain : ℕ → Cells → ℕ → ℕ → List ℕ
 chain zero T s c = []
 chain (suc n) T s c = cond (nat_eq c 0) [] (c ∷ chain n T s (T.sibling (below T s c)))
@@ -35,7 +36,7 @@ abbrev pub forest_by : (ℕ → Tree) → List ℕ → Forest
 forest_by tree [] = none
 forest_by tree (l ∷ ls) = child l (tree l).number (tree l).children (forest_by tree ls)
 
--- the tree at slot s, read n steps down
+-- the tree that is read from slot s on, n levels at most
 unfoldable pub tree_from : ℕ → Cells → ℕ → Tree
 tree_from zero T s = empty_tree
 tree_from (suc n) T s = record {
@@ -43,7 +44,8 @@ tree_from (suc n) T s = record {
   children = forest_by (λ l. tree_from n T (below T s l)) (chain 256 T s (first_in T s));
 }
 
--- the tree of a table with so many slots
+-- the tree that is read from the slots of a table, of which `size` are in use: at most 256 labels to a chain, and at
+-- most `size` levels
 unfoldable pub tree_read : ℕ → Cells → Tree
 tree_read size T = record {
   number = None;

@@ -23,20 +23,27 @@ tree_of T = tree_read (size_of T) (cells_in T)
 abbrev pub TableHolds : Fields → Forest → Type 0
 TableHolds T f = HoldsTree (size_of T) (cells_in T) f
 
--- a number that a key may have
+-- whether a number may be the value of a key: from 0 to 2147483645
 abbrev pub is_value : ℤ → Bool
 is_value v = int_le (pos 0) v && int_le v (pos 2147483645)
 
--- a table that may have `slots` slots: its free slots are in rings, its blocks in lists, the rest is blank, the
--- held slots represent its tree, and that has a number or a child at each node, numbers in range, as many of them as
--- `entries` says, and labels that ascend if the table is ordered
+-- all that holds of a table between two calls, which may have `slots` slots
 pub record IsWellFormed (slots : ℕ) (T : Fields) : Type 0 where
+  -- sizes, rings, lists, ranges, and a blank rest (`IsTable`)
   pub table : IsTable slots T.places
+  -- the check of slot 0 is -1
   pub root_check : check_at T.places.slots.nodes 0 ≡ negsuc 0
+  -- base, number's slot, chain and children of each node are as `Stands` says, from the root on. Each slot with an
+  -- owner is that of a node or of a number, on a path from the root. With the root and the free slots these are all
+  -- slots in use, and each is only one of them
   pub stands : HoldsTree (size_of T) (cells_in T) (tree_of T).children
+  -- each node but the root has a number or a label, and no label comes twice in a chain
   pub sound : IsSoundBelow (tree_of T).children
+  -- numbers are from 0 to 2147483645
   pub values : AllNumbers (λ v. is_value v ≡ true) (tree_of T).children
+  -- if the table is ordered, the labels of each chain ascend; if not, any order will do
   pub ascending : T.ordered ≡ true → IsAscending (tree_of T).children
+  -- `entries` is the number of keys
   pub entries : T.entries ≡ length (walk (tree_of T))
 
 -- the slot of a node's number, if it has one
@@ -49,6 +56,7 @@ slots_below T s none = []
 slots_below T s (child l n f rest) =
     below T s l ∷ number_slots T (below T s l) ++ slots_below T (below T s l) f ++ slots_below T s rest
 
--- the slots that a tree names: the root's, and those of its nodes and their numbers
+-- the slots that the tree t names, in the order of the walk: the root's, each node's, and after it that of its number
+-- if it has one
 abbrev pub slots_named : Cells → Tree → List ℕ
 slots_named T t = 0 ∷ slots_below T 0 t.children

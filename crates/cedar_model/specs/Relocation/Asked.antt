@@ -1,4 +1,4 @@
--- What the moves ask of a table, each as one fact: a caller's check is dear for each part of a clause list.
+-- What the steps of a move require of a table, each as one fact: a caller that has it hands it on.
 use Rattle.std.specs.Prelude.{◌≡◌, ◌≢◌, ℕ, ℤ, ◌<◌, ◌≤◌, ◌^◌, Bool, false, List, pos, true}
 use Rattle.cedar_tree.specs.Tree.{Forest}
 use Rattle.cedar_slots.specs.Places.{IsTable}
@@ -11,7 +11,7 @@ use Rattle.cedar_model.specs.Meaning.WellFormed.{cells_in, TableHolds}
 use Rattle.cedar_model.specs.Edit.Steps.{HasNode}
 use Rattle.cedar_model.specs.Relocation.Renaming.{IsNode, OwnsNothing}
 
--- the slot from, which owner owns under label, can move to the free slot to
+-- the slot `from`, which `owner` has for a label, can move to the free slot `to`
 pub record MovesSlot (slots : ℕ) (T : Fields) (from to owner label : ℕ) : Type 0 where
   pub sound : IsTable slots T.places
   pub from_in : from < size_of T
@@ -24,7 +24,7 @@ pub record MovesSlot (slots : ℕ) (T : Fields) (from to owner label : ℕ) : Ty
   pub node : (label ≡ 0 → ⊥) → IsNode (size_of T) (cells_in T) from
   pub alone : label ≡ 0 → OwnsNothing (cells_in T) from
 
--- the node is in the tree below the root, and its slots outside block 0
+-- a node is in the tree below the root, with its slots outside block 0
 pub record StandsBelow (slots : ℕ) (T : Fields) (node : ℕ) : Type 0 where
   pub sound : IsTable slots T.places
   pub node_in : node < size_of T
@@ -33,7 +33,7 @@ pub record StandsBelow (slots : ℕ) (T : Fields) (node : ℕ) : Type 0 where
   pub on_path : (p : List ℕ) × OnPath (cells_in T) p × (slot_at (cells_in T) p ≡ node)
   pub holds : (f : Forest) × TableHolds T f
 
--- the node s below the root has a base, and its slot for the label is held by another node
+-- the node s below the root has a base, and another node holds its slot for the label
 pub record WantsSlot (slots : ℕ) (T : Fields) (s label : ℕ) : Type 0 where
   pub sound : IsTable slots T.places
   pub node_in : s < size_of T
@@ -43,7 +43,7 @@ pub record WantsSlot (slots : ℕ) (T : Fields) (s label : ℕ) : Type 0 where
   pub taken : Held (cells_in T) (below (cells_in T) s label)
   pub absent : (cells_in T).check (below (cells_in T) s label) ≢ pos s
 
--- the slot of the node s for the label isn't its own, and free where the node has a base
+-- the slot of the node s for the label isn't its own, and is free if the node has a base
 pub record WantsRoom (slots : ℕ) (T : Fields) (s label : ℕ) : Type 0 where
   pub sound : IsTable slots T.places
   pub node_in : s < size_of T
@@ -53,7 +53,7 @@ pub record WantsRoom (slots : ℕ) (T : Fields) (s label : ℕ) : Type 0 where
   pub absent : (cells_in T).check (below (cells_in T) s label) ≢ pos s
   pub slot_free : base_of (cells_in T) s ≢ 0 → Held (cells_in T) (below (cells_in T) s label) → ⊥
 
--- what the node from owns can go to another owner
+-- what the node `from` owns can go to another owner
 pub record Repoints (slots : ℕ) (T : Fields) (from to : ℕ) : Type 0 where
   pub sound : IsTable slots T.places
   pub from_in : from < size_of T
@@ -61,7 +61,7 @@ pub record Repoints (slots : ℕ) (T : Fields) (from to : ℕ) : Type 0 where
   pub to_in : to < 2 ^ 31
   pub node : IsNode (size_of T) (cells_in T) from
 
--- what the slot from of the label owns can go to another owner; nothing belongs to the slot of a number
+-- what the slot `from` of a label owns can go to another owner; the slot of a number owns nothing
 pub record RepointsUnder (slots : ℕ) (T : Fields) (from to label : ℕ) : Type 0 where
   pub sound : IsTable slots T.places
   pub from_in : from < size_of T
@@ -70,7 +70,7 @@ pub record RepointsUnder (slots : ℕ) (T : Fields) (from to label : ℕ) : Type
   pub node : (label ≡ 0 → ⊥) → IsNode (size_of T) (cells_in T) from
   pub alone : label ≡ 0 → OwnsNothing (cells_in T) from
 
--- the slot s is free, or held in the root's name once it is reserved
+-- slot s is free, or held in the root's name once it is reserved
 pub record MayReserve (slots : ℕ) (T : Fields) (s : ℕ) (reserved : Bool) : Type 0 where
   pub sound : IsTable slots T.places
   pub slot_in : s < size_of T

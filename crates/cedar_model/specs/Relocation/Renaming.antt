@@ -14,7 +14,7 @@ pub record ChecksAt (T T' : Cells) (q c : ℕ) : Type 0 where
   pub sibling : (x : ℕ) → T'.sibling x ≡ T.sibling x
   pub child : (x : ℕ) → T'.child x ≡ T.child x
 
--- the slots that s owns under the labels that P names belong to t, and nothing else has changed
+-- the slots that s owns under the labels that P names have t as their owner now, and nothing else has changed
 pub record Repointed (T T' : Cells) (s t : ℕ) (P : ℕ → Type 0) : Type 0 where
   pub pointed : (q : ℕ) → T.check q ≡ pos s → P (below T s q) → T'.check q ≡ pos t
   pub kept : (q : ℕ) → (T.check q ≡ pos s → P (below T s q) → ⊥) → T'.check q ≡ T.check q
@@ -23,15 +23,15 @@ pub record Repointed (T T' : Cells) (s t : ℕ) (P : ℕ → Type 0) : Type 0 wh
   pub sibling : (q : ℕ) → T'.sibling q ≡ T.sibling q
   pub child : (q : ℕ) → T'.child q ≡ T.child q
 
--- any label
+-- holds of any label
 abbrev pub Always : ℕ → Type 0
 Always l = Unit {0}
 
--- the label of a number's slot
+-- the label is that of a number's slot, 0
 abbrev pub IsNumber : ℕ → Type 0
 IsNumber l = l ≡ 0
 
--- nothing belongs to slot s
+-- no slot has slot s as its check
 abbrev pub OwnsNothing : Cells → ℕ → Type 0
 OwnsNothing T s = (q : ℕ) → T.check q ≡ pos s → ⊥
 
@@ -48,11 +48,11 @@ pub record OwnsLabels (size : ℕ) (T : Cells) (s : ℕ) (ls : List ℕ) : Type 
   pub family : Family size T s head labels
   pub owns : ls ≡ owned_slots head labels
 
--- slot a becomes slot b
+-- slot a becomes slot b, and each other slot stays
 abbrev pub single : ℕ → ℕ → ℕ → ℕ
 single a b q = cond (nat_eq q a) b q
 
--- T' is T with its held slots renamed; bases still say where the children were
+-- T' is T with its held slots renamed; bases say where the children were before
 pub record Renames (T T' : Cells) (r : ℕ → ℕ) : Type 0 where
   pub root : r 0 ≡ 0
   pub root_check : T'.check 0 ≡ T.check 0
@@ -90,14 +90,15 @@ pub record CanMove (size : ℕ) (T : Cells) (p b : ℕ) : Type 0 where
   pub owners : (q c : ℕ) → T.check q ≡ pos c → Held T c
   pub root : (c : ℕ) → T.check 0 ≡ pos c → ⊥
 
--- every node of T, with its slots below `size`, is a node of T' with the same number and labels, under its new name
+-- every node of T whose slots are below `size` is a node of T' with the same number and labels, under its new name
 pub record KeepsNodes (size size' : ℕ) (T T' : Cells) (r : ℕ → ℕ) : Type 0 where
   pub root : (ls : List ℕ) → Family size T 0 top ls → Family size' T' 0 top ls
   pub root_stays : r 0 ≡ 0
   pub node : (c s : ℕ) (h : Head) (ls : List ℕ) → T.check s ≡ pos c → Family size T s h ls → Family size' T' (r s) h ls
   pub steps : (s l : ℕ) → T.check (below T s l) ≡ pos s → r (below T s l) ≡ below T' (r s) l
 
--- T' holds the nodes of T and no others, each under its new name
+-- T' has the nodes of T and no others, each under its new name, with all that it has: owners and owned slots are
+-- renamed alike
 pub record Renamed (size size' : ℕ) (T T' : Cells) (r : ℕ → ℕ) : Type 0 where
   pub keeps : KeepsNodes size size' T T' r
   pub root : (c : ℕ) → T'.check 0 ≡ pos c → ⊥
@@ -105,12 +106,12 @@ pub record Renamed (size size' : ℕ) (T T' : Cells) (r : ℕ → ℕ) : Type 0 
   pub check : (q c : ℕ) → T.check q ≡ pos c → T'.check (r q) ≡ pos (r c)
   pub back : (q d : ℕ) → T'.check q ≡ pos d → (o : ℕ) × (c : ℕ) × (T.check o ≡ pos c) × (r o ≡ q) × (r c ≡ d)
 
--- of the slots of p, those with these labels have gone to base b
+-- of the slots of p, those with these labels have moved to base b
 pub record MovedSome (T : Cells) (p b : ℕ) (gone : List ℕ) (r : ℕ → ℕ) : Type 0 where
   pub moved : (q : ℕ) → T.check q ≡ pos p → Among gone (below T p q) → r q ≡ bit_xor b (below T p q)
   pub kept : (q : ℕ) → (T.check q ≡ pos p → Among gone (below T p q) → ⊥) → r q ≡ q
 
--- a relocation that has come as far as these labels
+-- how far a relocation is once the slots of these labels have moved
 pub record Progress (T T' : Cells) (p b : ℕ) (gone : List ℕ) : Type 0 where
   pub new_slot : ℕ → ℕ
   pub renames : Renames T T' new_slot
@@ -128,7 +129,7 @@ pub record Movable (size : ℕ) (T : Cells) (p b : ℕ) (ls : List ℕ) : Type 0
   pub number : Among ls 0 → OwnsNothing T (below T p 0)
   pub node : (l : ℕ) → Among ls l → (l ≡ 0 → ⊥) → IsNode size T (below T p l)
 
--- T' holds the nodes of T, with the slots of p at base b, and each other node's base is as it was
+-- T' has the nodes of T, with the slots of p at base b; each other node's base is as it was
 pub record Relocated (size : ℕ) (T T' : Cells) (p b : ℕ) : Type 0 where
   pub new_slot : ℕ → ℕ
   pub renamed : Renamed size size T T' new_slot
@@ -136,8 +137,8 @@ pub record Relocated (size : ℕ) (T T' : Cells) (p b : ℕ) : Type 0 where
   pub set : T'.stored p ≡ AtBase b
   pub stored : (q : ℕ) → Held T q → (q ≡ p → ⊥) → T'.stored (new_slot q) ≡ T.stored q
 
--- T', which may have more slots in use, holds the nodes of T, with the slots of p, which were under the labels ls, at
--- base b: their old places are free, and so are those for the other labels of ws; each other node's base is as it was
+-- the slots of p, which were under the labels ls, are at base b, in a table that may have more slots in use. Their
+-- old places are free, and so are those for the other labels of ws. Each other node's base is as it was
 pub record SetMoved (size size' : ℕ) (T T' : Cells) (p b : ℕ) (ls ws : List ℕ) : Type 0 where
   pub new_slot : ℕ → ℕ
   pub renamed : Renamed size size' T T' new_slot

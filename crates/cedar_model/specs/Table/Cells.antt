@@ -6,16 +6,18 @@ use Rattle.cedar_model.specs.Table.Layouts.{LayoutKind, reading}
 use Rattle.cedar_slots.specs.Places.{PlaceFields}
 use Rattle.cedar_slots.specs.Slots.{base_at, check_at, info_at}
 
+-- the slots as functions of a slot's number: the base field, what it says (`stored`), the check, and the labels
 pub record Cells : Type 0 where
-  -- the field as it is, and what it says of a node in the table's layout
+  -- the base field as it is
   pub base : ℕ → ℤ
+  -- what the base field says of a node, in the table's layout
   pub stored : ℕ → Stored
   pub check : ℕ → ℤ
   pub sibling : ℕ → ℕ
   pub child : ℕ → ℕ
 
--- the slots of a table; those that are not in use, whose fields are all 0, belong to nobody: without the test of
--- their numbers, a check of 0 would read as owned by the root
+-- the slots of a table. Those that are not in use belong to nobody: their check is -1 here, since a check of 0 would
+-- read as owned by the root
 abbrev pub cells_of : LayoutKind → PlaceFields → Cells
 cells_of layout places = record {
   base = λ s. base_at places.slots.nodes s;
@@ -25,7 +27,7 @@ cells_of layout places = record {
   child = λ s. (info_at places.slots.infos s).child;
 }
 
--- the slot is the root's or has an owner; each other slot in use is free
+-- slot s is held: it is the root's, or its check names an owner. Each other slot in use is free
 abbrev pub Held : Cells → ℕ → Type 0
 Held T s = (s ≡ 0) ⊎ (c : ℕ) × (T.check s ≡ pos c)
 
@@ -41,7 +43,8 @@ pub record SameAt (T T' : Cells) (x y : ℕ) : Type 0 where
   pub sibling : T'.sibling y ≡ T.sibling x
   pub child : T'.child y ≡ T.child x
 
--- the free slot q is taken for the owner c, and has no labels; the links of other free slots may change
+-- the free slot q is held by c now, and has no labels. No other slot was taken or given back, and each that was held
+-- has what it had. The links of free slots may have changed
 pub record Takes (T T' : Cells) (q c : ℕ) : Type 0 where
   pub at : T'.check q ≡ pos c
   pub sibling : T'.sibling q ≡ 0
@@ -49,7 +52,8 @@ pub record Takes (T T' : Cells) (q c : ℕ) : Type 0 where
   pub other : (x : ℕ) → (x ≡ q → ⊥) → Held T x → SameAt T T' x x
   pub free : (x : ℕ) → (x ≡ q → ⊥) → Held T' x → Held T x
 
--- the slot q is given back; the links of other free slots may change
+-- the held slot q is free now, and has no labels. Nothing else that is held has changed. The links of free slots may
+-- have changed
 pub record Gives (T T' : Cells) (q : ℕ) : Type 0 where
   pub gone : Held T' q → ⊥
   pub sibling : T'.sibling q ≡ 0
@@ -57,12 +61,13 @@ pub record Gives (T T' : Cells) (q : ℕ) : Type 0 where
   pub other : (x : ℕ) → (x ≡ q → ⊥) → Held T x → SameAt T T' x x
   pub free : (x : ℕ) → Held T' x → Held T x
 
--- no slot was taken or given back; the links of free slots may change, and free slots may have come
+-- no slot was taken or given back, and what is held has what it had. The links of free slots may have changed, and
+-- free slots may have come
 pub record SameHeld (T T' : Cells) : Type 0 where
   pub other : (x : ℕ) → Held T x → SameAt T T' x x
   pub free : (x : ℕ) → Held T' x → Held T x
 
--- the slot q holds this base and this check, and nothing else has changed
+-- slot q has this base and this check, and nothing else has changed
 pub record NodeWritten (reads : ℤ → Stored) (T T' : Cells) (q : ℕ) (b c : ℤ) : Type 0 where
   pub base_at : T'.base q ≡ b
   pub stored_at : T'.stored q ≡ reads b
@@ -73,7 +78,7 @@ pub record NodeWritten (reads : ℤ → Stored) (T T' : Cells) (q : ℕ) (b c : 
   pub sibling : (x : ℕ) → T'.sibling x ≡ T.sibling x
   pub child : (x : ℕ) → T'.child x ≡ T.child x
 
--- the slot q holds these labels, and nothing else has changed
+-- slot q has these labels, and nothing else has changed
 pub record InfoWritten (T T' : Cells) (q s c : ℕ) : Type 0 where
   pub sibling_at : T'.sibling q ≡ s
   pub child_at : T'.child q ≡ c
@@ -83,16 +88,16 @@ pub record InfoWritten (T T' : Cells) (q s c : ℕ) : Type 0 where
   pub sibling : (x : ℕ) → (x ≡ q → ⊥) → T'.sibling x ≡ T.sibling x
   pub child : (x : ℕ) → (x ≡ q → ⊥) → T'.child x ≡ T.child x
 
--- a free slot outside block 0, of those below the size given
+-- slot s is a place: free, in use (below `size`) and outside block 0
 pub record IsPlace (size : ℕ) (T : Cells) (s : ℕ) : Type 0 where
   pub not_first : 256 ≤ s
   pub in_use : s < size
   pub free : Held T s → ⊥
 
--- no slot outside block 0 is free
+-- no slot in use outside block 0 is free
 abbrev pub NoPlace : ℕ → Cells → Type 0
 NoPlace size T = (s : ℕ) → 256 ≤ s → s < size → Held T s
 
--- from the base on each label's slot is free, and outside block 0
+-- the slot of each label, base xor label, is a place
 abbrev pub HasPlaces : ℕ → Cells → ℕ → List ℕ → Type 0
 HasPlaces size T base labels = All (λ label. IsPlace size T (bit_xor base label)) labels

@@ -4,6 +4,7 @@ use Rattle.cedar_table.specs.declared.parts.Parts.{Parts}
 use Rattle.cedar_model.specs.Table.Layouts.{LayoutKind}
 use Rattle.cedar_model.specs.Table.TableFields.{Fields}
 
+-- what the parts of a table of this layout are as a record
 abbrev pub parts_fields : {A : _} → LayoutKind → Parts A → Fields
 parts_fields kind parts = record {
   layout = kind;

@@ -4,8 +4,8 @@ use Rattle.cedar_model.specs.Table.TableFields.{capacity_of, Fields, size_of}
 use Rattle.cedar_slots.specs.declared.shortage.Shortage.{Shortage}
 use Rattle.cedar_slots.specs.declared.shortage.Shortage.TheVariants.{Memory, SlotLimit}
 
--- what a table that may have `slots` slots lacks where room for n more blocks is refused: memory only where it has to grow and may,
--- slots where it may have none so many
+-- what a table that may have `slots` slots lacks if room for n more blocks is refused: memory only if its lists have
+-- to grow and may, slots only if there may not be so many
 abbrev pub LacksBlocks : Fields → ℕ → ℕ → Shortage → Type 0
 LacksBlocks T slots n Memory = (capacity_of T < size_of T + 256 * n) × (size_of T + 256 * n ≤ slots)
 LacksBlocks T slots n SlotLimit = slots < size_of T + 256 * n

@@ -20,9 +20,10 @@ use std::sync::ledger::Ledger;
 /// A dictionary, as its walks see it: any [`Trie`]. A walk knows it by this trait alone, since a call on a type with a const parameter
 /// needs the size of that type, of which a borrow says nothing.
 pub trait Walked {
-    /// How many slots it may have, and the table that it is kept in.
+    /// How many slots it may have.
     ghost slots: { ℕ };
 
+    /// The fields of the table that it is kept in.
     ghost shown: { Self → Fields };
 
     /// The next prefix of a query that is held.
