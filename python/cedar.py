@@ -46,7 +46,7 @@ class _Key(ctypes.Structure):
     _fields_ = [("key", c_char_p), ("length", c_size_t)]
 
 
-def _library(path=os.environ.get("CEDAR_LIBRARY", Path(__file__).parent / "libcedar.so")):
+def _library(path=os.environ.get("CEDAR_LIBRARY", Path(__file__).parent / "libroskvidh.so")):
     # PyDLL keeps the interpreter's lock during a call, so that one call at a time works on a dictionary, and none reads it while it changes.
     # Between calls other threads run: what C writes to is each call's own.
     library = ctypes.PyDLL(str(path))

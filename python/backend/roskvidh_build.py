@@ -1,7 +1,7 @@
 """Builds the package without any other: compiles src/*.c, links the library for C, and packs a wheel (PEP 517).
 
-The library is looked for in this order: in the folder CEDAR_LIBRARY_FOLDER, which has libcedar.a and cedar.h, as ./build-c fills one; under
-the prefix ROSKVIDH_PREFIX, where it was installed; where ./build-c puts it in the repository; and under /usr/local and /usr. CC is the C
+The library is looked for in this order: in the folder CEDAR_LIBRARY_FOLDER, which has libroskvidh.a and cedar.h, as ./build-c fills one;
+under the prefix ROSKVIDH_PREFIX, where it was installed; where ./build-c puts it in the repository; and under /usr/local and /usr. CC is the C
 compiler, and CFLAGS are put behind the flags that stand here.
 """
 
@@ -42,7 +42,7 @@ class Library:
     @classmethod
     def built(cls, folder):
         """As ./build-c fills a folder."""
-        return cls(folder, folder / "libcedar.a")
+        return cls(folder, folder / "libroskvidh.a")
 
     @classmethod
     def installed(cls, prefix):

@@ -84,13 +84,13 @@ class Package(unittest.TestCase):
         return subprocess.run(command, env={**environment, **variables}, stderr=subprocess.PIPE, text=True)
 
     def test_a_build_without_the_library(self):
-        for variable, place, name in [("CEDAR_LIBRARY_FOLDER", "/nowhere", "libcedar.a"), ("ROSKVIDH_PREFIX", "/nowhere/lib", "libroskvidh.a")]:
+        for variable, place, name in [("CEDAR_LIBRARY_FOLDER", "/nowhere", "libroskvidh.a"), ("ROSKVIDH_PREFIX", "/nowhere/lib", "libroskvidh.a")]:
             run = self.build("/nowhere", **{variable: "/nowhere"})
             self.assertEqual((run.returncode, f"{place} has no {name}: run ./build-c" in run.stderr), (1, True))
 
     def test_a_build_over_another_version(self):
         with tempfile.TemporaryDirectory() as folder:
-            (Path(folder) / "libcedar.a").touch()
+            (Path(folder) / "libroskvidh.a").touch()
             (Path(folder) / "cedar.h").write_text('#define CEDAR_VERSION "7.8.9"\n')
             run = self.build(folder, CEDAR_LIBRARY_FOLDER=folder)
         self.assertEqual((run.returncode, "cedar.h is of version 7.8.9, and the package of " in run.stderr), (1, True))
@@ -101,7 +101,7 @@ class Package(unittest.TestCase):
         library = Path(os.environ["CEDAR_LIBRARY_FOLDER"])
         with tempfile.TemporaryDirectory() as name:
             folder = Path(name)
-            for source, target in [("cedar.h", "include/roskvidh/cedar.h"), ("libcedar.a", "lib/libroskvidh.a")]:
+            for source, target in [("cedar.h", "include/roskvidh/cedar.h"), ("libroskvidh.a", "lib/libroskvidh.a")]:
                 (folder / target).parent.mkdir(parents=True)
                 (folder / target).write_bytes((library / source).read_bytes())
             sys.path.insert(0, str(HERE / "backend"))

@@ -1,7 +1,7 @@
 /* How many look-ups a second one thread and eight threads make in one dictionary: rate LIST [ROUNDS]. The list has a word a line. It isn't
  * run by tests/c/run: a rate says something only on a machine that has nothing else to do.
  *
- *     gcc -std=c11 -O2 -pthread -Iinclude -o rate tests/c/rate.c crates/cedar_c/out/c/libcedar.a && ./rate words.txt
+ *     gcc -std=c11 -O2 -pthread -Ic/include -o rate tests/c/rate.c crates/cedar_c/out/c/libroskvidh.a && ./rate words.txt
  *
  * Each thread looks up all words in an order of its own, ROUNDS times. It prints the rates, by how much the one is above the other, and the
  * time of a processor that a look-up takes: on four processors without other work the rate is four times as high where that stays. */

@@ -1,4 +1,4 @@
-//! The dictionary for C, and so for C++ and Python: `include/cedar.h` declares the exports, and says what their callers owe.
+//! The dictionary for C, and so for C++ and Python: `c/include/cedar.h` declares the exports, and says what their callers owe.
 //!
 //! C has a [`handle::Handle`]: a pointer to a dictionary of either layout on the C library's heap, or none. Each call makes the
 //! dictionary's own call where it is; one that opens or closes a handle alone takes a dictionary out of it or puts one in. Calls that only

@@ -1,5 +1,5 @@
-//! The subject `here` of `./measure`: this repository's library, called from Rattle and measured as benches/cpp/measures.hpp measures the
-//! others. `measure_run FOLDER PASSES MEASURE..` reads the files of a workload that benches/workloads.py wrote, and prints for each pass of
+//! The subject `here` of `./measure`: this repository's library, called from Rattle and measured as bench/cpp/measures.hpp measures the
+//! others. `measure_run FOLDER PASSES MEASURE..` reads the files of a workload that bench/workloads.py wrote, and prints for each pass of
 //! each measure a line `measure TAB nanoseconds TAB operations TAB sum`. With 0 passes each measure is made once and no clock is read: its
 //! nanoseconds are 0.
 //!

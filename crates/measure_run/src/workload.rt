@@ -1,4 +1,4 @@
-//! The keys and queries of a workload, as benches/workloads.py writes them. A file of keys is records: four bytes of length, the lowest
+//! The keys and queries of a workload, as bench/workloads.py writes them. A file of keys is records: four bytes of length, the lowest
 //! first, and the key.
 
 use anyhow::{Context, Result};

@@ -1,5 +1,5 @@
 #!/usr/bin/env python3
-"""Measures the dictionary beside its peers, and writes what it found as lines of TSV. benches/README.md says how to read them."""
+"""Measures the dictionary beside its peers, and writes what it found as lines of TSV. bench/README.md says how to read them."""
 
 import argparse
 import os
@@ -21,7 +21,7 @@ from measures import DICTIONARY, GROWTH, LATENCIES, MOST_IN_ROUNDS, SCRIPTS, SIZ
 from packages import Packages
 
 TOP = Path(__file__).resolve().parent.parent
-OUT = TOP / "benches" / "out"
+OUT = TOP / "bench" / "out"
 # The load average from which on times aren't stored: the measuring process itself is one of it.
 QUIET = 3
 
@@ -79,7 +79,7 @@ def arguments():
     parser.add_argument("--words", type=Path, metavar="LIST", help="take the first word of each line of LIST as the real words")
     parser.add_argument("--as-built", action="store_true", help="build neither library nor program: after ./gate and ./build-c")
     parser.add_argument("--only", metavar="SUBJECTS", help="measure these subjects alone, as 'here,judy'")
-    parser.add_argument("--store", action="store_true", help="put the results into benches/results, and make page and pictures anew")
+    parser.add_argument("--store", action="store_true", help="put the results into bench/results, and make page and pictures anew")
     return parser.parse_args()
 
 
@@ -119,8 +119,8 @@ def commit_of():
     """The commit that is measured, with + behind it if what is built has been changed since."""
     git = ["git", "-C", str(TOP)]
     commit = subprocess.run([*git, "rev-parse", "--short=7", "HEAD"], capture_output=True, text=True, check=True).stdout.strip()
-    changed = subprocess.run([*git, "status", "--porcelain", "--", "benches", "c", "crates", "include"], capture_output=True, text=True, check=True).stdout
-    changed = [line for line in changed.splitlines() if "benches/results" not in line]
+    changed = subprocess.run([*git, "status", "--porcelain", "--", "bench", "c", "crates"], capture_output=True, text=True, check=True).stdout
+    changed = [line for line in changed.splitlines() if "bench/results" not in line]
     return commit + ("+" if changed else "")
 
 

@@ -8,7 +8,7 @@ from dataclasses import dataclass, field
 from pathlib import Path
 
 TOP = Path(__file__).resolve().parent.parent
-CPP = TOP / "benches" / "cpp"
+CPP = TOP / "bench" / "cpp"
 COMPILE = ["g++", "-std=c++20", "-O2", "-Wall", "-Wextra", "-Werror"]
 
 
@@ -62,17 +62,17 @@ def here(is_built):
 
 
 def here_c(out, is_built):
-    """The same library by the calls of include/cedar.h, built if it isn't; with `is_built` the one that is there."""
-    library = TOP / "crates" / "cedar_c" / "out" / "c" / "libcedar.a"
-    sources = [*TOP.glob("crates/*/src/**/*.rt"), *TOP.glob("include/*"), *TOP.glob("c/*")]
+    """The same library by the calls of c/include/cedar.h, built if it isn't; with `is_built` the one that is there."""
+    library = TOP / "crates" / "cedar_c" / "out" / "c" / "libroskvidh.a"
+    sources = [*TOP.glob("crates/*/src/**/*.rt"), *TOP.glob("c/include/*"), *TOP.glob("c/*.[ch]")]
     if not is_built and (not library.exists() or any(path.stat().st_mtime > library.stat().st_mtime for path in sources)):
         print("measure: ./build-c proves and builds the library first", flush=True)
         subprocess.run([str(TOP / "build-c")], check=True)
     if not library.exists():
         raise Missing(f"{library.relative_to(TOP)} isn't there: ./build-c builds it")
-    program = compiled(out, "here_c", "cedar.cpp", "-I", TOP / "include", library)
+    program = compiled(out, "here_c", "cedar.cpp", "-I", TOP / "c" / "include", library)
     rate = out / "bin" / "rate"
-    c = ["gcc", "-std=c11", "-O2", "-pthread", "-I", TOP / "include", "-o", rate, TOP / "tests" / "c" / "rate.c", library]
+    c = ["gcc", "-std=c11", "-O2", "-pthread", "-I", TOP / "c" / "include", "-o", rate, TOP / "tests" / "c" / "rate.c", library]
     subprocess.run([*map(str, c)], check=True)
     return Subject("here_c", program, f"{version_here()}, from C", threads=rate)
 
@@ -104,14 +104,14 @@ def peers(out, packages, wants):
 
 
 def original(out, path):
-    """The original crate from its sources: the adapter in benches/original, built with optimisation at link time."""
+    """The original crate from its sources: the adapter in bench/original, built with optimisation at link time."""
     path = Path(path).resolve()
     manifest = (path / "Cargo.toml").read_text()
     package = re.search(r'^name = "(.*)"', manifest, re.M).group(1)
     version = re.search(r'^version = "(.*)"', manifest, re.M).group(1)
     folder = out / "original"
-    shutil.copytree(TOP / "benches" / "original" / "src", folder / "src", dirs_exist_ok=True)
-    text = (TOP / "benches" / "original" / "Cargo.toml.in").read_text()
+    shutil.copytree(TOP / "bench" / "original" / "src", folder / "src", dirs_exist_ok=True)
+    text = (TOP / "bench" / "original" / "Cargo.toml.in").read_text()
     (folder / "Cargo.toml").write_text(text.replace("@PATH@", str(path)).replace("@PACKAGE@", package))
     subprocess.run(["cargo", "build", "--release", "--quiet"], cwd=folder, check=True, env={**os.environ, "CARGO_TARGET_DIR": str(folder / "target")})
     program = folder / "target" / "release" / "original"

@@ -1,6 +1,6 @@
 #!/usr/bin/env python3
 """page.py [--check]: makes the tables of docs/MEASUREMENTS.md, between its two marker lines, those of README.md and docs/PERFORMANCE.md, and
-the pictures in docs/pictures, of the rows in benches/results. With --check it writes nothing, and fails where they aren't what the rows
+the pictures in docs/pictures, of the rows in bench/results. With --check it writes nothing, and fails where they aren't what the rows
 give, or where rows don't belong together."""
 
 import re
@@ -15,7 +15,7 @@ from tables import Table, number
 TOP = Path(__file__).resolve().parent.parent
 PAGE = TOP / "docs" / "MEASUREMENTS.md"
 PICTURES = TOP / "docs" / "pictures"
-BEGIN, END = "<!-- made by benches/page.py of benches/results: begin -->", "<!-- made by benches/page.py of benches/results: end -->"
+BEGIN, END = "<!-- made by bench/page.py of bench/results: begin -->", "<!-- made by bench/page.py of bench/results: end -->"
 
 PYTHON = """Nanoseconds of the processor a step, its loop in Python included, by the median of the rounds; behind it how many times as long as
 `roskvidh`. Memory is by how much a process grows that makes the dictionary."""
@@ -222,8 +222,8 @@ if __name__ == "__main__":
         try:
             wrong = check()
         except rows.Mixed as error:
-            sys.exit(f"benches/page.py: {error}")
+            sys.exit(f"bench/page.py: {error}")
         if wrong:
-            sys.exit(f"benches/page.py: {', '.join(wrong)} isn't what benches/results gives; 'benches/page.py' mends it")
+            sys.exit(f"bench/page.py: {', '.join(wrong)} isn't what bench/results gives; 'bench/page.py' mends it")
     else:
         write()

@@ -1,5 +1,5 @@
 #!/usr/bin/env python3
-"""benches/durable.py [--folder FOLDER] [--rounds N] [--changes N] [--offline]: changes a second of a dictionary on a disk, one by one and
+"""bench/durable.py [--folder FOLDER] [--rounds N] [--changes N] [--offline]: changes a second of a dictionary on a disk, one by one and
 in batches; how long a file of many keys takes to open; and look-ups of other threads while one changes. Beside it SQLite, LMDB and LevelDB
 with the same promise: a change that was acknowledged is on the disk.
 
@@ -7,7 +7,7 @@ with the same promise: a change that was acknowledged is on the disk.
 it. SQLite is Python's own, with its journal as WAL and synchronous FULL. The others are those of Debian's liblmdb-dev and libleveldb-dev.
 They are downloaded if they aren't installed, and left out if they can't be had. Each stores the same keys, another one for each change,
 with a commit for each change or batch. They are measured in turn, and a line tells the median, the least and the greatest of the rounds.
-Each file is made anew in FOLDER (by default benches/out, on the disk of this checkout), and removed.
+Each file is made anew in FOLDER (by default bench/out, on the disk of this checkout), and removed.
 
 Who looks up in `here_c` waits for the change or the commit that is under way, by a lock; those of LMDB and LevelDB wait for nobody."""
 
@@ -25,10 +25,10 @@ from pathlib import Path
 from packages import Packages
 
 TOP = Path(__file__).resolve().parent.parent
-OUT = TOP / "benches" / "out"
+OUT = TOP / "bench" / "out"
 PROGRAM = TOP / "crates" / "kill_run" / "out" / "kill_run"
-LIBRARY = TOP / "crates" / "cedar_c" / "out" / "c" / "libcedar.a"
-COMPILE = ["g++", "-std=c++20", "-O2", "-Wall", "-Wextra", "-Werror", "-pthread", str(TOP / "benches" / "cpp" / "durable.cpp")]
+LIBRARY = TOP / "crates" / "cedar_c" / "out" / "c" / "libroskvidh.a"
+COMPILE = ["g++", "-std=c++20", "-O2", "-Wall", "-Wextra", "-Werror", "-pthread", str(TOP / "bench" / "cpp" / "durable.cpp")]
 # How many changes are made by commits of a size.
 SIZES = ((1, 500), (100, 20_000), (1000, 100_000))
 THREADS = 2
@@ -118,7 +118,7 @@ class Built:
 def built(packages):
     """The stores that can be built here; what is missing is said."""
     if LIBRARY.exists():
-        yield Built("here_c", ["-I", TOP / "include", LIBRARY])
+        yield Built("here_c", ["-I", TOP / "c" / "include", LIBRARY])
     else:
         print("durable: here_c is left out: ./build-c builds the library for C")
     for name, define, package, header, libraries in (

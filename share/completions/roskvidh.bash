@@ -1,4 +1,4 @@
-# Completion of roskvidh for bash: '. completions/roskvidh.bash', or a copy in /usr/share/bash-completion/completions/roskvidh.
+# Completion of roskvidh for bash: '. share/completions/roskvidh.bash', or a copy in /usr/share/bash-completion/completions/roskvidh.
 # Made by tools/helps of what roskvidh --help prints.
 _roskvidh() {
     local word=${COMP_WORDS[COMP_CWORD]} options

@@ -1,4 +1,4 @@
-// The keys and queries of a workload, read from the files that benches/workloads.py writes. A file of keys is records: four bytes of length,
+// The keys and queries of a workload, read from the files that bench/workloads.py writes. A file of keys is records: four bytes of length,
 // the lowest first, and the key. A byte 0 is put behind each key in memory, for subjects that take C's strings.
 #pragma once
 #include <cstdint>

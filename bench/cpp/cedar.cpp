@@ -1,4 +1,4 @@
-// The subject `here_c`: this repository's library, by the calls of include/cedar.h.
+// The subject `here_c`: this repository's library, by the calls of c/include/cedar.h.
 #include "measures.hpp"
 #include "cedar.h"
 

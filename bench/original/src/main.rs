@@ -1,4 +1,4 @@
-//! The subject `cedarwood`: the original crate, measured as benches/cpp/measures.hpp measures the others: `original FOLDER PASSES MEASURE..`
+//! The subject `cedarwood`: the original crate, measured as bench/cpp/measures.hpp measures the others: `original FOLDER PASSES MEASURE..`
 //! prints the same lines. `original script` answers the lines `+ K V` and `= K` of a script, as the program `./cedar` does.
 
 mod script;

@@ -1,4 +1,4 @@
-// Changes of a dictionary on a disk, by the store of include/cedar.h, or with LMDB or LEVELDB defined by that one: durable WORK PATH FIRST
+// Changes of a dictionary on a disk, by the store of c/include/cedar.h, or with LMDB or LEVELDB defined by that one: durable WORK PATH FIRST
 // COUNT SIZE [THREADS]. The change of a number stores it at a key of its own.
 //   change  makes COUNT changes, numbered from FIRST on, SIZE in each commit, and each commit is on the disk before the next change: prints
 //           the seconds

@@ -1,5 +1,5 @@
 // What a program that knows std::map asks of a dictionary, from C and from C++: a line for each, `what TAB of whom TAB figure`.
-// benches/containers compiles and runs it. The answers of all have to be the same.
+// bench/containers compiles and runs it. The answers of all have to be the same.
 #include "cedar.hpp"
 #include <algorithm>
 #include <cstdio>

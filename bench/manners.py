@@ -1,6 +1,6 @@
 """What calls of Python's package cost where a program waits: first completions, next keys, long keys, threads, signals, copies.
 
-    python3 benches/manners.py            # with the package roskvidh installed, or its folder on PYTHONPATH; about a minute
+    python3 bench/manners.py            # with the package roskvidh installed, or its folder on PYTHONPATH; about a minute
 
 Each line has a row's name and its figure. Figures of threads are of a machine with four processors or more. A store is made in a folder for
 the time being, and nothing else is stored.
