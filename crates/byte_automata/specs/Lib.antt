@@ -1,0 +1,5 @@
+pub mod DistanceLaws
+pub mod Distances
+pub mod PrefixLaws
+pub mod Prefixes
+pub mod Words
