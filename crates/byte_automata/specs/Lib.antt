@@ -1,3 +1,6 @@
+pub mod BandLaws
+pub mod Bands
+pub mod Cells
 pub mod DistanceLaws
 pub mod Distances
 pub mod PrefixLaws

@@ -9,7 +9,9 @@
 #![tactic(auto)]
 
 mod automaton;
+mod distance;
 mod prefix;
 
 pub use automaton::Automaton;
+pub use distance::{Band, Within};
 pub use prefix::Prefix;
