@@ -3,6 +3,10 @@ pub mod Bands
 pub mod Cells
 pub mod DistanceLaws
 pub mod Distances
+pub mod FrontLaws
+pub mod Fronts
+pub mod PairLaws
+pub mod Pairs
 pub mod PrefixLaws
 pub mod Prefixes
 pub mod Words

@@ -10,8 +10,12 @@
 
 mod automaton;
 mod distance;
+mod front;
+mod pairs;
 mod prefix;
 
 pub use automaton::Automaton;
 pub use distance::{Band, Within};
+pub use front::Beginning;
+pub use pairs::{Both, Either};
 pub use prefix::Prefix;
