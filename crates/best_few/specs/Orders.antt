@@ -1,0 +1,73 @@
+-- The order of entries by value, and the first of them in it.
+use Rattle.std.specs.Prelude.{◌≡◌, ℕ, ℤ, pos, negsuc, true, false, List, [], ◌∷◌}
+use Rattle.std.specs.Prelude.{if◌then◌else◌, map, take}
+use Rattle.std.specs.Cmp.Lexicographic.{slice_cmp}
+use Rattle.std.specs.Ordering.{int_cmp, is_gt, is_lt, nat_cmp, ordering_then}
+use Rattle.std.specs.declared.vec.Vec.{Vec}
+use Rattle.std.specs.declared.cmp.Ordering.{Ordering}
+use Rattle.cedar_tree.specs.Queries.{Entry}
+use Rattle.best_few.specs.declared.order.ByValue.{ByValue}
+use Rattle.best_few.specs.declared.order.ByValue.TheVariants.{HighestFirst, LowestFirst}
+
+-- which of two values comes first
+abbrev pub value_cmp : ByValue → ℤ → ℤ → Ordering
+value_cmp HighestFirst v w = int_cmp w v
+value_cmp LowestFirst v w = int_cmp v w
+
+-- which of two entries comes first: by value, and with the same value by the bytes of their keys
+abbrev pub entry_cmp : ByValue → Entry → Entry → Ordering
+entry_cmp order a b = ordering_then (value_cmp order a.1 b.1) (slice_cmp nat_cmp a.0 b.0)
+
+-- an entry put into its place among others that are in order
+abbrev pub put_in_order : ByValue → Entry → List Entry → List Entry
+put_in_order order e [] = e ∷ []
+put_in_order order e (x ∷ xs) = if is_lt (entry_cmp order x e) then x ∷ put_in_order order e xs else e ∷ x ∷ xs
+
+-- some entries in order
+abbrev pub in_order : ByValue → List Entry → List Entry
+in_order order [] = []
+in_order order (e ∷ es) = put_in_order order e (in_order order es)
+
+-- the first of them, so many at the most
+abbrev pub best : ByValue → ℕ → List Entry → List Entry
+best order most es = take most (in_order order es)
+
+-- ---- how they are found
+
+-- a number that is lower the earlier a value comes; and the value, if it is given that number
+abbrev pub turned : ByValue → ℤ → ℤ
+turned HighestFirst (pos n) = negsuc n
+turned HighestFirst (negsuc n) = pos n
+turned LowestFirst v = v
+
+abbrev pub turned_entry : ByValue → Entry → Entry
+turned_entry order e = (e.0, turned order e.1)
+
+-- a number and a key as an entry
+abbrev pub found_entry : {A : Type 0} → ℤ × Vec ℕ A → Entry
+found_entry found = (found.1.items, found.0)
+
+-- how they are compared
+abbrev pub kept_cmp : {A : Type 0} → ℤ × Vec ℕ A → ℤ × Vec ℕ A → Ordering
+kept_cmp a b = ordering_then (int_cmp a.0 b.0) (slice_cmp nat_cmp a.1.items b.1.items)
+
+-- after an entry more, those that are kept are the best of those that were kept and of it
+abbrev pub KeepsBest : {A : Type 0} → ℕ → List (ℤ × Vec ℕ A) → Entry → List (ℤ × Vec ℕ A) → Type 0
+KeepsBest most old e new = in_order LowestFirst (map found_entry new) ≡ best LowestFirst most (e ∷ map found_entry old)
+
+-- they are those that were kept and it
+abbrev pub KeepsOneMore : {A : Type 0} → List (ℤ × Vec ℕ A) → Entry → List (ℤ × Vec ℕ A) → Type 0
+KeepsOneMore old e new = in_order LowestFirst (map found_entry new) ≡ in_order LowestFirst (e ∷ map found_entry old)
+
+-- an entry comes before the last of those that are kept, which is on top
+abbrev pub PrecedesLast : {A : Type 0} → Entry → List (ℤ × Vec ℕ A) → Type 0
+PrecedesLast e [] = ⊥
+PrecedesLast e (last ∷ kept) = is_lt (entry_cmp LowestFirst e (found_entry last)) ≡ true
+
+-- no entry of a list comes behind this one
+abbrev pub IsLast : ByValue → Entry → List Entry → Type 0
+IsLast order e [] = Unit {0}
+IsLast order e (x ∷ xs) = (is_gt (entry_cmp order x e) ≡ false) × IsLast order e xs
+
+abbrev pub FollowsAll : {A : Type 0} → Entry → List (ℤ × Vec ℕ A) → Type 0
+FollowsAll e kept = IsLast LowestFirst e (map found_entry kept)

@@ -1,0 +1,11 @@
+//! The best few of some entries: those whose values come first, in their order. A heap holds them while the entries go by, so it takes
+//! memory for so many entries, however many go by.
+#![tactic(auto)]
+
+mod few;
+mod order;
+mod walk;
+
+pub use few::best_of;
+pub use order::ByValue;
+pub use walk::EntryWalk;

@@ -1,0 +1,25 @@
+//! Which values come first.
+
+ghost use Rattle.std.specs.Prelude.{◌≡◌};
+ghost use Rattle.best_few.specs.Words.{turned};
+
+/// Which values come first. Entries with the same value come in the order of their keys by bytes, in either case.
+#[derive(Clone, Copy, Debug, PartialEq, Eq)]
+pub enum ByValue {
+    /// The highest value first, as for frequencies.
+    HighestFirst,
+    /// The lowest value first, as for costs.
+    LowestFirst,
+}
+
+impl ByValue {
+    /// A number that is lower the earlier a value comes; and the value, if it is given that number.
+    pub(crate) fn turn(self, number: i32) -> i32
+        ensures { result ≡ turned self number }
+    {
+        match self {
+            ByValue::HighestFirst => !number,
+            ByValue::LowestFirst => number,
+        }
+    }
+}
