@@ -1,0 +1,48 @@
+-- Ranges of byte strings in their order, and their ends.
+use Rattle.std.specs.Prelude.{ℕ, ◌+◌, ◌==◌, Bool, true, ◌&&◌, if◌then◌else◌, List, [], ◌∷◌}
+use Rattle.std.specs.Prelude.{None, Option, Some}
+use Rattle.std.specs.Coded.{Coded, code_by, coded×, coded_ℕ, coded_list, coded_option}
+use Rattle.std.specs.Cmp.Lexicographic.{slice_cmp}
+use Rattle.std.specs.Ordering.{is_ge, is_gt, is_le, is_lt, nat_cmp}
+use Rattle.std.specs.declared.ops.Bound.{Bound}
+use Rattle.std.specs.declared.ops.Bound.TheVariants.{Excluded, Included, Unbounded}
+use Rattle.std.proofs.Common.{refl}
+
+-- where a range begins, and what it ends before, if it has an end
+pub record KeySpan : Type 0 where
+  pub from : List ℕ
+  pub to : Option (List ℕ)
+
+-- it serves `impl Model` alone
+abbrev pub span_code : Coded KeySpan
+span_code = code_by (List ℕ × Option (List ℕ)) (coded× (coded_list coded_ℕ) (coded_option (coded_list coded_ℕ))) (λ s. (s.from, s.to)) (λ p. record { from = p.0; to = p.1 }) (λ _. refl)
+
+-- whether a byte string comes before an end, if there is one
+abbrev pub ends_before : Option (List ℕ) → List ℕ → Bool
+ends_before None w = true
+ends_before (Some to) w = is_lt (slice_cmp nat_cmp w to)
+
+-- whether a byte string is in a range
+abbrev pub holds : KeySpan → List ℕ → Bool
+holds span w = is_ge (slice_cmp nat_cmp w span.from) && ends_before span.to w
+
+-- whether a byte string doesn't come before the start of a range, and whether it doesn't come behind its end
+abbrev pub follows_start : Bound (List ℕ) → List ℕ → Bool
+follows_start (Included key) w = is_ge (slice_cmp nat_cmp w key)
+follows_start (Excluded key) w = is_gt (slice_cmp nat_cmp w key)
+follows_start Unbounded w = true
+
+abbrev pub precedes_stop : Bound (List ℕ) → List ℕ → Bool
+precedes_stop (Included key) w = is_le (slice_cmp nat_cmp w key)
+precedes_stop (Excluded key) w = is_lt (slice_cmp nat_cmp w key)
+precedes_stop Unbounded w = true
+
+-- the first byte string behind all that begin with a prefix, if there is one: the prefix without the highest bytes at its end, and the
+-- byte before them raised by one
+abbrev pub raised : ℕ → Option (List ℕ) → Option (List ℕ)
+raised byte None = if byte == 255 then None else Some ((byte + 1) ∷ [])
+raised byte (Some rest) = Some (byte ∷ rest)
+
+abbrev pub successor : List ℕ → Option (List ℕ)
+successor [] = None
+successor (byte ∷ prefix) = raised byte (successor prefix)
