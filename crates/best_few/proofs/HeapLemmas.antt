@@ -11,11 +11,11 @@ use Rattle.std.proofs.lemmas.List.{take-append-le, take_all}
 use Rattle.std.proofs.lemmas.List.Sorted.{IsPermutation-map, length_permutation}
 use Rattle.std.proofs.lemmas.List.Sums.{sum_by_push}
 use Rattle.cedar_tree.specs.Queries.{Entry}
-use Rattle.best_few.specs.Orders.{entry_cmp, FollowsAll, found_entry, in_order, IsLast, kept_cmp, KeepsBest, KeepsOneMore, PrecedesLast, put_in_order}
+use Rattle.best_few.specs.Orders.{entry_cmp, FollowsAll, found_entry, in_order, IsFirst, IsInOrder, IsLast, kept_cmp, KeepsBest, KeepsOneMore, PrecedesLast, put_in_order}
 use Rattle.best_few.specs.declared.order.ByValue.{ByValue}
 use Rattle.best_few.specs.declared.order.ByValue.TheVariants.{LowestFirst}
 use Rattle.std.proofs.lemmas.Cmp.{upto}
-use Rattle.best_few.proofs.OrderLemmas.{before_not_behind, first_behind, gt_is_lt, IsFirst, IsInOrder, one_order, ordered, permuted, put_keeps, settled, sum_put, total}
+use Rattle.best_few.proofs.OrderLemmas.{before_not_behind, first_behind, gt_is_lt, one_order, ordered, permuted, put_keeps, settled, sum_put, total}
 
 -- ---- lengths
 

@@ -10,10 +10,10 @@ use Rattle.std.specs.declared.cmp.Ordering.{Ordering}
 use Rattle.std.specs.declared.cmp.Ordering.TheVariants.{Equal, Greater, Less}
 use Rattle.std.proofs.lemmas.Bool.{true≢false}
 use Rattle.std.proofs.lemmas.Cmp.{back_total, int_cmp_total, int_ranked, nat_list_cmp_total, on_total, ranked, then_total, tied_itself, upto}
-use Rattle.std.proofs.lemmas.List.Sorted.{IsPermutation-middle, sum_by-IsPermutation}
+use Rattle.std.proofs.lemmas.List.Sorted.{IsPermutation-cons, IsPermutation-middle, IsPermutation-refl, IsPermutation-sym, IsPermutation-trans, sum_by-IsPermutation}
 use Rattle.std.proofs.lemmas.List.Sums.{sum_by-cons}
 use Rattle.cedar_tree.specs.Queries.{Entry}
-use Rattle.best_few.specs.Orders.{best, entry_cmp, in_order, put_in_order}
+use Rattle.best_few.specs.Orders.{best, entry_cmp, in_order, IsFirst, IsInOrder, put_in_order}
 use Rattle.best_few.specs.declared.order.ByValue.{ByValue}
 use Rattle.best_few.specs.declared.order.ByValue.TheVariants.{HighestFirst, LowestFirst}
 
@@ -76,15 +76,6 @@ pub before_not_behind : (order : ByValue) (a b : Entry) → is_lt (entry_cmp ord
 before_not_behind order a b = lt_not_gt (entry_cmp order a b)
 
 -- ---- lists in order
-
--- no entry of a list comes before this one
-abbrev pub IsFirst : ByValue → Entry → List Entry → Type 0
-IsFirst order e [] = Unit {0}
-IsFirst order e (x ∷ xs) = (is_gt (entry_cmp order e x) ≡ false) × IsFirst order e xs
-
-abbrev pub IsInOrder : ByValue → List Entry → Type 0
-IsInOrder order [] = Unit {0}
-IsInOrder order (x ∷ xs) = IsFirst order x xs × IsInOrder order xs
 
 pub first_behind : (order : ByValue) (a b : Entry) (xs : List Entry) → is_gt (entry_cmp order a b) ≡ false → IsFirst order b xs → IsFirst order a xs
 first_behind order a b [] h all = tt
@@ -245,3 +236,23 @@ goes_on order k ys e old new is =
     ap (take k) (same_behind order ys new few (is ∙ sym (settled order few up)))
     ∙ few_suffice order k ys (e ∷ old)
     ∙ ap (take k) (permuted order (ys ++ e ∷ old) (e ∷ (ys ++ old)) (IsPermutation-middle ys e old))
+
+-- ---- entries in order are the same entries
+
+put_permutes : (order : ByValue) (e : Entry) (xs : List Entry) → IsPermutation (e ∷ xs) (put_in_order order e xs)
+put_permutes order e [] = IsPermutation-refl (e ∷ [])
+put_permutes order e (x ∷ xs) =
+    elim (is_lt (entry_cmp order x e)) as (λ t. IsPermutation (e ∷ x ∷ xs) (if t then x ∷ put_in_order order e xs else e ∷ x ∷ xs)) [
+      | true ↦
+          IsPermutation-trans (e ∷ x ∷ xs) (x ∷ e ∷ xs) (x ∷ put_in_order order e xs)
+          (IsPermutation-sym (x ∷ e ∷ xs) (e ∷ x ∷ xs) (IsPermutation-middle (x ∷ []) e xs))
+          (IsPermutation-cons x (e ∷ xs) (put_in_order order e xs) (put_permutes order e xs))
+      | false ↦ IsPermutation-refl (e ∷ x ∷ xs)
+    ]
+
+pub order_permutes : (order : ByValue) (es : List Entry) → IsPermutation es (in_order order es)
+order_permutes order [] = IsPermutation-refl []
+order_permutes order (e ∷ es) =
+    IsPermutation-trans (e ∷ es) (e ∷ in_order order es) (put_in_order order e (in_order order es))
+    (IsPermutation-cons e es (in_order order es) (order_permutes order es))
+    (put_permutes order e (in_order order es))

@@ -32,6 +32,15 @@ in_order order (e ∷ es) = put_in_order order e (in_order order es)
 abbrev pub best : ByValue → ℕ → List Entry → List Entry
 best order most es = take most (in_order order es)
 
+-- no entry of a list comes before this one
+abbrev pub IsFirst : ByValue → Entry → List Entry → Type 0
+IsFirst order e [] = Unit {0}
+IsFirst order e (x ∷ xs) = (is_gt (entry_cmp order e x) ≡ false) × IsFirst order e xs
+
+abbrev pub IsInOrder : ByValue → List Entry → Type 0
+IsInOrder order [] = Unit {0}
+IsInOrder order (x ∷ xs) = IsFirst order x xs × IsInOrder order xs
+
 -- ---- how they are found
 
 -- a number that is lower the earlier a value comes; and the value, if it is given that number

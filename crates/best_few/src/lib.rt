@@ -3,9 +3,11 @@
 #![tactic(auto)]
 
 mod few;
+mod laws;
 mod order;
 mod walk;
 
 pub use few::best_of;
+pub use laws::order_is_an_order;
 pub use order::ByValue;
 pub use walk::EntryWalk;

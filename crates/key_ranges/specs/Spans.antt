@@ -1,12 +1,15 @@
 -- Ranges of byte strings in their order, and their ends.
-use Rattle.std.specs.Prelude.{ℕ, ◌+◌, ◌==◌, Bool, true, ◌&&◌, if◌then◌else◌, List, [], ◌∷◌}
-use Rattle.std.specs.Prelude.{None, Option, Some}
+use Rattle.std.specs.Prelude.{◌≡◌, ℕ, ◌+◌, ◌==◌, Bool, true, ◌&&◌, if◌then◌else◌, List, [], ◌∷◌}
+use Rattle.std.specs.Prelude.{filter, nat_eq, None, Option, Some}
 use Rattle.std.specs.Coded.{Coded, code_by, coded×, coded_ℕ, coded_list, coded_option}
 use Rattle.std.specs.Cmp.Lexicographic.{slice_cmp}
 use Rattle.std.specs.Ordering.{is_ge, is_gt, is_le, is_lt, nat_cmp}
 use Rattle.std.specs.declared.ops.Bound.{Bound}
 use Rattle.std.specs.declared.ops.Bound.TheVariants.{Excluded, Included, Unbounded}
 use Rattle.std.proofs.Common.{refl}
+use Rattle.std.specs.List.{starts_with}
+use Rattle.cedar_tree.specs.Queries.{Entry, walk}
+use Rattle.cedar_tree.specs.Tree.{IsPath, Tree}
 
 -- where a range begins, and what it ends before, if it has an end
 pub record KeySpan : Type 0 where
@@ -36,6 +39,18 @@ abbrev pub precedes_stop : Bound (List ℕ) → List ℕ → Bool
 precedes_stop (Included key) w = is_le (slice_cmp nat_cmp w key)
 precedes_stop (Excluded key) w = is_lt (slice_cmp nat_cmp w key)
 precedes_stop Unbounded w = true
+
+-- the entries of a tree whose keys are in a range
+abbrev pub entries_in : Tree → KeySpan → List Entry
+entries_in t span = filter (λ e. holds span e.0) (walk t)
+
+-- a range holds what another one holds that comes behind a byte string
+abbrev pub HoldsBehind : KeySpan → KeySpan → List ℕ → Type 0
+HoldsBehind old new key = (w : List ℕ) → holds new w ≡ (holds old w && is_gt (slice_cmp nat_cmp w key))
+
+-- a range holds the paths that begin with a prefix
+abbrev pub HoldsPrefixed : KeySpan → List ℕ → Type 0
+HoldsPrefixed span prefix = (w : List ℕ) → IsPath w → holds span w ≡ starts_with nat_eq w prefix
 
 -- the first byte string behind all that begin with a prefix, if there is one: the prefix without the highest bytes at its end, and the
 -- byte before them raised by one

@@ -1,8 +1,9 @@
 -- The words that the clauses cite, from one place.
-pub use Rattle.cedar_tree.specs.Tree.{IsPath}
-pub use Rattle.key_ranges.specs.Spans.{ends_before, follows_start, holds, KeySpan, precedes_stop}
-pub use Rattle.key_ranges.specs.Spans.{span_code, successor}
+pub use Rattle.cedar_tree.specs.Queries.{Entry, walk}
+pub use Rattle.cedar_tree.specs.Tree.{IsAscending, IsSound, Tree}
+pub use Rattle.key_ranges.specs.Spans.{ends_before, entries_in, follows_start, holds, HoldsBehind}
+pub use Rattle.key_ranges.specs.Spans.{HoldsPrefixed, KeySpan, precedes_stop, span_code, successor}
 pub use Rattle.std.specs.Cmp.Lexicographic.{slice_cmp}
 pub use Rattle.std.specs.List.{starts_with}
-pub use Rattle.std.specs.Ordering.{is_ge, is_gt, nat_cmp}
+pub use Rattle.std.specs.Ordering.{is_ge, nat_cmp}
 pub use Rattle.std.specs.Range.Bound.{bound_map}

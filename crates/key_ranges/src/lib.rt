@@ -3,7 +3,9 @@
 #![tactic(auto)]
 
 mod ends;
+mod laws;
 mod prefix;
 mod range;
 
+pub use laws::{pages_join, prefix_ranges_have_their_entries, ranges_have_what_they_hold};
 pub use range::KeyRange;

@@ -1,8 +1,8 @@
 //! Ranges of byte strings.
 
-ghost use Rattle.std.specs.Prelude.{◌≡◌, ◌&&◌, IfOk, List, nat_eq, OnErr, OnOk, option_map, ℕ};
-ghost use Rattle.key_ranges.specs.Words.{bound_map, follows_start, holds, is_gt, IsPath, KeySpan};
-ghost use Rattle.key_ranges.specs.Words.{nat_cmp, precedes_stop, slice_cmp, span_code, starts_with};
+ghost use Rattle.std.specs.Prelude.{◌&&◌, ◌≡◌, IfOk, List, OnErr, OnOk, option_map, ℕ};
+ghost use Rattle.key_ranges.specs.Words.{bound_map, follows_start, holds, HoldsBehind};
+ghost use Rattle.key_ranges.specs.Words.{HoldsPrefixed, KeySpan, precedes_stop, span_code};
 
 use crate::ends::{behind, end_of, start_of};
 use crate::prefix::behind_prefix;
@@ -58,7 +58,7 @@ impl<A: Allocator + Copy> KeyRange<A> {
     /// An allocation was refused.
     pub fn with_prefix(alloc: A, prefix: &[u8]) -> Result<Self, AllocError>
         //= The range of a prefix holds the paths that begin with it.
-        ensures { IfOk result (λ range. (w : List ℕ) → IsPath w → holds range w ≡ starts_with nat_eq w prefix.now) }
+        ensures { IfOk result (λ range. HoldsPrefixed range prefix.now) }
     {
         let from = Vec::from_slice(alloc, prefix)?;
         let to = behind_prefix(alloc, prefix)?;
@@ -77,7 +77,7 @@ impl<A: Allocator + Copy> KeyRange<A> {
     /// An allocation was refused. Then the range is what it was.
     pub fn go_on_after(&mut self, key: &[u8]) -> Result<(), AllocError>
         //= A range that goes on after a byte string holds what it held that comes behind it.
-        ensures behind { OnOk result ((w : List ℕ) → holds self.new w ≡ (holds self.old w && is_gt (slice_cmp nat_cmp w key.now))) }
+        ensures behind { OnOk result (HoldsBehind self.old self.new key.now) }
 
         //= If an allocation is refused, it is what it was.
         ensures refused { OnErr result (self.new ≡ self.old) }
