@@ -88,7 +88,9 @@ impl<A: Allocator + Copy> KeyRange<A> {
         self.from = behind(*self.from.allocator(), key)?;
         Ok(())
     }
+}
 
+impl<A: Allocator> KeyRange<A> {
     /// The byte string that it begins at.
     #[must_use]
     pub fn from(&self) -> &[u8]
