@@ -1,5 +1,7 @@
 pub mod BandLaws
 pub mod Bands
+pub mod CaseLaws
+pub mod Cases
 pub mod Cells
 pub mod DistanceLaws
 pub mod Distances
@@ -7,6 +9,8 @@ pub mod FrontLaws
 pub mod Fronts
 pub mod PairLaws
 pub mod Pairs
+pub mod PatternLaws
+pub mod Patterns
 pub mod PrefixLaws
 pub mod Prefixes
 pub mod Words

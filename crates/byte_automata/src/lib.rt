@@ -9,13 +9,17 @@
 #![tactic(auto)]
 
 mod automaton;
+mod case;
 mod distance;
 mod front;
 mod pairs;
+mod pattern;
 mod prefix;
 
 pub use automaton::Automaton;
+pub use case::AnyCase;
 pub use distance::{Band, Within};
 pub use front::Beginning;
 pub use pairs::{Both, Either};
+pub use pattern::{MOST_PATTERN_BYTES, Pattern, PatternError};
 pub use prefix::Prefix;
