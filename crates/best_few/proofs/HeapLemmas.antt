@@ -11,7 +11,7 @@ use Rattle.std.proofs.lemmas.List.{take-append-le, take_all}
 use Rattle.std.proofs.lemmas.List.Sorted.{IsPermutation-map, length_permutation}
 use Rattle.std.proofs.lemmas.List.Sums.{sum_by_push}
 use Rattle.cedar_tree.specs.Queries.{Entry}
-use Rattle.best_few.specs.Orders.{entry_cmp, FollowsAll, found_entry, in_order, IsFirst, IsInOrder, IsLast, kept_cmp, KeepsBest, KeepsOneMore, PrecedesLast, put_in_order}
+use Rattle.best_few.specs.Orders.{entry_cmp, FollowsAll, found_entry, sort_by_value, IsFirst, IsInOrder, IsLast, kept_cmp, KeepsBest, KeepsOneMore, PrecedesLast, put_by_value}
 use Rattle.best_few.specs.declared.order.ByValue.{ByValue}
 use Rattle.best_few.specs.declared.order.ByValue.TheVariants.{LowestFirst}
 use Rattle.std.proofs.lemmas.Cmp.{upto}
@@ -19,18 +19,18 @@ use Rattle.best_few.proofs.OrderLemmas.{before_not_behind, first_behind, gt_is_l
 
 -- ---- lengths
 
-length_put : (order : ByValue) (e : Entry) (xs : List Entry) → length (put_in_order order e xs) ≡ length xs + 1
+length_put : (order : ByValue) (e : Entry) (xs : List Entry) → length (put_by_value order e xs) ≡ length xs + 1
 length_put order e [] = omega arith
 length_put order e (x ∷ xs) =
-    elim (is_lt (entry_cmp order x e)) as (λ t. length (if t then x ∷ put_in_order order e xs else e ∷ x ∷ xs) ≡ length (x ∷ xs) + 1) [
+    elim (is_lt (entry_cmp order x e)) as (λ t. length (if t then x ∷ put_by_value order e xs else e ∷ x ∷ xs) ≡ length (x ∷ xs) + 1) [
       | true ↦ let more = length_put order e xs in omega (arith, more)
       | false ↦ omega arith
     ]
 
-pub length_in_order : (order : ByValue) (es : List Entry) → length (in_order order es) ≡ length es
+pub length_in_order : (order : ByValue) (es : List Entry) → length (sort_by_value order es) ≡ length es
 length_in_order order [] = refl
 length_in_order order (e ∷ es) =
-    let one = length_put order e (in_order order es) in
+    let one = length_put order e (sort_by_value order es) in
     let more = length_in_order order es in
     omega (arith, one, more)
 
@@ -40,17 +40,17 @@ length_found (x ∷ xs) = let more = length_found xs in omega (arith, more)
 
 -- ---- what is last
 
-put_last : (order : ByValue) (t e : Entry) (xs : List Entry) → is_gt (entry_cmp order e t) ≡ false → IsLast order t xs → IsLast order t (put_in_order order e xs)
+put_last : (order : ByValue) (t e : Entry) (xs : List Entry) → is_gt (entry_cmp order e t) ≡ false → IsLast order t xs → IsLast order t (put_by_value order e xs)
 put_last order t e [] h all = (h, tt)
 put_last order t e (x ∷ xs) h all =
-    elim (is_lt (entry_cmp order x e)) as (λ b. IsLast order t (if b then x ∷ put_in_order order e xs else e ∷ x ∷ xs)) [
+    elim (is_lt (entry_cmp order x e)) as (λ b. IsLast order t (if b then x ∷ put_by_value order e xs else e ∷ x ∷ xs)) [
       | true ↦ (all.0, put_last order t e xs h all.1)
       | false ↦ (h, all)
     ]
 
-last_in_order : (order : ByValue) (t : Entry) (es : List Entry) → IsLast order t es → IsLast order t (in_order order es)
+last_in_order : (order : ByValue) (t : Entry) (es : List Entry) → IsLast order t es → IsLast order t (sort_by_value order es)
 last_in_order order t [] all = tt
-last_in_order order t (e ∷ es) all = put_last order t e (in_order order es) all.0 (last_in_order order t es all.1)
+last_in_order order t (e ∷ es) all = put_last order t e (sort_by_value order es) all.0 (last_in_order order t es all.1)
 
 first_and_last : (order : ByValue) (x t : Entry) (xs : List Entry) → IsFirst order x xs → is_gt (entry_cmp order x t) ≡ false → IsFirst order x (xs ++ t ∷ [])
 first_and_last order x t [] all h = (h, tt)
@@ -61,22 +61,22 @@ and_last order t [] up all = (tt, tt)
 and_last order t (x ∷ xs) up all = (first_and_last order x t xs up.0 all.0, and_last order t xs up.1 all.1)
 
 -- what no entry comes behind is put at the end
-put_at_end : (order : ByValue) (t : Entry) (xs : List Entry) → IsInOrder order xs → IsLast order t xs → put_in_order order t xs ≡ xs ++ t ∷ []
-put_at_end order t xs up all = one_order order (put_in_order order t xs) (xs ++ t ∷ []) (put_keeps order t xs up) (and_last order t xs up all) (λ f.
+put_at_end : (order : ByValue) (t : Entry) (xs : List Entry) → IsInOrder order xs → IsLast order t xs → put_by_value order t xs ≡ xs ++ t ∷ []
+put_at_end order t xs up all = one_order order (put_by_value order t xs) (xs ++ t ∷ []) (put_keeps order t xs up) (and_last order t xs up all) (λ f.
     let one = sum_put order f t xs in
     let two = sum_by_push f xs t in
     omega (arith, one, two))
 
 -- and it stays there
 put_before_end : (order : ByValue) (e t : Entry) (xs : List Entry) → IsInOrder order xs → IsLast order t xs → is_gt (entry_cmp order e t) ≡ false
-    → put_in_order order e (xs ++ t ∷ []) ≡ put_in_order order e xs ++ t ∷ []
+    → put_by_value order e (xs ++ t ∷ []) ≡ put_by_value order e xs ++ t ∷ []
 put_before_end order e t xs up all h =
-    one_order order (put_in_order order e (xs ++ t ∷ [])) (put_in_order order e xs ++ t ∷ [])
+    one_order order (put_by_value order e (xs ++ t ∷ [])) (put_by_value order e xs ++ t ∷ [])
     (put_keeps order e (xs ++ t ∷ []) (and_last order t xs up all))
-    (and_last order t (put_in_order order e xs) (put_keeps order e xs up) (put_last order t e xs h all)) (λ f.
+    (and_last order t (put_by_value order e xs) (put_keeps order e xs up) (put_last order t e xs h all)) (λ f.
     let one = sum_put order f e (xs ++ t ∷ []) in
     let two = sum_by_push f xs t in
-    let three = sum_by_push f (put_in_order order e xs) t in
+    let three = sum_by_push f (put_by_value order e xs) t in
     let four = sum_put order f e xs in
     omega (arith, one, two, three, four))
 
@@ -87,7 +87,7 @@ one_more item old new p = sym (permuted LowestFirst (map found_entry (item ∷ o
 
 pub one_more_is_best : {A : Type 0} (most : ℕ) (old : List (ℤ × Vec ℕ A)) (e : Entry) (new : List (ℤ × Vec ℕ A)) → length old < most → KeepsOneMore old e new → KeepsBest most old e new
 one_more_is_best most old e new low is =
-    let all = in_order LowestFirst (e ∷ map found_entry old) in
+    let all = sort_by_value LowestFirst (e ∷ map found_entry old) in
     let len = length_in_order LowestFirst (e ∷ map found_entry old) in
     let few = length_found old in
     is ∙ sym (take_all most all (omega (arith, low, len, few)))
@@ -108,7 +108,7 @@ follows_all top kept e all h = last_behind LowestFirst (found_entry top) e (map 
 -- so it isn't among the best
 pub rest_is_best : {A : Type 0} (most : ℕ) (kept : List (ℤ × Vec ℕ A)) (e : Entry) → length kept ≡ most → FollowsAll e kept → KeepsBest most kept e kept
 rest_is_best most kept e full all =
-    let old = in_order LowestFirst (map found_entry kept) in
+    let old = sort_by_value LowestFirst (map found_entry kept) in
     let end = put_at_end LowestFirst e old (ordered LowestFirst (map found_entry kept)) (last_in_order LowestFirst e (map found_entry kept) all) in
     let len = length_in_order LowestFirst (map found_entry kept) in
     let few = length_found kept in
@@ -121,18 +121,18 @@ replaced old rest new top item parted all before p =
     let t = found_entry top in
     let e = found_entry item in
     let few = map found_entry rest in
-    let low = in_order LowestFirst few in
+    let low = sort_by_value LowestFirst few in
     let up = ordered LowestFirst few in
     let last = last_in_order LowestFirst t few (top_is_last top rest all) in
     let h = before_not_behind LowestFirst e t before in
     let was = permuted LowestFirst (map found_entry old) (t ∷ few) (IsPermutation-map found_entry old (top ∷ rest) parted) ∙ put_at_end LowestFirst t low up last in
-    let put = put_in_order LowestFirst e low in
+    let put = put_by_value LowestFirst e low in
     let len = length_put LowestFirst e low in
     let less = length_in_order LowestFirst few in
     let same = length_found rest in
     let all_of_them = length_permutation old (top ∷ rest) parted in
     one_more item rest new p
-    ∙ sym (ap (λ zs. take (length old) (put_in_order LowestFirst e zs)) was
+    ∙ sym (ap (λ zs. take (length old) (put_by_value LowestFirst e zs)) was
     ∙ ap (take (length old)) (put_before_end LowestFirst e t low up last h)
     ∙ take-append-le (length old) put (t ∷ []) (omega (arith, len, less, same, all_of_them))
     ∙ take_all (length old) put (omega (arith, len, less, same, all_of_them)))
@@ -150,7 +150,7 @@ sorted_is (x ∷ y ∷ ys) up =
     subst (λ n. is_lt (kept_cmp (get_or (x ∷ y ∷ ys) n d) (get_or (y ∷ ys) k d)) ≡ false) at (up (suc k) d (omega arith) (omega (arith, high)))) in
     ((behind, first_behind LowestFirst (found_entry x) (found_entry y) (map found_entry ys) behind later.0), later)
 
-pub comes_out : {A : Type 0} (kept found : List (ℤ × Vec ℕ A)) → IsPermutation kept found → IsSortedBy (lt_by_cmp kept_cmp) found → map found_entry found ≡ in_order LowestFirst (map found_entry kept)
+pub comes_out : {A : Type 0} (kept found : List (ℤ × Vec ℕ A)) → IsPermutation kept found → IsSortedBy (lt_by_cmp kept_cmp) found → map found_entry found ≡ sort_by_value LowestFirst (map found_entry kept)
 comes_out kept found p up =
     sym (permuted LowestFirst (map found_entry kept) (map found_entry found) (IsPermutation-map found_entry kept found p)
     ∙ settled LowestFirst (map found_entry found) (sorted_is found up))

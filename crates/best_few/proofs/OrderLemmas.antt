@@ -13,7 +13,7 @@ use Rattle.std.proofs.lemmas.Cmp.{back_total, int_cmp_total, int_ranked, nat_lis
 use Rattle.std.proofs.lemmas.List.Sorted.{IsPermutation-cons, IsPermutation-middle, IsPermutation-refl, IsPermutation-sym, IsPermutation-trans, sum_by-IsPermutation}
 use Rattle.std.proofs.lemmas.List.Sums.{sum_by-cons}
 use Rattle.cedar_tree.specs.Queries.{Entry}
-use Rattle.best_few.specs.Orders.{best, entry_cmp, in_order, IsFirst, IsInOrder, put_in_order}
+use Rattle.best_few.specs.Orders.{best, entry_cmp, sort_by_value, IsFirst, IsInOrder, put_by_value}
 use Rattle.best_few.specs.declared.order.ByValue.{ByValue}
 use Rattle.best_few.specs.declared.order.ByValue.TheVariants.{HighestFirst, LowestFirst}
 
@@ -81,44 +81,44 @@ pub first_behind : (order : ByValue) (a b : Entry) (xs : List Entry) → is_gt (
 first_behind order a b [] h all = tt
 first_behind order a b (x ∷ xs) h all = (upto (total order) a b x h all.0, first_behind order a b xs h all.1)
 
-put_first : (order : ByValue) (a e : Entry) (xs : List Entry) → is_gt (entry_cmp order a e) ≡ false → IsFirst order a xs → IsFirst order a (put_in_order order e xs)
+put_first : (order : ByValue) (a e : Entry) (xs : List Entry) → is_gt (entry_cmp order a e) ≡ false → IsFirst order a xs → IsFirst order a (put_by_value order e xs)
 put_first order a e [] h all = (h, tt)
 put_first order a e (x ∷ xs) h all =
-    elim (is_lt (entry_cmp order x e)) as (λ t. IsFirst order a (if t then x ∷ put_in_order order e xs else e ∷ x ∷ xs)) [
+    elim (is_lt (entry_cmp order x e)) as (λ t. IsFirst order a (if t then x ∷ put_by_value order e xs else e ∷ x ∷ xs)) [
       | true ↦ (all.0, put_first order a e xs h all.1)
       | false ↦ (h, all)
     ]
 
-pub put_keeps : (order : ByValue) (e : Entry) (xs : List Entry) → IsInOrder order xs → IsInOrder order (put_in_order order e xs)
+pub put_keeps : (order : ByValue) (e : Entry) (xs : List Entry) → IsInOrder order xs → IsInOrder order (put_by_value order e xs)
 put_keeps order e [] up = (tt, tt)
 put_keeps order e (x ∷ xs) up =
-    (elim (is_lt (entry_cmp order x e)) as (λ t. is_lt (entry_cmp order x e) ≡ t → IsInOrder order (if t then x ∷ put_in_order order e xs else e ∷ x ∷ xs)) [
+    (elim (is_lt (entry_cmp order x e)) as (λ t. is_lt (entry_cmp order x e) ≡ t → IsInOrder order (if t then x ∷ put_by_value order e xs else e ∷ x ∷ xs)) [
       | true ↦ λ is. (put_first order x e xs (before_not_behind order x e is) up.0, put_keeps order e xs up.1)
       | false ↦ λ is. let h = gt_is_lt order e x ∙ is in ((h, first_behind order e x xs h up.0), up)
     ]) refl
 
-pub ordered : (order : ByValue) (es : List Entry) → IsInOrder order (in_order order es)
+pub ordered : (order : ByValue) (es : List Entry) → IsInOrder order (sort_by_value order es)
 ordered order [] = tt
-ordered order (e ∷ es) = put_keeps order e (in_order order es) (ordered order es)
+ordered order (e ∷ es) = put_keeps order e (sort_by_value order es) (ordered order es)
 
 -- ---- there is one order of some entries
 
-pub sum_put : (order : ByValue) (f : Entry → ℕ) (e : Entry) (xs : List Entry) → sum_by f (put_in_order order e xs) ≡ f e + sum_by f xs
+pub sum_put : (order : ByValue) (f : Entry → ℕ) (e : Entry) (xs : List Entry) → sum_by f (put_by_value order e xs) ≡ f e + sum_by f xs
 sum_put order f e [] = sum_by-cons f e []
 sum_put order f e (x ∷ xs) =
-    elim (is_lt (entry_cmp order x e)) as (λ t. sum_by f (if t then x ∷ put_in_order order e xs else e ∷ x ∷ xs) ≡ f e + sum_by f (x ∷ xs)) [
+    elim (is_lt (entry_cmp order x e)) as (λ t. sum_by f (if t then x ∷ put_by_value order e xs else e ∷ x ∷ xs) ≡ f e + sum_by f (x ∷ xs)) [
       | true ↦
-          let one = sum_by-cons f x (put_in_order order e xs) in
+          let one = sum_by-cons f x (put_by_value order e xs) in
           let two = sum_put order f e xs in
           let three = sum_by-cons f x xs in
           omega (arith, one, two, three)
       | false ↦ sum_by-cons f e (x ∷ xs)
     ]
 
-pub sum_in_order : (order : ByValue) (f : Entry → ℕ) (es : List Entry) → sum_by f (in_order order es) ≡ sum_by f es
+pub sum_in_order : (order : ByValue) (f : Entry → ℕ) (es : List Entry) → sum_by f (sort_by_value order es) ≡ sum_by f es
 sum_in_order order f [] = refl
 sum_in_order order f (e ∷ es) =
-    let one = sum_put order f e (in_order order es) in
+    let one = sum_put order f e (sort_by_value order es) in
     let two = sum_in_order order f es in
     let three = sum_by-cons f e es in
     omega (arith, one, two, three)
@@ -173,11 +173,11 @@ one_order order (x ∷ xs) (y ∷ ys) up down is =
     omega (arith, all, one, two, here)) in
     λ i. heads i ∷ tails i
 
-pub permuted : (order : ByValue) (xs ys : List Entry) → IsPermutation xs ys → in_order order xs ≡ in_order order ys
-permuted order xs ys p = one_order order (in_order order xs) (in_order order ys) (ordered order xs) (ordered order ys) (λ f. sum_in_order order f xs ∙ sym (sum_by-IsPermutation f xs ys p) ∙ sym (sum_in_order order f ys))
+pub permuted : (order : ByValue) (xs ys : List Entry) → IsPermutation xs ys → sort_by_value order xs ≡ sort_by_value order ys
+permuted order xs ys p = one_order order (sort_by_value order xs) (sort_by_value order ys) (ordered order xs) (ordered order ys) (λ f. sum_in_order order f xs ∙ sym (sum_by-IsPermutation f xs ys p) ∙ sym (sum_in_order order f ys))
 
-pub settled : (order : ByValue) (xs : List Entry) → IsInOrder order xs → in_order order xs ≡ xs
-settled order xs up = one_order order (in_order order xs) xs (ordered order xs) up (λ f. sum_in_order order f xs)
+pub settled : (order : ByValue) (xs : List Entry) → IsInOrder order xs → sort_by_value order xs ≡ xs
+settled order xs up = one_order order (sort_by_value order xs) xs (ordered order xs) up (λ f. sum_in_order order f xs)
 
 -- ---- the first few
 
@@ -197,11 +197,11 @@ take_twice (suc k) x [] = refl
 take_twice (suc zero) x (y ∷ xs) = refl
 take_twice (suc (suc k)) x (y ∷ xs) = ap (λ zs. x ∷ zs) (take_twice (suc k) y xs)
 
-take_put : (order : ByValue) (e : Entry) (k : ℕ) (xs : List Entry) → take k (put_in_order order e (take k xs)) ≡ take k (put_in_order order e xs)
+take_put : (order : ByValue) (e : Entry) (k : ℕ) (xs : List Entry) → take k (put_by_value order e (take k xs)) ≡ take k (put_by_value order e xs)
 take_put order e zero xs = refl
 take_put order e (suc k) [] = refl
 take_put order e (suc k) (x ∷ xs) =
-    elim (is_lt (entry_cmp order x e)) as (λ t. take (suc k) (if t then x ∷ put_in_order order e (take k xs) else e ∷ x ∷ take k xs) ≡ take (suc k) (if t then x ∷ put_in_order order e xs else e ∷ x ∷ xs)) [
+    elim (is_lt (entry_cmp order x e)) as (λ t. take (suc k) (if t then x ∷ put_by_value order e (take k xs) else e ∷ x ∷ take k xs) ≡ take (suc k) (if t then x ∷ put_by_value order e xs else e ∷ x ∷ xs)) [
       | true ↦ ap (λ zs. x ∷ zs) (take_put order e k xs)
       | false ↦ ap (λ zs. e ∷ zs) (take_twice k x xs)
     ]
@@ -215,44 +215,44 @@ take_again (suc k) (x ∷ xs) = ap (λ zs. x ∷ zs) (take_again k xs)
 few_suffice : (order : ByValue) (k : ℕ) (ys xs : List Entry) → best order k (ys ++ best order k xs) ≡ best order k (ys ++ xs)
 few_suffice order k [] xs =
     let few = best order k xs in
-    ap (take k) (settled order few (take_keeps order k (in_order order xs) (ordered order xs)))
-    ∙ take_again k (in_order order xs)
+    ap (take k) (settled order few (take_keeps order k (sort_by_value order xs) (ordered order xs)))
+    ∙ take_again k (sort_by_value order xs)
 few_suffice order k (y ∷ ys) xs =
     let few = best order k xs in
-    sym (take_put order y k (in_order order (ys ++ few)))
-    ∙ ap (λ zs. take k (put_in_order order y zs)) (few_suffice order k ys xs)
-    ∙ take_put order y k (in_order order (ys ++ xs))
+    sym (take_put order y k (sort_by_value order (ys ++ few)))
+    ∙ ap (λ zs. take k (put_by_value order y zs)) (few_suffice order k ys xs)
+    ∙ take_put order y k (sort_by_value order (ys ++ xs))
 
 -- and what is behind others matters by its order alone
-same_behind : (order : ByValue) (ys xs zs : List Entry) → in_order order xs ≡ in_order order zs → in_order order (ys ++ xs) ≡ in_order order (ys ++ zs)
+same_behind : (order : ByValue) (ys xs zs : List Entry) → sort_by_value order xs ≡ sort_by_value order zs → sort_by_value order (ys ++ xs) ≡ sort_by_value order (ys ++ zs)
 same_behind order [] xs zs is = is
-same_behind order (y ∷ ys) xs zs is = ap (put_in_order order y) (same_behind order ys xs zs is)
+same_behind order (y ∷ ys) xs zs is = ap (put_by_value order y) (same_behind order ys xs zs is)
 
 -- what is kept of some entries goes on to be all that counts of them
-pub goes_on : (order : ByValue) (k : ℕ) (ys : List Entry) (e : Entry) (old new : List Entry) → in_order order new ≡ best order k (e ∷ old) → best order k (ys ++ new) ≡ best order k (e ∷ (ys ++ old))
+pub goes_on : (order : ByValue) (k : ℕ) (ys : List Entry) (e : Entry) (old new : List Entry) → sort_by_value order new ≡ best order k (e ∷ old) → best order k (ys ++ new) ≡ best order k (e ∷ (ys ++ old))
 goes_on order k ys e old new is =
     let few = best order k (e ∷ old) in
-    let up : IsInOrder order few = take_keeps order k (in_order order (e ∷ old)) (ordered order (e ∷ old)) in
+    let up : IsInOrder order few = take_keeps order k (sort_by_value order (e ∷ old)) (ordered order (e ∷ old)) in
     ap (take k) (same_behind order ys new few (is ∙ sym (settled order few up)))
     ∙ few_suffice order k ys (e ∷ old)
     ∙ ap (take k) (permuted order (ys ++ e ∷ old) (e ∷ (ys ++ old)) (IsPermutation-middle ys e old))
 
 -- ---- entries in order are the same entries
 
-put_permutes : (order : ByValue) (e : Entry) (xs : List Entry) → IsPermutation (e ∷ xs) (put_in_order order e xs)
+put_permutes : (order : ByValue) (e : Entry) (xs : List Entry) → IsPermutation (e ∷ xs) (put_by_value order e xs)
 put_permutes order e [] = IsPermutation-refl (e ∷ [])
 put_permutes order e (x ∷ xs) =
-    elim (is_lt (entry_cmp order x e)) as (λ t. IsPermutation (e ∷ x ∷ xs) (if t then x ∷ put_in_order order e xs else e ∷ x ∷ xs)) [
+    elim (is_lt (entry_cmp order x e)) as (λ t. IsPermutation (e ∷ x ∷ xs) (if t then x ∷ put_by_value order e xs else e ∷ x ∷ xs)) [
       | true ↦
-          IsPermutation-trans (e ∷ x ∷ xs) (x ∷ e ∷ xs) (x ∷ put_in_order order e xs)
+          IsPermutation-trans (e ∷ x ∷ xs) (x ∷ e ∷ xs) (x ∷ put_by_value order e xs)
           (IsPermutation-sym (x ∷ e ∷ xs) (e ∷ x ∷ xs) (IsPermutation-middle (x ∷ []) e xs))
-          (IsPermutation-cons x (e ∷ xs) (put_in_order order e xs) (put_permutes order e xs))
+          (IsPermutation-cons x (e ∷ xs) (put_by_value order e xs) (put_permutes order e xs))
       | false ↦ IsPermutation-refl (e ∷ x ∷ xs)
     ]
 
-pub order_permutes : (order : ByValue) (es : List Entry) → IsPermutation es (in_order order es)
+pub order_permutes : (order : ByValue) (es : List Entry) → IsPermutation es (sort_by_value order es)
 order_permutes order [] = IsPermutation-refl []
 order_permutes order (e ∷ es) =
-    IsPermutation-trans (e ∷ es) (e ∷ in_order order es) (put_in_order order e (in_order order es))
-    (IsPermutation-cons e es (in_order order es) (order_permutes order es))
-    (put_permutes order e (in_order order es))
+    IsPermutation-trans (e ∷ es) (e ∷ sort_by_value order es) (put_by_value order e (sort_by_value order es))
+    (IsPermutation-cons e es (sort_by_value order es) (order_permutes order es))
+    (put_permutes order e (sort_by_value order es))

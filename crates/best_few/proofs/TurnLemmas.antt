@@ -6,16 +6,16 @@ use Rattle.std.specs.declared.vec.Vec.{Vec}
 use Rattle.std.specs.Cmp.Lexicographic.{slice_cmp}
 use Rattle.std.specs.Ordering.{nat_cmp}
 use Rattle.cedar_tree.specs.Queries.{Entry}
-use Rattle.best_few.specs.Orders.{best, entry_cmp, found_entry, in_order, put_in_order, turned, turned_entry, value_cmp}
+use Rattle.best_few.specs.Orders.{best, entry_cmp, found_entry, sort_by_value, put_by_value, turn_of, turned_entry, value_cmp}
 use Rattle.best_few.specs.declared.order.ByValue.{ByValue}
 use Rattle.best_few.specs.declared.order.ByValue.TheVariants.{HighestFirst, LowestFirst}
 
-pub turned_twice : (order : ByValue) (v : ℤ) → turned order (turned order v) ≡ v
+pub turned_twice : (order : ByValue) (v : ℤ) → turn_of order (turn_of order v) ≡ v
 turned_twice HighestFirst (pos n) = refl
 turned_twice HighestFirst (negsuc n) = refl
 turned_twice LowestFirst v = refl
 
-turned_cmp : (order : ByValue) (v w : ℤ) → int_cmp (turned order v) (turned order w) ≡ value_cmp order v w
+turned_cmp : (order : ByValue) (v w : ℤ) → int_cmp (turn_of order v) (turn_of order w) ≡ value_cmp order v w
 turned_cmp HighestFirst (pos n) (pos m) = refl
 turned_cmp HighestFirst (pos n) (negsuc m) = refl
 turned_cmp HighestFirst (negsuc n) (pos m) = refl
@@ -25,20 +25,20 @@ turned_cmp LowestFirst v w = refl
 entry_turned : (order : ByValue) (a b : Entry) → entry_cmp LowestFirst (turned_entry order a) (turned_entry order b) ≡ entry_cmp order a b
 entry_turned order a b = ap (λ o. ordering_then o (slice_cmp nat_cmp a.0 b.0)) (turned_cmp order a.1 b.1)
 
-put_turned : (order : ByValue) (e : Entry) (xs : List Entry) → put_in_order LowestFirst (turned_entry order e) (map (turned_entry order) xs) ≡ map (turned_entry order) (put_in_order order e xs)
+put_turned : (order : ByValue) (e : Entry) (xs : List Entry) → put_by_value LowestFirst (turned_entry order e) (map (turned_entry order) xs) ≡ map (turned_entry order) (put_by_value order e xs)
 put_turned order e [] = refl
 put_turned order e (x ∷ xs) =
     let later = put_turned order e xs in
-    ap (λ o. if is_lt o then turned_entry order x ∷ put_in_order LowestFirst (turned_entry order e) (map (turned_entry order) xs) else turned_entry order e ∷ turned_entry order x ∷ map (turned_entry order) xs) (entry_turned order x e)
-    ∙ (elim (is_lt (entry_cmp order x e)) as (λ t. (if t then turned_entry order x ∷ put_in_order LowestFirst (turned_entry order e) (map (turned_entry order) xs) else turned_entry order e ∷ turned_entry order x ∷ map (turned_entry order) xs)
-    ≡ map (turned_entry order) (if t then x ∷ put_in_order order e xs else e ∷ x ∷ xs)) [
+    ap (λ o. if is_lt o then turned_entry order x ∷ put_by_value LowestFirst (turned_entry order e) (map (turned_entry order) xs) else turned_entry order e ∷ turned_entry order x ∷ map (turned_entry order) xs) (entry_turned order x e)
+    ∙ (elim (is_lt (entry_cmp order x e)) as (λ t. (if t then turned_entry order x ∷ put_by_value LowestFirst (turned_entry order e) (map (turned_entry order) xs) else turned_entry order e ∷ turned_entry order x ∷ map (turned_entry order) xs)
+    ≡ map (turned_entry order) (if t then x ∷ put_by_value order e xs else e ∷ x ∷ xs)) [
       | true ↦ ap (λ zs. turned_entry order x ∷ zs) later
       | false ↦ refl
     ])
 
-pub order_turned : (order : ByValue) (es : List Entry) → in_order LowestFirst (map (turned_entry order) es) ≡ map (turned_entry order) (in_order order es)
+pub order_turned : (order : ByValue) (es : List Entry) → sort_by_value LowestFirst (map (turned_entry order) es) ≡ map (turned_entry order) (sort_by_value order es)
 order_turned order [] = refl
-order_turned order (e ∷ es) = ap (put_in_order LowestFirst (turned_entry order e)) (order_turned order es) ∙ put_turned order e (in_order order es)
+order_turned order (e ∷ es) = ap (put_by_value LowestFirst (turned_entry order e)) (order_turned order es) ∙ put_turned order e (sort_by_value order es)
 
 take_turned : (order : ByValue) (k : ℕ) (xs : List Entry) → take k (map (turned_entry order) xs) ≡ map (turned_entry order) (take k xs)
 take_turned order zero xs = refl
@@ -56,7 +56,7 @@ turned_back order (x ∷ xs) =
 pub best_turned : (order : ByValue) (k : ℕ) (es : List Entry) → map (turned_entry order) (best LowestFirst k (map (turned_entry order) es)) ≡ best order k es
 best_turned order k es =
     ap (λ zs. map (turned_entry order) (take k zs)) (order_turned order es)
-    ∙ ap (map (turned_entry order)) (take_turned order k (in_order order es))
+    ∙ ap (map (turned_entry order)) (take_turned order k (sort_by_value order es))
     ∙ turned_back order (best order k es)
 
 -- ---- turned back one after another

@@ -19,18 +19,18 @@ abbrev pub entry_cmp : ByValue → Entry → Entry → Ordering
 entry_cmp order a b = ordering_then (value_cmp order a.1 b.1) (slice_cmp nat_cmp a.0 b.0)
 
 -- an entry put into its place among others that are in order
-abbrev pub put_in_order : ByValue → Entry → List Entry → List Entry
-put_in_order order e [] = e ∷ []
-put_in_order order e (x ∷ xs) = if is_lt (entry_cmp order x e) then x ∷ put_in_order order e xs else e ∷ x ∷ xs
+abbrev pub put_by_value : ByValue → Entry → List Entry → List Entry
+put_by_value order e [] = e ∷ []
+put_by_value order e (x ∷ xs) = if is_lt (entry_cmp order x e) then x ∷ put_by_value order e xs else e ∷ x ∷ xs
 
 -- some entries in order
-abbrev pub in_order : ByValue → List Entry → List Entry
-in_order order [] = []
-in_order order (e ∷ es) = put_in_order order e (in_order order es)
+abbrev pub sort_by_value : ByValue → List Entry → List Entry
+sort_by_value order [] = []
+sort_by_value order (e ∷ es) = put_by_value order e (sort_by_value order es)
 
 -- the first of them, so many at the most
 abbrev pub best : ByValue → ℕ → List Entry → List Entry
-best order most es = take most (in_order order es)
+best order most es = take most (sort_by_value order es)
 
 -- no entry of a list comes before this one
 abbrev pub IsFirst : ByValue → Entry → List Entry → Type 0
@@ -44,13 +44,13 @@ IsInOrder order (x ∷ xs) = IsFirst order x xs × IsInOrder order xs
 -- ---- how they are found
 
 -- a number that is lower the earlier a value comes; and the value, if it is given that number
-abbrev pub turned : ByValue → ℤ → ℤ
-turned HighestFirst (pos n) = negsuc n
-turned HighestFirst (negsuc n) = pos n
-turned LowestFirst v = v
+abbrev pub turn_of : ByValue → ℤ → ℤ
+turn_of HighestFirst (pos n) = negsuc n
+turn_of HighestFirst (negsuc n) = pos n
+turn_of LowestFirst v = v
 
 abbrev pub turned_entry : ByValue → Entry → Entry
-turned_entry order e = (e.0, turned order e.1)
+turned_entry order e = (e.0, turn_of order e.1)
 
 -- a number and a key as an entry
 abbrev pub found_entry : {A : Type 0} → ℤ × Vec ℕ A → Entry
@@ -62,11 +62,11 @@ kept_cmp a b = ordering_then (int_cmp a.0 b.0) (slice_cmp nat_cmp a.1.items b.1.
 
 -- after an entry more, those that are kept are the best of those that were kept and of it
 abbrev pub KeepsBest : {A : Type 0} → ℕ → List (ℤ × Vec ℕ A) → Entry → List (ℤ × Vec ℕ A) → Type 0
-KeepsBest most old e new = in_order LowestFirst (map found_entry new) ≡ best LowestFirst most (e ∷ map found_entry old)
+KeepsBest most old e new = sort_by_value LowestFirst (map found_entry new) ≡ best LowestFirst most (e ∷ map found_entry old)
 
 -- they are those that were kept and it
 abbrev pub KeepsOneMore : {A : Type 0} → List (ℤ × Vec ℕ A) → Entry → List (ℤ × Vec ℕ A) → Type 0
-KeepsOneMore old e new = in_order LowestFirst (map found_entry new) ≡ in_order LowestFirst (e ∷ map found_entry old)
+KeepsOneMore old e new = sort_by_value LowestFirst (map found_entry new) ≡ sort_by_value LowestFirst (e ∷ map found_entry old)
 
 -- an entry comes before the last of those that are kept, which is on top
 abbrev pub PrecedesLast : {A : Type 0} → Entry → List (ℤ × Vec ℕ A) → Type 0

@@ -23,7 +23,7 @@ pub fn best_of<W: EntryWalk, A: Allocator + Copy>(
     most: usize,
     order: ByValue,
 ) -> Result<Vec<(i32, Vec<u8, A>), A>, AllocError>
-    //= The best of some entries are the first `most` of them in order: by value, and those with the same value by key. [by best, in_order]
+    //= The best of some entries are the first `most` of them in order: by value, and those with the same value by key. [by best, sort_by_value]
     ensures { IfOk result (λ found. map found_entry found.items ≡ best order most (W.left walk.old)) }
 {
     let mut kept = BinaryHeap::new(alloc);

@@ -50,7 +50,7 @@ pub fn best_with_prefix<L: Layout, const SLOTS: usize, A: Allocator + Copy, B: A
     most: usize,
     order: ByValue,
 ) -> Result<Vec<(i32, Vec<u8, B>), B>, AllocError>
-    //= The best entries with a prefix are the first `most` of those in order by value, and with the same value by key. [by best, in_order]
+    //= The best entries with a prefix are the first `most` of those in order by value, and with the same value by key. [by best, sort_by_value]
     ensures { IfOk result (λ found. map found_entry found.items ≡ best order most (entries_with trie.now.state.tree prefix.now)) }
 {
     best_entries(alloc, trie.entries_with_prefix_bytes(prefix), most, order)

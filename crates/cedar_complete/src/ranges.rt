@@ -1,6 +1,6 @@
 //! The entries in a range.
 
-ghost use Rattle.cedar_complete.specs.Words.{entries_in, GivesRange};
+ghost use Rattle.cedar_complete.specs.Words.{entries_within, GivesRange};
 
 use cedarwood::{Layout, RangeEntries, Trie};
 use key_ranges::KeyRange;
@@ -28,7 +28,7 @@ pub fn entries_in<'a, L: Layout, const SLOTS: usize, A: Allocator + Copy, B: All
     range: &'a KeyRange<B>,
 ) -> Option<RangeEntries<'a, Trie<L, SLOTS, A>, A>>
     //= The entries in a range are those of the walk whose keys it holds, in its order; None is returned exactly if labels don't ascend.
-    ensures { GivesRange trie.now.state (entries_in trie.now.state.tree range.now) result }
+    ensures { GivesRange trie.now.state (entries_within trie.now.state.tree range.now) result }
 {
     match range.to() {
         Some(to) => trie.range_bytes(range.from(), to),

@@ -12,7 +12,7 @@ use Rattle.cedar_tree.specs.Laws.{ArePathsAscending}
 use Rattle.cedar_tree.specs.Tree.{IsAscending, IsKey, IsPath, IsSound, Tree}
 use Rattle.cedar_tree.proofs.EntryLemmas.Keys.{walk_keys}
 use Rattle.cedar_tree.proofs.WalkLemmas.{walk_ascends}
-use Rattle.key_ranges.specs.Spans.{entries_in, holds, HoldsBehind, HoldsPrefixed, KeySpan}
+use Rattle.key_ranges.specs.Spans.{entries_within, holds, HoldsBehind, HoldsPrefixed, KeySpan}
 
 -- ---- tests that say the same
 
@@ -32,7 +32,7 @@ same_on_keys p q (e ∷ es) keys is =
     ap (λ b. cond b (e ∷ filter (λ x. p x.0) es) (filter (λ x. p x.0) es)) (is e.0 (key_is_path e.0 keys.0))
     ∙ ap (λ zs. cond (q e.0) (e ∷ zs) zs) (same_on_keys p q es keys.1 is)
 
-pub prefix_entries : (t : Tree) (span : KeySpan) (prefix : List ℕ) → IsSound t → HoldsPrefixed span prefix → entries_in t span ≡ filter (λ e. starts_with nat_eq e.0 prefix) (walk t)
+pub prefix_entries : (t : Tree) (span : KeySpan) (prefix : List ℕ) → IsSound t → HoldsPrefixed span prefix → entries_within t span ≡ filter (λ e. starts_with nat_eq e.0 prefix) (walk t)
 prefix_entries t span prefix sound is = same_on_keys (holds span) (λ w. starts_with nat_eq w prefix) (walk t) (walk_keys t sound) is
 
 -- ---- two tests, one after the other
@@ -100,9 +100,9 @@ behind_last (e ∷ page) last rest up =
     ap (λ b. cond b (e ∷ filter (λ x. is_gt (slice_cmp nat_cmp x.0 last.0)) (page ++ last ∷ rest)) (filter (λ x. is_gt (slice_cmp nat_cmp x.0 last.0)) (page ++ last ∷ rest))) before
     ∙ behind_last page last rest up.1
 
-pub pages_fit : (t : Tree) (old new : KeySpan) (page : List Entry) (last : Entry) (rest : List Entry) → IsAscending t.children → HoldsBehind old new last.0 → entries_in t old ≡ page ++ last ∷ rest → entries_in t new ≡ rest
+pub pages_fit : (t : Tree) (old new : KeySpan) (page : List Entry) (last : Entry) (rest : List Entry) → IsAscending t.children → HoldsBehind old new last.0 → entries_within t old ≡ page ++ last ∷ rest → entries_within t new ≡ rest
 pages_fit t old new page last rest ascends on is =
-    let up : Rises (entries_in t old) = some_rise (holds old) (walk t) (rises (walk t) (walk_ascends t ascends)) in
+    let up : Rises (entries_within t old) = some_rise (holds old) (walk t) (rises (walk t) (walk_ascends t ascends)) in
     same_tests (holds new) (λ w. holds old w && is_gt (slice_cmp nat_cmp w last.0)) (walk t) on
     ∙ filter_twice (holds old) (λ w. is_gt (slice_cmp nat_cmp w last.0)) (walk t)
     ∙ ap (filter (λ e. is_gt (slice_cmp nat_cmp e.0 last.0))) is

@@ -11,7 +11,7 @@ use Rattle.std.proofs.lemmas.Bool.Decides.{eqb_tells}
 use Rattle.std.proofs.lemmas.Cmp.{alike_right, by_ranked, nat_cmp_total, nat_list_cmp_total, ranked, tied_itself}
 use Rattle.std.proofs.lemmas.List.{take_more}
 use Rattle.cedar_tree.specs.Tree.{IsPath}
-use Rattle.key_ranges.specs.Spans.{ends_before, raised, successor}
+use Rattle.key_ranges.specs.Spans.{ends_before, raise_last, successor}
 
 -- ---- two bytes
 
@@ -83,16 +83,16 @@ before_behind w key = lt_is (slice_cmp nat_cmp w (key ++ 0 ∷ [])) ∙ ap not (
 
 pub without_highest : (prefix : List ℕ) → successor (prefix ++ 255 ∷ []) ≡ successor prefix
 without_highest [] = refl
-without_highest (x ∷ xs) = ap (raised x) (without_highest xs)
+without_highest (x ∷ xs) = ap (raise_last x) (without_highest xs)
 
-raised_alone : (y : ℕ) → y < 255 → raised y None ≡ Some ((y + 1) ∷ [])
+raised_alone : (y : ℕ) → y < 255 → raise_last y None ≡ Some ((y + 1) ∷ [])
 raised_alone y low = ap (λ b. if b then None else Some ((y + 1) ∷ [])) (differ y 255 (λ same. omega (arith, low, same)))
 
 pub raised_last : (prefix : List ℕ) (y : ℕ) → y < 255 → successor (prefix ++ y ∷ []) ≡ Some (prefix ++ (y + 1) ∷ [])
 raised_last [] y low = raised_alone y low
-raised_last (x ∷ xs) y low = ap (raised x) (raised_last xs y low)
+raised_last (x ∷ xs) y low = ap (raise_last x) (raised_last xs y low)
 
-end_same : (y : ℕ) (end : Option (List ℕ)) (w : List ℕ) → ends_before (raised y end) (y ∷ w) ≡ ends_before end w
+end_same : (y : ℕ) (end : Option (List ℕ)) (w : List ℕ) → ends_before (raise_last y end) (y ∷ w) ≡ ends_before end w
 end_same y None w =
     elim (y == 255) as (λ b. ends_before (if b then None else Some ((y + 1) ∷ [])) (y ∷ w) ≡ true) [
       | true ↦ refl
@@ -104,7 +104,7 @@ not_below_none : (w : List ℕ) → is_lt (slice_cmp nat_cmp w []) ≡ false
 not_below_none [] = refl
 not_below_none (x ∷ xs) = refl
 
-end_above : (x y : ℕ) (end : Option (List ℕ)) (w : List ℕ) → y < x → x < 256 → nat_cmp x y ≡ Greater → ends_before (raised y end) (x ∷ w) ≡ false
+end_above : (x y : ℕ) (end : Option (List ℕ)) (w : List ℕ) → y < x → x < 256 → nat_cmp x y ≡ Greater → ends_before (raise_last y end) (x ∷ w) ≡ false
 end_above x y None w high low e =
     ap (λ (to : Option (List ℕ)). ends_before to (x ∷ w)) (raised_alone y (omega (arith, high, low)))
     ∙ by_ranked (x < y + 1) (x ≡ y + 1) (y + 1 < x) (nat_cmp x (y + 1)) (ranked x (y + 1) (nat_cmp x (y + 1)) refl)
@@ -120,16 +120,16 @@ prefixed [] (y ∷ ys) path = refl
 prefixed (x ∷ xs) (y ∷ ys) path =
     by_ranked (x < y) (x ≡ y) (y < x) (nat_cmp x y) (ranked x y (nat_cmp x y) refl)
     (λ e low.
-    ap (λ o. is_ge (ordering_then o (slice_cmp nat_cmp xs ys)) && ends_before (raised y (successor ys)) (x ∷ xs)) e
+    ap (λ o. is_ge (ordering_then o (slice_cmp nat_cmp xs ys)) && ends_before (raise_last y (successor ys)) (x ∷ xs)) e
     ∙ sym (ap (λ b. b && starts_with nat_eq xs ys) (differ y x (λ same. omega (arith, low, same)))))
     (λ e same.
-    ap (λ o. is_ge (ordering_then o (slice_cmp nat_cmp xs ys)) && ends_before (raised y (successor ys)) (x ∷ xs)) e
-    ∙ ap (λ z. is_ge (slice_cmp nat_cmp xs ys) && ends_before (raised y (successor ys)) (z ∷ xs)) same
+    ap (λ o. is_ge (ordering_then o (slice_cmp nat_cmp xs ys)) && ends_before (raise_last y (successor ys)) (x ∷ xs)) e
+    ∙ ap (λ z. is_ge (slice_cmp nat_cmp xs ys) && ends_before (raise_last y (successor ys)) (z ∷ xs)) same
     ∙ ap (λ b. is_ge (slice_cmp nat_cmp xs ys) && b) (end_same y (successor ys) xs)
     ∙ prefixed xs ys path.2
     ∙ sym (ap (λ b. b && starts_with nat_eq xs ys) (alike y x (sym same))))
     (λ e high.
-    ap (λ o. is_ge (ordering_then o (slice_cmp nat_cmp xs ys)) && ends_before (raised y (successor ys)) (x ∷ xs)) e
+    ap (λ o. is_ge (ordering_then o (slice_cmp nat_cmp xs ys)) && ends_before (raise_last y (successor ys)) (x ∷ xs)) e
     ∙ end_above x y (successor ys) xs high path.1 e
     ∙ sym (ap (λ b. b && starts_with nat_eq xs ys) (differ y x (λ same. omega (arith, high, same)))))
 

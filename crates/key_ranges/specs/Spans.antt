@@ -41,8 +41,8 @@ precedes_stop (Excluded key) w = is_lt (slice_cmp nat_cmp w key)
 precedes_stop Unbounded w = true
 
 -- the entries of a tree whose keys are in a range
-abbrev pub entries_in : Tree → KeySpan → List Entry
-entries_in t span = filter (λ e. holds span e.0) (walk t)
+abbrev pub entries_within : Tree → KeySpan → List Entry
+entries_within t span = filter (λ e. holds span e.0) (walk t)
 
 -- a range holds what another one holds that comes behind a byte string
 abbrev pub HoldsBehind : KeySpan → KeySpan → List ℕ → Type 0
@@ -54,10 +54,10 @@ HoldsPrefixed span prefix = (w : List ℕ) → IsPath w → holds span w ≡ sta
 
 -- the first byte string behind all that begin with a prefix, if there is one: the prefix without the highest bytes at its end, and the
 -- byte before them raised by one
-abbrev pub raised : ℕ → Option (List ℕ) → Option (List ℕ)
-raised byte None = if byte == 255 then None else Some ((byte + 1) ∷ [])
-raised byte (Some rest) = Some (byte ∷ rest)
+abbrev pub raise_last : ℕ → Option (List ℕ) → Option (List ℕ)
+raise_last byte None = if byte == 255 then None else Some ((byte + 1) ∷ [])
+raise_last byte (Some rest) = Some (byte ∷ rest)
 
 abbrev pub successor : List ℕ → Option (List ℕ)
 successor [] = None
-successor (byte ∷ prefix) = raised byte (successor prefix)
+successor (byte ∷ prefix) = raise_last byte (successor prefix)

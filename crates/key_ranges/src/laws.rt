@@ -1,7 +1,7 @@
 //! Which entries of a tree are in a range.
 
 ghost use Rattle.std.specs.Prelude.{◌++◌, ◌∷◌, ◌≡◌, Bool, filter, List, nat_eq, ℕ};
-ghost use Rattle.key_ranges.specs.Words.{entries_in, Entry, holds, HoldsBehind, HoldsPrefixed};
+ghost use Rattle.key_ranges.specs.Words.{entries_within, Entry, holds, HoldsBehind, HoldsPrefixed};
 ghost use Rattle.key_ranges.specs.Words.{IsAscending, IsSound, KeySpan, starts_with, Tree, walk};
 
 /// A range has the entries at whose keys a test holds, if that test says what the range holds: as the clause of [`KeyRange::between`] does.
@@ -9,13 +9,13 @@ ghost use Rattle.key_ranges.specs.Words.{IsAscending, IsSound, KeySpan, starts_w
 /// [`KeyRange::between`]: crate::KeyRange::between
 pub fn ranges_have_what_they_hold()
     //= The entries of a range are those of the walk whose keys it holds, in its order.
-    ensures { (tree : Tree) (span : KeySpan) (test : List ℕ → Bool) → ((w : List ℕ) → holds span w ≡ test w) → entries_in tree span ≡ filter (λ e. test e.0) (walk tree) }
+    ensures { (tree : Tree) (span : KeySpan) (test : List ℕ → Bool) → ((w : List ℕ) → holds span w ≡ test w) → entries_within tree span ≡ filter (λ e. test e.0) (walk tree) }
 {}
 
 /// The range of a prefix has the entries whose keys begin with it.
 pub fn prefix_ranges_have_their_entries()
     //= Of a sound tree the range of a prefix has the entries of the walk whose keys begin with it, in its order.
-    ensures { (tree : Tree) (span : KeySpan) (prefix : List ℕ) → IsSound tree → HoldsPrefixed span prefix → entries_in tree span ≡ filter (λ e. starts_with nat_eq e.0 prefix) (walk tree) }
+    ensures { (tree : Tree) (span : KeySpan) (prefix : List ℕ) → IsSound tree → HoldsPrefixed span prefix → entries_within tree span ≡ filter (λ e. starts_with nat_eq e.0 prefix) (walk tree) }
 {}
 
 /// Pages join: a range that goes on after the last entry of a page has exactly the entries that were left. So pages repeat no entry and leave
@@ -24,5 +24,5 @@ pub fn pages_join()
     //= If labels ascend, and the entries of a range are those of a page, its last one and others, then the range that goes on after the
     //  last one's key has exactly these others.
     ensures { (tree : Tree) (old new : KeySpan) (page : List Entry) (last : Entry) (rest : List Entry) → IsAscending tree.children → HoldsBehind old new last.0
-        → entries_in tree old ≡ page ++ last ∷ rest → entries_in tree new ≡ rest }
+        → entries_within tree old ≡ page ++ last ∷ rest → entries_within tree new ≡ rest }
 {}

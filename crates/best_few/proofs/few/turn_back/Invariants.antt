@@ -3,7 +3,7 @@ use Rattle.best_few.specs.Orders.{found_entry}
 use Rattle.best_few.proofs.TurnLemmas.{turned_front}
 use Rattle.best_few.proofs.few.turn_back.Given as goal
 
--- those so far are turned, and the others are as they were
+-- those so far are turn_of, and the others are as they were
 abbrev pub invariant-loop-index : goal.invariant-loop-index
 invariant-loop-index g l =
     (length l.found.items ≡ length l.initial.found.items)
