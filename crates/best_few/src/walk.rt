@@ -17,10 +17,11 @@ pub trait EntryWalk {
     /// # Errors
     /// An allocation was refused.
     fn next_value(&mut self) -> Result<Option<i32>, AllocError>
-        //= A walk gives the next entry each call, and then lends its key. [with EntryWalk.held_key]
+        //= A walk to choose from gives the next entry each call, and then holds its key.
         ensures { IfOk result (λ found. MatchOption found (left self.old ≡ []) (λ value. left self.old ≡ (held self.new, value) ∷ left self.new)) };
 
     /// The key of the entry that was given last.
     fn held_key(&self) -> &[u8]
+        //= It lends the key that it holds.
         ensures { result.now ≡ held self.now };
 }

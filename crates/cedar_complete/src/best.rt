@@ -60,7 +60,6 @@ pub fn best_with_prefix<L: Layout, const SLOTS: usize, A: Allocator + Copy, B: A
 /// of those between two keys after [`Trie::range_bytes`] or [`entries_in`](crate::entries_in).
 ///
 /// ```
-/// cedar.build(&[("net", 7), ("nest", 9), ("ten", 2)])?;
 /// let entries = cedar.range_bytes(b"net", b"u").ok_or("ascending labels")?;
 /// let found = best_entries(rt.alloc(), entries, 9, ByValue::LowestFirst)?;
 /// assert_eq!(rt; (found.len(), found[0].0), (2, 2));

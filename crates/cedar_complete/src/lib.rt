@@ -1,11 +1,9 @@
 //! Completions as people type: the best few of a dictionary's entries, pages of them, and ranges with ends of any kind.
 //!
 //! ```
-//! let mut cedar = Cedar::new(rt.alloc())?;
-//! cedar.build(&[("net", 7), ("nest", 9), ("neat", 9), ("ten", 2)])?;
-//! let found = best_with_prefix(rt.alloc(), &cedar, b"ne", 2, ByValue::HighestFirst)?;
-//! let wanted = [(9, b"neat".as_slice()), (9, b"nest".as_slice())];
-//! assert!(rt; found.iter().map(|(value, key)| (*value, key.as_slice())).eq(wanted));
+//! cedar.build(&[("net", 7), ("nest", 9), ("ten", 2)])?;
+//! let found = best_with_prefix(rt.alloc(), &cedar, b"ne", 1, ByValue::HighestFirst)?;
+//! assert_eq!(rt; (found[0].0, found[0].1.as_slice()), (9, b"nest".as_slice()));
 //! ```
 #![tactic(auto)]
 

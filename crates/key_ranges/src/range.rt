@@ -33,7 +33,8 @@ impl<A: Allocator + Copy> KeyRange<A> {
     ///
     /// ```
     /// let range = KeyRange::between(rt.alloc(), Bound::Excluded(b"ne"), Bound::Unbounded)?;
-    /// assert_eq!(rt; (range.from(), range.to()), (b"ne\0".as_slice(), None));
+    /// assert_eq!(rt; range.from(), b"ne\0".as_slice());
+    /// assert_eq!(rt; range.to(), None);
     /// ```
     ///
     /// # Errors
@@ -51,7 +52,8 @@ impl<A: Allocator + Copy> KeyRange<A> {
     ///
     /// ```
     /// let range = KeyRange::with_prefix(rt.alloc(), b"ne\xff")?;
-    /// assert_eq!(rt; (range.from(), range.to()), (b"ne\xff".as_slice(), Some(b"nf".as_slice())));
+    /// assert_eq!(rt; range.from(), b"ne\xff".as_slice());
+    /// assert_eq!(rt; range.to(), Some(b"nf".as_slice()));
     /// ```
     ///
     /// # Errors
@@ -70,7 +72,7 @@ impl<A: Allocator + Copy> KeyRange<A> {
     /// ```
     /// let mut range = KeyRange::with_prefix(rt.alloc(), b"ne")?;
     /// range.go_on_after(b"net")?;
-    /// assert_eq!(rt; (range.from(), range.to()), (b"net\0".as_slice(), Some(b"nf".as_slice())));
+    /// assert_eq!(rt; range.from(), b"net\0".as_slice());
     /// ```
     ///
     /// # Errors
@@ -92,6 +94,11 @@ impl<A: Allocator + Copy> KeyRange<A> {
 
 impl<A: Allocator> KeyRange<A> {
     /// The byte string that it begins at.
+    ///
+    /// ```
+    /// let range = KeyRange::with_prefix(rt.alloc(), b"ne\xff")?;
+    /// assert_eq!(rt; range.from(), b"ne\xff".as_slice());
+    /// ```
     #[must_use]
     pub fn from(&self) -> &[u8]
         //= A range lends the byte string that it begins at, and the one that it ends before, if there is one. [also to]
@@ -101,6 +108,12 @@ impl<A: Allocator> KeyRange<A> {
     }
 
     /// The byte string that it ends before: None if it has no end.
+    ///
+    /// ```
+    /// let range = KeyRange::between(rt.alloc(), Bound::Excluded(b"ne"), Bound::Unbounded)?;
+    /// assert_eq!(rt; range.from(), b"ne\0".as_slice());
+    /// assert_eq!(rt; range.to(), None);
+    /// ```
     #[must_use]
     pub fn to(&self) -> Option<&[u8]>
         ensures { option_map (λ to. to.now) result ≡ self.now.to }
