@@ -13,7 +13,7 @@ module _ {S : Type 0} (matches : S → Bool) (after : S → ℕ → S) where
 
   -- from a state on, where `test` says what is accepted of what follows
   tells_from : (state : S) (test : List ℕ → Bool) → ((read : List ℕ) → matches (fold after state read) ≡ test read)
-    → (read : List ℕ) → is_none (fold (front_after matches after) (without_match matches state) read) ≡ has_front test read
+      → (read : List ℕ) → is_none (fold (front_after matches after) (without_match matches state) read) ≡ has_front test read
   unfolding has_front
   tells_from state test tells [] = ap_none (matches state) ∙ tells []
     where
@@ -25,7 +25,7 @@ module _ {S : Type 0} (matches : S → Bool) (after : S → ℕ → S) where
       each (matches state) ∙ (λ i. tells [] i || later i)
     where
       each : (t : Bool) → is_none (fold (front_after matches after) (cond t None (Some state)) (b ∷ read))
-        ≡ (t || is_none (fold (front_after matches after) (without_match matches (after state b)) read))
+          ≡ (t || is_none (fold (front_after matches after) (without_match matches (after state b)) read))
       each true = ap is_none (matched_stays read)
       each false = refl
 
@@ -49,7 +49,7 @@ no_front test (b ∷ read) rest h none =
 
 -- the state is that of the other automaton as long as nothing was accepted
 inside : {S : Type 0} (matches : S → Bool) (after : S → ℕ → S) (state : S) (read : List ℕ) (found : S)
-  → fold (front_after matches after) (without_match matches state) read ≡ Some found → found ≡ fold after state read
+    → fold (front_after matches after) (without_match matches state) read ≡ Some found → found ≡ fold after state read
 inside matches after state [] found is = at (matches state) is
   where
     at : (t : Bool) → cond t None (Some state) ≡ Some found → found ≡ state
@@ -58,20 +58,20 @@ inside matches after state [] found is = at (matches state) is
 inside matches after state (b ∷ read) found is = at (inside matches after (after state b) read found) (matches state) is
   where
     at : (fold (front_after matches after) (without_match matches (after state b)) read ≡ Some found → found ≡ fold after (after state b) read)
-      → (t : Bool) → fold (front_after matches after) (cond t None (Some state)) (b ∷ read) ≡ Some found → found ≡ fold after (after state b) read
+        → (t : Bool) → fold (front_after matches after) (cond t None (Some state)) (b ∷ read) ≡ Some found → found ≡ fold after (after state b) read
     at later true h = (let stays = matched_stays matches after read in cc)
     at later false h = later h
 
 pub front_prunes : {S : Type 0} (matches may_match : S → Bool) (after : S → ℕ → S) (state : S) (accepts : List ℕ → Bool)
-  → ((read : List ℕ) → matches (fold after state read) ≡ accepts read)
-  → ((read rest : List ℕ) → may_match (fold after state read) ≡ false → accepts (read ++ rest) ≡ false)
-  → (read rest : List ℕ) → front_may_match may_match (fold (front_after matches after) (without_match matches state) read) ≡ false → has_front accepts (read ++ rest) ≡ false
+    → ((read : List ℕ) → matches (fold after state read) ≡ accepts read)
+    → ((read rest : List ℕ) → may_match (fold after state read) ≡ false → accepts (read ++ rest) ≡ false)
+    → (read rest : List ℕ) → front_may_match may_match (fold (front_after matches after) (without_match matches state) read) ≡ false → has_front accepts (read ++ rest) ≡ false
 front_prunes {S = S} matches may_match after state accepts tells prunes read rest h =
     go (fold (front_after matches after) (without_match matches state) read) refl h
   where
     go : (found : Option S) → fold (front_after matches after) (without_match matches state) read ≡ found → front_may_match may_match found ≡ false → has_front accepts (read ++ rest) ≡ false
     go None is fails = cc
     go (Some now) is fails =
-      let same = inside matches after state read now is in
-      let lacks = sym (front_tells matches after state accepts tells read) ∙ ap is_none is in
-      no_front accepts read rest lacks (λ more. prunes read more (ap may_match (sym same) ∙ fails))
+        let same = inside matches after state read now is in
+        let lacks = sym (front_tells matches after state accepts tells read) ∙ ap is_none is in
+        no_front accepts read rest lacks (λ more. prunes read more (ap may_match (sym same) ∙ fails))

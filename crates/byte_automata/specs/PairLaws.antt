@@ -15,15 +15,15 @@ lacks_one false = refl
 
 module _ {S R : Type 0} (f : S → ℕ → S) (g : R → ℕ → R) (p : S → Bool) (q : R → Bool) (a c : List ℕ → Bool) (s : S) (r : R) where
   pub both_tell : ((read : List ℕ) → p (fold f s read) ≡ a read) → ((read : List ℕ) → q (fold g r read) ≡ c read)
-    → (read : List ℕ) → (p (fold (both_after f g) (s, r) read).0 && q (fold (both_after f g) (s, r) read).1) ≡ (a read && c read)
+      → (read : List ℕ) → (p (fold (both_after f g) (s, r) read).0 && q (fold (both_after f g) (s, r) read).1) ≡ (a read && c read)
   both_tell first second read = ap (λ t. p t.0 && q t.1) (both_run f g s r read) ∙ (λ i. first read i && second read i)
 
   pub either_tells : ((read : List ℕ) → p (fold f s read) ≡ a read) → ((read : List ℕ) → q (fold g r read) ≡ c read)
-    → (read : List ℕ) → (p (fold (both_after f g) (s, r) read).0 || q (fold (both_after f g) (s, r) read).1) ≡ (a read || c read)
+      → (read : List ℕ) → (p (fold (both_after f g) (s, r) read).0 || q (fold (both_after f g) (s, r) read).1) ≡ (a read || c read)
   either_tells first second read = ap (λ t. p t.0 || q t.1) (both_run f g s r read) ∙ (λ i. first read i || second read i)
 
   pub both_prune : ((read rest : List ℕ) → p (fold f s read) ≡ false → a (read ++ rest) ≡ false) → ((read rest : List ℕ) → q (fold g r read) ≡ false → c (read ++ rest) ≡ false)
-    → (read rest : List ℕ) → (p (fold (both_after f g) (s, r) read).0 && q (fold (both_after f g) (s, r) read).1) ≡ false → (a (read ++ rest) && c (read ++ rest)) ≡ false
+      → (read rest : List ℕ) → (p (fold (both_after f g) (s, r) read).0 && q (fold (both_after f g) (s, r) read).1) ≡ false → (a (read ++ rest) && c (read ++ rest)) ≡ false
   both_prune first second read rest h =
       either_fails (p (fold f s read)) (q (fold g r read)) (first read rest) (second read rest) (sym (ap (λ t. p t.0 && q t.1) (both_run f g s r read)) ∙ h)
     where
@@ -32,7 +32,7 @@ module _ {S R : Type 0} (f : S → ℕ → S) (g : R → ℕ → R) (p : S → B
       either_fails false y fx fy h = ap (λ t. t && c (read ++ rest)) (fx refl)
 
   pub either_prunes : ((read rest : List ℕ) → p (fold f s read) ≡ false → a (read ++ rest) ≡ false) → ((read rest : List ℕ) → q (fold g r read) ≡ false → c (read ++ rest) ≡ false)
-    → (read rest : List ℕ) → (p (fold (both_after f g) (s, r) read).0 || q (fold (both_after f g) (s, r) read).1) ≡ false → (a (read ++ rest) || c (read ++ rest)) ≡ false
+      → (read rest : List ℕ) → (p (fold (both_after f g) (s, r) read).0 || q (fold (both_after f g) (s, r) read).1) ≡ false → (a (read ++ rest) || c (read ++ rest)) ≡ false
   either_prunes first second read rest h =
       let parts = or_parts (p (fold f s read)) (q (fold g r read)) (sym (ap (λ t. p t.0 || q t.1) (both_run f g s r read)) ∙ h) in
       (λ i. first read rest parts.0 i || second read rest parts.1 i)

@@ -17,16 +17,16 @@ all_stays prefix (b ∷ read) n h =
     ap (λ t. fold (prefix_after prefix) (cond t (Some n) (cond (eqb (get_or prefix n 0) b) (Some (n + 1)) None)) read) h ∙ all_stays prefix read n h
 
 -- the same with one byte more, where the prefix goes on
-one_more : (prefix read : List ℕ) (n b : ℕ) → prefix_ended prefix (fold (prefix_after prefix) (Some (n + 1)) read) ≡ begins_with (drop (n + 1) prefix) read
-  → leb (length prefix) n ≡ false → prefix_ended prefix (fold (prefix_after prefix) (Some n) (b ∷ read)) ≡ begins_with (drop n prefix) (b ∷ read)
-one_more prefix read n b later more =
+tells_one_more : (prefix read : List ℕ) (n b : ℕ) → prefix_ended prefix (fold (prefix_after prefix) (Some (n + 1)) read) ≡ begins_with (drop (n + 1) prefix) read
+    → leb (length prefix) n ≡ false → prefix_ended prefix (fold (prefix_after prefix) (Some n) (b ∷ read)) ≡ begins_with (drop n prefix) (b ∷ read)
+tells_one_more prefix read n b later more =
     let head = get_or prefix n 0 in
     let split : begins_with (drop n prefix) (b ∷ read) ≡ (eqb head b && begins_with (drop (suc n) prefix) read) =
-      ap (λ w. begins_with w (b ∷ read)) (drop-cons prefix n 0 (leb-false (length prefix) n more)) in
+    ap (λ w. begins_with w (b ∷ read)) (drop-cons prefix n 0 (leb-false (length prefix) n more)) in
     let opened : prefix_ended prefix (fold (prefix_after prefix) (Some n) (b ∷ read)) ≡ prefix_ended prefix (fold (prefix_after prefix) (cond (eqb head b) (Some (n + 1)) None) read) =
-      ap (λ t. prefix_ended prefix (fold (prefix_after prefix) (cond t (Some n) (cond (eqb head b) (Some (n + 1)) None)) read)) more in
+    ap (λ t. prefix_ended prefix (fold (prefix_after prefix) (cond t (Some n) (cond (eqb head b) (Some (n + 1)) None)) read)) more in
     let each : (t : Bool) → prefix_ended prefix (fold (prefix_after prefix) (cond t (Some (n + 1)) None) read) ≡ (t && begins_with (drop (suc n) prefix) read) =
-      elim [ true ↦ later ∙ ap (λ m. begins_with (drop m prefix) read) (add-one n) | false ↦ ap (prefix_ended prefix) (none_stays prefix read) ] in
+    elim [ true ↦ later ∙ ap (λ m. begins_with (drop m prefix) read) (add-one n) | false ↦ ap (prefix_ended prefix) (none_stays prefix read) ] in
     opened ∙ each (eqb head b) ∙ sym split
 
 -- where all of the prefix was read, nothing more is asked
@@ -45,7 +45,7 @@ tells_from prefix [] n =
 tells_from prefix (b ∷ read) n =
     elim (cases_Bool (leb (length prefix) n)) [
       | inl all ↦ all_read prefix (b ∷ read) n all
-      | inr more ↦ one_more prefix read n b (tells_from prefix read (n + 1)) more
+      | inr more ↦ tells_one_more prefix read n b (tells_from prefix read (n + 1)) more
     ]
 
 pub prefix_tells : (prefix read : List ℕ) → prefix_ended prefix (fold (prefix_after prefix) (Some 0) read) ≡ begins_with prefix read

@@ -1,7 +1,7 @@
 -- The words that the public clauses cite, from one place: a caller's crate takes them from here, and so do this crate's own sources.
 pub use Rattle.byte_automata.specs.CaseLaws.{lower_prunes, lower_tells}
 pub use Rattle.byte_automata.specs.Cases.{lower_after, lower_of}
-pub use Rattle.byte_automata.specs.Distances.{cost_at, distance}
+pub use Rattle.byte_automata.specs.Distances.{byte_cost, distance}
 pub use Rattle.byte_automata.specs.FrontLaws.{front_prunes, front_tells}
 pub use Rattle.byte_automata.specs.Fronts.{front_after, front_may_match, has_front, without_match}
 pub use Rattle.byte_automata.specs.PairLaws.{both_prune, both_tell, either_prunes, either_tells}

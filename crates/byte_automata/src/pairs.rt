@@ -23,6 +23,7 @@ pub struct Either<M, N> {
 impl<M: Automaton, N: Automaton> Both<M, N> {
     /// The keys that both accept.
     pub fn new(first: M, second: N) -> Self
+        //= `Both::new` and `Either::new` are made of two automata. [with second; also Either::new]
         ensures first { result.first ≡ first }
         ensures second { result.second ≡ second }
     {
@@ -58,7 +59,10 @@ impl<M: Automaton, N: Automaton> Automaton for Both<M, N> {
     }
 
     fn step(&self, state: &(M::State, N::State), byte: u8) -> (M::State, N::State) {
-        (self.first.step(&state.0, byte), self.second.step(&state.1, byte))
+        (
+            self.first.step(&state.0, byte),
+            self.second.step(&state.1, byte),
+        )
     }
 
     fn is_match(&self, state: &(M::State, N::State)) -> bool {
@@ -69,6 +73,7 @@ impl<M: Automaton, N: Automaton> Automaton for Both<M, N> {
         self.first.can_match(&state.0) && self.second.can_match(&state.1)
     }
 
+    //= It accepts exactly the keys that both accept. As soon as it can't match any more, no key that goes on is accepted. [with prunes]
     ghost tells = { λ it. both_tell (M.after it.first) (N.after it.second) (M.matches it.first) (N.matches it.second) (M.accepts it.first) (N.accepts it.second)
         (M.initial it.first) (N.initial it.second) (M.tells it.first) (N.tells it.second) };
 
@@ -94,7 +99,10 @@ impl<M: Automaton, N: Automaton> Automaton for Either<M, N> {
     }
 
     fn step(&self, state: &(M::State, N::State), byte: u8) -> (M::State, N::State) {
-        (self.first.step(&state.0, byte), self.second.step(&state.1, byte))
+        (
+            self.first.step(&state.0, byte),
+            self.second.step(&state.1, byte),
+        )
     }
 
     fn is_match(&self, state: &(M::State, N::State)) -> bool {
@@ -105,6 +113,8 @@ impl<M: Automaton, N: Automaton> Automaton for Either<M, N> {
         self.first.can_match(&state.0) || self.second.can_match(&state.1)
     }
 
+    //= It accepts exactly the keys that one of the two accepts, or both. As soon as it can't match any more, no key that goes on is
+    //  accepted. [with prunes]
     ghost tells = { λ it. either_tells (M.after it.first) (N.after it.second) (M.matches it.first) (N.matches it.second) (M.accepts it.first) (N.accepts it.second)
         (M.initial it.first) (N.initial it.second) (M.tells it.first) (N.tells it.second) };
 

@@ -94,7 +94,8 @@ impl<'a> Pattern<'a> {
     /// # Errors
     /// `TooLong` if the pattern has more than [`MOST_PATTERN_BYTES`] bytes.
     pub fn new(bytes: &'a [u8]) -> Result<Self, PatternError>
-        ensures made { IfOk result (λ pattern. pattern.bytes.now ≡ bytes.now) }
+        //= A pattern is refused, as too long, exactly if it has more than 63 bytes. [with refused]
+        ensures made { IfOk result (λ pattern. (pattern.bytes.now ≡ bytes.now) × (length bytes.now ≤ 63)) }
         ensures refused { IfErr result (λ e. (e ≡ PatternError.TooLong (length bytes.now)) × (63 < length bytes.now)) }
     {
         if MOST_PATTERN_BYTES < bytes.len() {
@@ -134,6 +135,8 @@ impl<'a> Automaton for Pattern<'a> {
         *state != 0
     }
 
+    //= A pattern accepts exactly the keys that fit it. As soon as it can't match any more, no key that goes on is accepted. [with prunes;
+    //  by fits]
     ghost tells = { λ it. pattern_tells it.bytes.now };
 
     ghost prunes = { λ it. pattern_prunes it.bytes.now };
@@ -143,7 +146,10 @@ impl fmt::Display for PatternError {
     fn fmt<W: fmt::Write>(&self, f: &mut fmt::Formatter<W>) -> fmt::Result {
         match *self {
             PatternError::TooLong { bytes } => {
-                write!(f, "a pattern may have 63 bytes at most, and this one has {bytes}")
+                write!(
+                    f,
+                    "a pattern may have 63 bytes at most, and this one has {bytes}"
+                )
             }
         }
     }

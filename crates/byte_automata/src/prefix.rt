@@ -21,6 +21,8 @@ impl<'a> Prefix<'a> {
     /// assert!(rt; wanted.is_match(&wanted.step(&wanted.start(), b'n')));
     /// ```
     pub fn new(bytes: &'a [u8]) -> Self
+        //= A prefix, a pattern, a query and the automata that others are made of are those that were given. [also AnyCase::new,
+        //  Beginning::new]
         ensures { result.bytes.now ≡ bytes.now }
     {
         Prefix { bytes }
@@ -67,6 +69,8 @@ impl<'a> Automaton for Prefix<'a> {
         state.is_some()
     }
 
+    //= A prefix accepts exactly the keys that begin with its bytes. As soon as it can't match any more, no key that goes on is accepted.
+    //  [with prunes]
     ghost tells = { λ it. prefix_tells it.bytes.now };
 
     ghost prunes = { λ it. prefix_prunes it.bytes.now };
