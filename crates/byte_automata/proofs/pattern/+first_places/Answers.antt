@@ -1,4 +1,4 @@
-use Rattle.std.proofs.Common.{◌<◌, ◌^◌, ◌+◌, ◌*◌, ◌≡◌, add-one, ap, arith, length, pow_pos, suc, ◌∙◌}
+use Rattle.std.proofs.Common.{◌^◌, add-one, ap, arith, length, pow_pos, ◌∙◌}
 use Rattle.std.proofs.Math.Nat.{pow-suc}
 use Rattle.byte_automata.proofs.pattern.+first_places.Goals as goal
 
