@@ -64,8 +64,8 @@ impl<M: Automaton> Automaton for AnyCase<M> {
         self.inner.can_match(state)
     }
 
-    //= It accepts exactly the keys that the other automaton accepts in lower case. As soon as it can't match any more, no key that goes
-    //  on is accepted. [with prunes; by lower_of]
+    //= `AnyCase` accepts exactly the keys that the other automaton accepts in lower case. As soon as it can't match any more, no key that
+    //  goes on is accepted. [with prunes; by lower_of]
     ghost tells = { λ it. lower_tells (M.after it.inner) (M.initial it.inner) (M.matches it.inner) (M.accepts it.inner) (M.tells it.inner) };
 
     ghost prunes = { λ it. lower_prunes (M.after it.inner) (M.initial it.inner) (M.may_match it.inner) (M.accepts it.inner) (M.prunes it.inner) };

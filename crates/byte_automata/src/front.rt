@@ -67,8 +67,8 @@ impl<M: Automaton> Automaton for Beginning<M> {
         }
     }
 
-    //= It accepts exactly the keys some front of which the other automaton accepts. As soon as it can't match any more, no key that goes
-    //  on is accepted. [with prunes; by has_front]
+    //= `Beginning` accepts exactly the keys some front of which the other automaton accepts. As soon as it can't match any more, no key
+    //  that goes on is accepted. [with prunes; by has_front]
     ghost tells = { λ it. front_tells (M.matches it.inner) (M.after it.inner) (M.initial it.inner) (M.accepts it.inner) (M.tells it.inner) };
 
     ghost prunes = { λ it. front_prunes (M.matches it.inner) (M.may_match it.inner) (M.after it.inner) (M.initial it.inner) (M.accepts it.inner) (M.tells it.inner) (M.prunes it.inner) };

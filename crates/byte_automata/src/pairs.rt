@@ -73,7 +73,8 @@ impl<M: Automaton, N: Automaton> Automaton for Both<M, N> {
         self.first.can_match(&state.0) && self.second.can_match(&state.1)
     }
 
-    //= It accepts exactly the keys that both accept. As soon as it can't match any more, no key that goes on is accepted. [with prunes]
+    //= `Both` accepts exactly the keys that both accept. As soon as it can't match any more, no key that goes on is accepted. [with
+    //  prunes]
     ghost tells = { λ it. both_tell (M.after it.first) (N.after it.second) (M.matches it.first) (N.matches it.second) (M.accepts it.first) (N.accepts it.second)
         (M.initial it.first) (N.initial it.second) (M.tells it.first) (N.tells it.second) };
 
@@ -113,7 +114,7 @@ impl<M: Automaton, N: Automaton> Automaton for Either<M, N> {
         self.first.can_match(&state.0) || self.second.can_match(&state.1)
     }
 
-    //= It accepts exactly the keys that one of the two accepts, or both. As soon as it can't match any more, no key that goes on is
+    //= `Either` accepts exactly the keys that one of the two accepts, or both. As soon as it can't match any more, no key that goes on is
     //  accepted. [with prunes]
     ghost tells = { λ it. either_tells (M.after it.first) (N.after it.second) (M.matches it.first) (N.matches it.second) (M.accepts it.first) (N.accepts it.second)
         (M.initial it.first) (N.initial it.second) (M.tells it.first) (N.tells it.second) };
