@@ -3,8 +3,11 @@ pub mod Bands
 pub mod CaseLaws
 pub mod Cases
 pub mod Cells
+pub mod CharacterLaws
+pub mod Characters
 pub mod DistanceLaws
 pub mod Distances
+pub mod Encodings
 pub mod FrontLaws
 pub mod Fronts
 pub mod PairLaws

@@ -1,8 +1,11 @@
 -- The places of a pattern say of what was read, and of all that goes on from it, whether it fits.
-use Rattle.std.proofs.Common.{◌≡◌, ℕ, ◌+◌, ◌*◌, ◌/◌, ◌%◌, Bool, true, false, cond, not, ◌&&◌, ◌||◌, eqb, List, [], ◌∷◌, ◌++◌, refl, sym, ◌∙◌, ap, subst, arith, append-nil, inl, inr}
+use Rattle.std.proofs.Common.{◌≡◌, ℕ, ◌+◌, ◌*◌, ◌/◌, ◌%◌, Bool, true, false, cond, not, ◌&&◌, ◌||◌}
+use Rattle.std.proofs.Common.{eqb, List, [], ◌∷◌, ◌++◌, refl, sym, ◌∙◌, ap, subst, arith}
+use Rattle.std.proofs.Common.{append-nil, inl, inr}
 use Rattle.std.specs.Prelude.{fold}
 use Rattle.std.proofs.lemmas.Bool.{cases_Bool, eqb-true, true≢false}
-use Rattle.byte_automata.specs.Patterns.{bit_of, fits, pattern_after, pattern_end, pattern_may, pattern_start}
+use Rattle.byte_automata.specs.Patterns.{bit_of, fits, pattern_after, pattern_end, pattern_may}
+use Rattle.byte_automata.specs.Patterns.{pattern_start}
 
 -- ---- bits
 

@@ -1,5 +1,7 @@
 -- What an automaton of a prefix knows: the laws that it proves.
-use Rattle.std.proofs.Common.{◌≡◌, ℕ, suc, ◌+◌, Bool, true, false, cond, ◌&&◌, eqb, leb, List, [], ◌∷◌, ◌++◌, length, get_or, drop, Some, None, Option, is_some, refl, sym, ◌∙◌, ap, inl, inr, add-one, drop-cons, drop_of_length-le}
+use Rattle.std.proofs.Common.{◌≡◌, ℕ, suc, ◌+◌, Bool, true, false, cond, ◌&&◌, eqb, leb, List, []}
+use Rattle.std.proofs.Common.{◌∷◌, ◌++◌, length, get_or, drop, Some, None, Option, is_some, refl}
+use Rattle.std.proofs.Common.{sym, ◌∙◌, ap, inl, inr, add-one, drop-cons, drop_of_length-le}
 use Rattle.std.specs.Prelude.{fold}
 use Rattle.std.proofs.lemmas.Bool.{leb-true, leb-false, cases_Bool}
 use Rattle.std.proofs.lemmas.List.Sums.{fold-append}

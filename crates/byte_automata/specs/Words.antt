@@ -1,13 +1,16 @@
 -- The words that the public clauses cite, from one place: a caller's crate takes them from here, and so do this crate's own sources.
 pub use Rattle.byte_automata.specs.CaseLaws.{lower_prunes, lower_tells}
 pub use Rattle.byte_automata.specs.Cases.{lower_after, lower_of}
+pub use Rattle.byte_automata.specs.Characters.{are_within, characters_of}
 pub use Rattle.byte_automata.specs.Distances.{byte_cost, distance}
+pub use Rattle.byte_automata.specs.Encodings.{ReadsCharacters}
 pub use Rattle.byte_automata.specs.FrontLaws.{front_prunes, front_tells}
 pub use Rattle.byte_automata.specs.Fronts.{front_after, front_may_match, has_front, without_match}
 pub use Rattle.byte_automata.specs.PairLaws.{both_prune, both_tell, either_prunes, either_tells}
 pub use Rattle.byte_automata.specs.Pairs.{both_after}
 pub use Rattle.byte_automata.specs.PatternLaws.{pattern_prunes, pattern_tells}
-pub use Rattle.byte_automata.specs.Patterns.{fits, pattern_after, pattern_end, pattern_may, pattern_start}
+pub use Rattle.byte_automata.specs.Patterns.{fits, pattern_after, pattern_end, pattern_may}
+pub use Rattle.byte_automata.specs.Patterns.{pattern_start}
 pub use Rattle.byte_automata.specs.PrefixLaws.{prefix_prunes, prefix_tells}
 pub use Rattle.byte_automata.specs.Prefixes.{begins_with, prefix_after, prefix_ended}
 pub use Rattle.std.specs.Prelude.{is_none, is_some}

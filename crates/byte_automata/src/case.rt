@@ -25,8 +25,8 @@ impl<M: Automaton> AnyCase<M> {
     /// The keys that an automaton accepts in lower case.
     ///
     /// ```
-    /// let wanted = AnyCase::new(Prefix::new(b"n"));
-    /// assert!(rt; wanted.is_match(&wanted.step(&wanted.start(), b'N')));
+    /// let wanted = AnyCase::new(Prefix::new(b"ne"));
+    /// assert!(rt; accepts_key(&wanted, b"NEt"));
     /// ```
     pub fn new(inner: M) -> Self
         ensures { result.inner ≡ inner }

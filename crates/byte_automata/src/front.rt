@@ -13,7 +13,13 @@ pub struct Beginning<M> {
 }
 
 impl<M: Automaton> Beginning<M> {
-    /// The keys that begin with what an automaton accepts.
+    /// The keys that begin with what an automaton accepts. So `Beginning::new(Within::one(prefix))` has what completes a prefix with a typo.
+    ///
+    /// ```
+    /// let wanted = Beginning::new(Within::one(b"net"));
+    /// assert!(rt; accepts_key(&wanted, b"nutshell"));
+    /// assert!(rt; !accepts_key(&wanted, b"nobody"));
+    /// ```
     pub fn new(inner: M) -> Self
         ensures { result.inner ≡ inner }
     {

@@ -2,24 +2,30 @@
 //! the keys of a dictionary leaves out whatever is below such a place.
 //!
 //! ```
-//! let wanted = Prefix::new(b"net");
-//! let state = wanted.step(&wanted.start(), b'x');
-//! assert!(rt; !wanted.can_match(&state));
+//! let near = Both::new(Prefix::new(b"n"), Within::one(b"net"));
+//! assert!(rt; accepts_key(&near, b"nets"));
+//! assert!(rt; !near.can_match(&near.step(&near.start(), b'x')));
 //! ```
 #![tactic(auto)]
 
 mod automaton;
 mod case;
+mod characters;
 mod distance;
 mod front;
+mod laws;
 mod pairs;
 mod pattern;
 mod prefix;
+mod rows;
 
-pub use automaton::Automaton;
+pub use automaton::{Automaton, accepts_key};
 pub use case::AnyCase;
-pub use distance::{Band, Within};
+pub use characters::{Reading, WithinCharacters};
+pub use distance::Within;
 pub use front::Beginning;
+pub use laws::characters_are_read;
 pub use pairs::{Both, Either};
 pub use pattern::{MOST_PATTERN_BYTES, Pattern, PatternError};
 pub use prefix::Prefix;
+pub use rows::Band;

@@ -22,6 +22,12 @@ pub struct Either<M, N> {
 
 impl<M: Automaton, N: Automaton> Both<M, N> {
     /// The keys that both accept.
+    ///
+    /// ```
+    /// let wanted = Both::new(Prefix::new(b"ne"), Within::one(b"net"));
+    /// assert!(rt; accepts_key(&wanted, b"nest"));
+    /// assert!(rt; !accepts_key(&wanted, b"nut"));
+    /// ```
     pub fn new(first: M, second: N) -> Self
         //= `Both::new` and `Either::new` are made of two automata. [with second; also Either::new]
         ensures first { result.first ≡ first }
@@ -33,6 +39,12 @@ impl<M: Automaton, N: Automaton> Both<M, N> {
 
 impl<M: Automaton, N: Automaton> Either<M, N> {
     /// The keys that one of the two accepts, or both.
+    ///
+    /// ```
+    /// let wanted = Either::new(Prefix::new(b"ne"), Within::one(b"net"));
+    /// assert!(rt; accepts_key(&wanted, b"nut"));
+    /// assert!(rt; !accepts_key(&wanted, b"ten"));
+    /// ```
     pub fn new(first: M, second: N) -> Self
         ensures first { result.first ≡ first }
         ensures second { result.second ≡ second }

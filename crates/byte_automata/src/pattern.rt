@@ -86,9 +86,10 @@ impl<'a> Pattern<'a> {
     /// The keys that fit a pattern.
     ///
     /// ```
-    /// let wanted = Pattern::new(b"n?*")?;
-    /// let state = wanted.step(&wanted.step(&wanted.start(), b'n'), b'e');
-    /// assert!(rt; wanted.is_match(&state));
+    /// let wanted = Pattern::new(b"n*t?")?;
+    /// assert!(rt; accepts_key(&wanted, b"nests"));
+    /// assert!(rt; !accepts_key(&wanted, b"nest"));
+    /// assert_eq!(rt; Pattern::new(&[b'*'; 64]).err(), Some(PatternError::TooLong { bytes: 64 }));
     /// ```
     ///
     /// # Errors

@@ -16,9 +16,9 @@ impl<'a> Prefix<'a> {
     /// The keys that begin with these bytes.
     ///
     /// ```
-    /// let wanted = Prefix::new(b"n");
-    /// assert!(rt; !wanted.is_match(&wanted.start()));
-    /// assert!(rt; wanted.is_match(&wanted.step(&wanted.start(), b'n')));
+    /// let wanted = Prefix::new(b"ne");
+    /// assert!(rt; accepts_key(&wanted, b"net"));
+    /// assert!(rt; !accepts_key(&wanted, b"n"));
     /// ```
     pub fn new(bytes: &'a [u8]) -> Self
         //= A prefix, a pattern, a query and the automata that others are made of are those that were given. [also AnyCase::new,
