@@ -1,7 +1,13 @@
 -- The words that the public clauses cite, from one place: a caller's crate takes them from here, and so do this crate's own sources.
+pub use Rattle.byte_automata.specs.BandLaws.{band_prunes, band_tells}
+pub use Rattle.byte_automata.specs.Bands.{band_after, first_band, is_within, may_be_within}
 pub use Rattle.byte_automata.specs.CaseLaws.{lower_prunes, lower_tells}
 pub use Rattle.byte_automata.specs.Cases.{lower_after, lower_of}
-pub use Rattle.byte_automata.specs.Characters.{are_within, characters_of}
+pub use Rattle.byte_automata.specs.Cells.{next_cell, next_cells}
+pub use Rattle.byte_automata.specs.CharacterLaws.{characters_prune, characters_tell}
+pub use Rattle.byte_automata.specs.Characters.{are_within, characters_of, first_byte, first_reading}
+pub use Rattle.byte_automata.specs.Characters.{next_part, read_byte, reading_after, reading_ends}
+pub use Rattle.byte_automata.specs.Characters.{reading_may_end}
 pub use Rattle.byte_automata.specs.Distances.{byte_cost, distance}
 pub use Rattle.byte_automata.specs.Encodings.{ReadsCharacters}
 pub use Rattle.byte_automata.specs.FrontLaws.{front_prunes, front_tells}
