@@ -9,6 +9,7 @@
 #![tactic(auto)]
 
 mod automaton;
+mod borrowed;
 mod case;
 mod characters;
 mod distance;
