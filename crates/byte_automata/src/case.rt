@@ -29,7 +29,8 @@ impl<M: Automaton> AnyCase<M> {
     /// assert!(rt; accepts_key(&wanted, b"NEt"));
     /// ```
     pub fn new(inner: M) -> Self
-        ensures { result.inner ≡ inner }
+        //= `AnyCase::new` accepts what is accepted in lower case by the automaton that was given. [by lower_of]
+        ensures { ⟦<AnyCase<M> as Automaton>⟧.accepts result ≡ (λ key. M.accepts inner (map lower_of key)) }
     {
         AnyCase { inner }
     }

@@ -21,7 +21,8 @@ impl<M: Automaton> Beginning<M> {
     /// assert!(rt; !accepts_key(&wanted, b"nobody"));
     /// ```
     pub fn new(inner: M) -> Self
-        ensures { result.inner ≡ inner }
+        //= `Beginning::new` accepts what has a front that is accepted by the automaton that was given. [by has_front]
+        ensures { ⟦<Beginning<M> as Automaton>⟧.accepts result ≡ has_front (M.accepts inner) }
     {
         Beginning { inner }
     }

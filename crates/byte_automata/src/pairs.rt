@@ -29,9 +29,8 @@ impl<M: Automaton, N: Automaton> Both<M, N> {
     /// assert!(rt; !accepts_key(&wanted, b"nut"));
     /// ```
     pub fn new(first: M, second: N) -> Self
-        //= `Both::new` and `Either::new` are made of two automata. [with second; also Either::new]
-        ensures first { result.first ≡ first }
-        ensures second { result.second ≡ second }
+        //= `Both::new` accepts what both automata accept that were given.
+        ensures { ⟦<Both<M, N> as Automaton>⟧.accepts result ≡ (λ key. M.accepts first key && N.accepts second key) }
     {
         Both { first, second }
     }
@@ -46,8 +45,8 @@ impl<M: Automaton, N: Automaton> Either<M, N> {
     /// assert!(rt; !accepts_key(&wanted, b"ten"));
     /// ```
     pub fn new(first: M, second: N) -> Self
-        ensures first { result.first ≡ first }
-        ensures second { result.second ≡ second }
+        //= `Either::new` accepts what one of them accepts, or both.
+        ensures { ⟦<Either<M, N> as Automaton>⟧.accepts result ≡ (λ key. M.accepts first key || N.accepts second key) }
     {
         Either { first, second }
     }

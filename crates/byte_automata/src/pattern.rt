@@ -95,8 +95,9 @@ impl<'a> Pattern<'a> {
     /// # Errors
     /// `TooLong` if the pattern has more than [`MOST_PATTERN_BYTES`] bytes.
     pub fn new(bytes: &'a [u8]) -> Result<Self, PatternError>
-        //= A pattern is refused, as too long, exactly if it has more than 63 bytes. [with refused]
-        ensures made { IfOk result (λ pattern. (pattern.bytes.now ≡ bytes.now) × (length bytes.now ≤ 63)) }
+        //= A pattern accepts the keys that fit the bytes that were given. It is refused, as too long, exactly if it has more than 63 bytes.
+        //  [with refused]
+        ensures made { IfOk result (λ pattern. (⟦<Pattern<'a> as Automaton>⟧.accepts pattern ≡ fits bytes.now) × (length bytes.now ≤ 63)) }
         ensures refused { IfErr result (λ e. (e ≡ PatternError.TooLong (length bytes.now)) × (63 < length bytes.now)) }
     {
         if MOST_PATTERN_BYTES < bytes.len() {

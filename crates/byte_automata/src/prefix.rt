@@ -21,9 +21,8 @@ impl<'a> Prefix<'a> {
     /// assert!(rt; !accepts_key(&wanted, b"n"));
     /// ```
     pub fn new(bytes: &'a [u8]) -> Self
-        //= A prefix, a pattern, a query and the automata that others are made of are those that were given. [also AnyCase::new,
-        //  Beginning::new]
-        ensures { result.bytes.now ≡ bytes.now }
+        //= A prefix accepts the keys that begin with the bytes that were given.
+        ensures { ⟦<Prefix<'a> as Automaton>⟧.accepts result ≡ begins_with bytes.now }
     {
         Prefix { bytes }
     }
