@@ -12,16 +12,16 @@ module _ {S : Type 0} (matches : S → Bool) (after : S → ℕ → S) where
   matched_stays (b ∷ read) = matched_stays read
 
   -- from a state on, where `test` says what is accepted of what follows
-  tells_from : (state : S) (test : List ℕ → Bool) → ((read : List ℕ) → matches (fold after state read) ≡ test read)
+  tells_front : (state : S) (test : List ℕ → Bool) → ((read : List ℕ) → matches (fold after state read) ≡ test read)
       → (read : List ℕ) → is_none (fold (front_after matches after) (without_match matches state) read) ≡ has_front test read
   unfolding has_front
-  tells_from state test tells [] = ap_none (matches state) ∙ tells []
+  tells_front state test tells [] = ap_none (matches state) ∙ tells []
     where
       ap_none : (t : Bool) → is_none (cond t None (Some state)) ≡ t
       ap_none true = refl
       ap_none false = refl
-  tells_from state test tells (b ∷ read) =
-      let later = tells_from (after state b) (λ more. test (b ∷ more)) (λ more. tells (b ∷ more)) read in
+  tells_front state test tells (b ∷ read) =
+      let later = tells_front (after state b) (λ more. test (b ∷ more)) (λ more. tells (b ∷ more)) read in
       each (matches state) ∙ (λ i. tells [] i || later i)
     where
       each : (t : Bool) → is_none (fold (front_after matches after) (cond t None (Some state)) (b ∷ read))
@@ -31,8 +31,9 @@ module _ {S : Type 0} (matches : S → Bool) (after : S → ℕ → S) where
 
 module _ {S : Type 0} (matches : S → Bool) (after : S → ℕ → S) (state : S) (accepts : List ℕ → Bool)
     (tells : (read : List ℕ) → matches (fold after state read) ≡ accepts read) where
+  -- what is known after some bytes says whether a front of them is accepted
   pub front_tells : (read : List ℕ) → is_none (fold (front_after matches after) (without_match matches state) read) ≡ has_front accepts read
-  front_tells read = tells_from matches after state accepts tells read
+  front_tells read = tells_front matches after state accepts tells read
 
 -- where none of the bytes so far was accepted, and none that go on are, no front is
 no_front : (test : List ℕ → Bool) (read rest : List ℕ) → has_front test read ≡ false → ((more : List ℕ) → test (read ++ more) ≡ false) → has_front test (read ++ rest) ≡ false
@@ -62,6 +63,7 @@ inside matches after state (b ∷ read) found is = at (inside matches after (aft
     at later true h = (let stays = matched_stays matches after read in cc)
     at later false h = later h
 
+-- where it can't match any more, no front of what goes on is accepted
 pub front_prunes : {S : Type 0} (matches may_match : S → Bool) (after : S → ℕ → S) (state : S) (accepts : List ℕ → Bool)
     → ((read : List ℕ) → matches (fold after state read) ≡ accepts read)
     → ((read rest : List ℕ) → may_match (fold after state read) ≡ false → accepts (read ++ rest) ≡ false)

@@ -15,14 +15,17 @@ lacks_one true = refl
 lacks_one false = refl
 
 module _ {S R : Type 0} (f : S → ℕ → S) (g : R → ℕ → R) (p : S → Bool) (q : R → Bool) (a c : List ℕ → Bool) (s : S) (r : R) where
+  -- two automata accept what both accept
   pub both_tell : ((read : List ℕ) → p (fold f s read) ≡ a read) → ((read : List ℕ) → q (fold g r read) ≡ c read)
       → (read : List ℕ) → (p (fold (both_after f g) (s, r) read).0 && q (fold (both_after f g) (s, r) read).1) ≡ (a read && c read)
   both_tell first second read = ap (λ t. p t.0 && q t.1) (both_run f g s r read) ∙ (λ i. first read i && second read i)
 
+  -- or what one of them accepts
   pub either_tells : ((read : List ℕ) → p (fold f s read) ≡ a read) → ((read : List ℕ) → q (fold g r read) ≡ c read)
       → (read : List ℕ) → (p (fold (both_after f g) (s, r) read).0 || q (fold (both_after f g) (s, r) read).1) ≡ (a read || c read)
   either_tells first second read = ap (λ t. p t.0 || q t.1) (both_run f g s r read) ∙ (λ i. first read i || second read i)
 
+  -- where one of them can't match any more, nothing that goes on is accepted by both
   pub both_prune : ((read rest : List ℕ) → p (fold f s read) ≡ false → a (read ++ rest) ≡ false) → ((read rest : List ℕ) → q (fold g r read) ≡ false → c (read ++ rest) ≡ false)
       → (read rest : List ℕ) → (p (fold (both_after f g) (s, r) read).0 && q (fold (both_after f g) (s, r) read).1) ≡ false → (a (read ++ rest) && c (read ++ rest)) ≡ false
   both_prune first second read rest h =
@@ -32,6 +35,7 @@ module _ {S R : Type 0} (f : S → ℕ → S) (g : R → ℕ → R) (p : S → B
       either_fails true y fx fy h = ap (λ t. a (read ++ rest) && t) (fy h) ∙ lacks_one (a (read ++ rest))
       either_fails false y fx fy h = ap (λ t. t && c (read ++ rest)) (fx refl)
 
+  -- where both can't, nothing that goes on is accepted by one of them
   pub either_prunes : ((read rest : List ℕ) → p (fold f s read) ≡ false → a (read ++ rest) ≡ false) → ((read rest : List ℕ) → q (fold g r read) ≡ false → c (read ++ rest) ≡ false)
       → (read rest : List ℕ) → (p (fold (both_after f g) (s, r) read).0 || q (fold (both_after f g) (s, r) read).1) ≡ false → (a (read ++ rest) || c (read ++ rest)) ≡ false
   either_prunes first second read rest h =

@@ -229,12 +229,14 @@ live_run pattern places [] v c = refl
 live_run pattern places (b ∷ read) v c =
     live_run pattern (pattern_after pattern places false b) read v (closed_step pattern places false b) ∙ live_step pattern places false b (read ++ v) c
 
+-- the places after some bytes say whether they fit
 pub pattern_tells : (pattern read : List ℕ) → pattern_end pattern (fold (λ places. pattern_after pattern places false) (pattern_start pattern) read) ≡ fits pattern read
 pattern_tells pattern read =
     let c = closed_first pattern in
     end_live pattern (fold (λ places. pattern_after pattern places false) (pattern_start pattern) read) (closed_run pattern (pattern_start pattern) read c)
     ∙ live_run pattern (pattern_start pattern) read [] c ∙ live_start pattern (read ++ []) ∙ ap (fits pattern) (append-nil read)
 
+-- where there are none, nothing that goes on fits
 pub pattern_prunes : (pattern read rest : List ℕ) → pattern_may (fold (λ places. pattern_after pattern places false) (pattern_start pattern) read) ≡ false → fits pattern (read ++ rest) ≡ false
 pattern_prunes pattern read rest h =
     let places = fold (λ places. pattern_after pattern places false) (pattern_start pattern) read in

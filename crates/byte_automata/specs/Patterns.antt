@@ -13,6 +13,7 @@ fits (p ∷ pattern) (b ∷ bytes) =
 -- Places of a pattern are a number. Its lowest bit says whether what was read may end before the first byte of the pattern, the next one
 -- whether it may end before the second, and so on up to the pattern's end.
 
+-- a bit that says whether something holds
 abbrev pub bit_of : Bool → ℕ
 bit_of b = cond b 1 0
 

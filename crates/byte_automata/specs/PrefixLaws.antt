@@ -50,9 +50,11 @@ tells_from prefix (b ∷ read) n =
       | inr more ↦ tells_one_more prefix read n b (tells_from prefix read (n + 1)) more
     ]
 
+-- what is known after some bytes says whether they begin with the prefix
 pub prefix_tells : (prefix read : List ℕ) → prefix_ended prefix (fold (prefix_after prefix) (Some 0) read) ≡ begins_with prefix read
 prefix_tells prefix read = tells_from prefix read 0
 
+-- where a byte differed, nothing that goes on does
 pub prefix_prunes : (prefix read rest : List ℕ) → is_some (fold (prefix_after prefix) (Some 0) read) ≡ false → begins_with prefix (read ++ rest) ≡ false
 prefix_prunes prefix read rest h =
     let at = fold (prefix_after prefix) (Some 0) read in

@@ -12,14 +12,16 @@ pub trait Automaton {
     /// Whether it accepts some bytes.
     ghost accepts: { Self → List ℕ → Bool };
 
-    /// What it knows before the first byte, and after one byte more.
+    /// What it knows before the first byte.
     ghost initial: { Self → Self.State };
 
+    /// What it knows after one byte more.
     ghost after: { Self → Self.State → ℕ → Self.State };
 
-    /// Whether the bytes that it has read are accepted, and whether they or any that go on from them may be.
+    /// Whether the bytes that it has read are accepted.
     ghost matches: { Self → Self.State → Bool };
 
+    /// Whether they, or any that go on from them, may be.
     ghost may_match: { Self → Self.State → Bool };
 
     /// The state before the first byte.
@@ -60,10 +62,10 @@ pub trait Automaton {
     fn can_match(&self, state: &Self::State) -> bool
         ensures { result ≡ may_match self.now state.now };
 
-    // The state after some bytes says whether they are accepted.
+    /// The state after some bytes says whether they are accepted.
     ghost tells: { (it : Self) (read : List ℕ) → matches it (fold (after it) (initial it) read) ≡ accepts it read };
 
-    // Where it can't match any more, no bytes that go on are accepted.
+    /// Where it can't match any more, no bytes that go on are accepted.
     ghost prunes: { (it : Self) (read rest : List ℕ) → may_match it (fold (after it) (initial it) read) ≡ false → accepts it (read ++ rest) ≡ false };
 }
 
