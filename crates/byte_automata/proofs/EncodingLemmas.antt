@@ -1,17 +1,16 @@
 -- The bytes of a character are read as that character.
-use Rattle.std.proofs.Common.{◌≡◌, ℕ, ◌+◌, ◌-◌, ◌*◌, ◌/◌, ◌%◌, ◌<◌, ◌≤◌, Bool, true, false, cond}
-use Rattle.std.proofs.Common.{ltb, List, [], ◌∷◌, ◌++◌, Option, Some, refl, sym, ◌∙◌, ap, arith}
-use Rattle.std.proofs.Common.{append_assoc, append-nil, inl, inr, ◌⊎◌, lt-ltb, le-ltb, ltb-true}
-use Rattle.std.proofs.Common.{ltb-false}
+use Rattle.std.proofs.Common.{◌≡◌, ℕ, ◌+◌, ◌-◌, ◌*◌, ◌/◌, ◌%◌, ◌<◌, true, false}
+use Rattle.std.proofs.Common.{ltb, List, [], ◌∷◌, ◌++◌, Some, refl, sym, ◌∙◌, ap, arith}
+use Rattle.std.proofs.Common.{append_assoc, append-nil, inl, inr, lt-ltb, le-ltb, ltb-true}
 use Rattle.std.specs.Prelude.{fold}
 use Rattle.std.proofs.Math.Utf8.{encode, encodes, scalar, scalars, scalar_cases}
 use Rattle.std.proofs.lemmas.Bool.{and_parts, cases_Bool}
 use Rattle.std.proofs.lemmas.List.Sums.{fold-append}
 use Rattle.byte_automata.specs.Characters.{characters_after, characters_of, CharactersRead}
-use Rattle.byte_automata.specs.Characters.{first_byte, none_read, read_byte, read_on}
+use Rattle.byte_automata.specs.Characters.{first_byte, read_byte, read_on}
 use Rattle.byte_automata.specs.Characters.{whole_characters}
 use Rattle.byte_automata.specs.declared.characters.ReadByte.{ReadByte}
-use Rattle.byte_automata.specs.declared.characters.ReadByte.TheVariants.{Lost, Part, Whole}
+use Rattle.byte_automata.specs.declared.characters.ReadByte.TheVariants.{Part, Whole}
 
 -- ---- the first byte of a character
 
@@ -100,31 +99,31 @@ two_bytes done c low =
     ∙ ap (λ n. ready (done ++ n ∷ [])) whole
 
 three_bytes : (done : List ℕ) (c : ℕ) → c < 65536
-  → fold characters_after (ready done) ((224 + c / 4096) ∷ (128 + c / 64 % 64) ∷ (128 + c % 64) ∷ []) ≡ ready (done ++ c ∷ [])
+    → fold characters_after (ready done) ((224 + c / 4096) ∷ (128 + c / 64 % 64) ∷ (128 + c % 64) ∷ []) ≡ ready (done ++ c ∷ [])
 three_bytes done c low =
     let top : c / 4096 * 64 + c / 64 % 64 ≡ c / 64 = omega arith in
     let whole : c / 64 * 64 + c % 64 ≡ c = omega arith in
     ap (λ s. characters_after (characters_after s (128 + c / 64 % 64)) (128 + c % 64)) (starts done (224 + c / 4096) (Part 2 (c / 4096)) (lead_three (c / 4096) (omega (arith, low))))
     ∙ ap (λ s. characters_after s (128 + c % 64))
-      (goes done 2 (c / 4096) (128 + c / 64 % 64) (Part 1 (c / 4096 * 64 + c / 64 % 64)) (byte_before (c / 4096) (c / 64 % 64) (omega arith) (omega (arith, low, top)))
-      ∙ ap (λ n. partly done 1 n) top)
+    (goes done 2 (c / 4096) (128 + c / 64 % 64) (Part 1 (c / 4096 * 64 + c / 64 % 64)) (byte_before (c / 4096) (c / 64 % 64) (omega arith) (omega (arith, low, top)))
+    ∙ ap (λ n. partly done 1 n) top)
     ∙ goes done 1 (c / 64) (128 + c % 64) (Whole (c / 64 * 64 + c % 64)) (last_byte (c / 64) (c % 64) (omega arith))
     ∙ ap (λ n. ready (done ++ n ∷ [])) whole
 
 four_bytes : (done : List ℕ) (c : ℕ) → c < 1114112
-  → fold characters_after (ready done) ((240 + c / 262144) ∷ (128 + c / 4096 % 64) ∷ (128 + c / 64 % 64) ∷ (128 + c % 64) ∷ []) ≡ ready (done ++ c ∷ [])
+    → fold characters_after (ready done) ((240 + c / 262144) ∷ (128 + c / 4096 % 64) ∷ (128 + c / 64 % 64) ∷ (128 + c % 64) ∷ []) ≡ ready (done ++ c ∷ [])
 four_bytes done c low =
     let first : c / 262144 * 64 + c / 4096 % 64 ≡ c / 4096 = omega arith in
     let top : c / 4096 * 64 + c / 64 % 64 ≡ c / 64 = omega arith in
     let whole : c / 64 * 64 + c % 64 ≡ c = omega arith in
     ap (λ s. characters_after (characters_after (characters_after s (128 + c / 4096 % 64)) (128 + c / 64 % 64)) (128 + c % 64))
-      (starts done (240 + c / 262144) (Part 3 (c / 262144)) (lead_four (c / 262144) (omega (arith, low))))
+    (starts done (240 + c / 262144) (Part 3 (c / 262144)) (lead_four (c / 262144) (omega (arith, low))))
     ∙ ap (λ s. characters_after (characters_after s (128 + c / 64 % 64)) (128 + c % 64))
-      (goes done 3 (c / 262144) (128 + c / 4096 % 64) (Part 2 (c / 262144 * 64 + c / 4096 % 64)) (two_before (c / 262144) (c / 4096 % 64) (omega arith) (omega (arith, low, first)))
-      ∙ ap (λ n. partly done 2 n) first)
+    (goes done 3 (c / 262144) (128 + c / 4096 % 64) (Part 2 (c / 262144 * 64 + c / 4096 % 64)) (two_before (c / 262144) (c / 4096 % 64) (omega arith) (omega (arith, low, first)))
+    ∙ ap (λ n. partly done 2 n) first)
     ∙ ap (λ s. characters_after s (128 + c % 64))
-      (goes done 2 (c / 4096) (128 + c / 64 % 64) (Part 1 (c / 4096 * 64 + c / 64 % 64)) (byte_before (c / 4096) (c / 64 % 64) (omega arith) (omega (arith, low, top)))
-      ∙ ap (λ n. partly done 1 n) top)
+    (goes done 2 (c / 4096) (128 + c / 64 % 64) (Part 1 (c / 4096 * 64 + c / 64 % 64)) (byte_before (c / 4096) (c / 64 % 64) (omega arith) (omega (arith, low, top)))
+    ∙ ap (λ n. partly done 1 n) top)
     ∙ goes done 1 (c / 64) (128 + c % 64) (Whole (c / 64 * 64 + c % 64)) (last_byte (c / 64) (c % 64) (omega arith))
     ∙ ap (λ n. ready (done ++ n ∷ [])) whole
 
@@ -138,8 +137,8 @@ one_character done c is =
         | inr most ↦ elim (cases_Bool (ltb c 65536)) [
           | inl three ↦ rw (more, most, three) (three_bytes done c (ltb-true c 65536 three))
           | inr four ↦
-            let low : c < 1114112 = elim (scalar_cases c is) [ inl below ↦ omega (arith, below) | inr above ↦ above.1 ] in
-            rw (more, most, four) (four_bytes done c low)
+              let low : c < 1114112 = elim (scalar_cases c is) [ inl below ↦ omega (arith, below) | inr above ↦ above.1 ] in
+              rw (more, most, four) (four_bytes done c low)
         ]
       ]
     ]

@@ -1,5 +1,5 @@
 -- That the characters of a text's bytes are those of the text.
-use Rattle.std.specs.Prelude.{◌≡◌, ℕ, true, List, Option, Some}
+use Rattle.std.specs.Prelude.{◌≡◌, ℕ, true, List, Some}
 use Rattle.std.specs.Str.{all_scalars, encode_utf8_all}
 use Rattle.byte_automata.specs.Characters.{characters_of}
 

@@ -6,5 +6,4 @@ ghost use Rattle.byte_automata.specs.Words.{ReadsCharacters};
 pub fn characters_are_read()
     //= The characters that are read of a text in UTF-8 are those of the text.
     ensures { ReadsCharacters }
-{
-}
+{}
