@@ -8,9 +8,13 @@
 #![tactic(auto)]
 
 mod best;
+mod ends;
+mod error;
 mod ranges;
 
 pub use best::{best_entries, best_with_prefix};
 pub use best_few::ByValue;
+pub use ends::{first_in, last_in};
+pub use error::RangeError;
 pub use key_ranges::KeyRange;
 pub use ranges::entries_in;

@@ -13,7 +13,7 @@ use Rattle.cedar_tree.specs.Tree.{IsAscending, IsKey, IsPath, IsSound, Tree}
 use Rattle.cedar_tree.proofs.EntryLemmas.Keys.{walk_keys}
 use Rattle.cedar_tree.proofs.WalkLemmas.{walk_ascends}
 use Rattle.key_ranges.proofs.SpanLemmas.{and_true}
-use Rattle.key_ranges.specs.Spans.{entries_within, holds, HoldsBehind, HoldsPrefixed, KeySpan}
+use Rattle.key_ranges.specs.Spans.{entries_within, holds, HoldsBefore, HoldsBehind, HoldsPrefixed, KeySpan}
 
 -- ---- tests that say the same
 
@@ -23,7 +23,7 @@ same_tests p q (e ∷ es) is =
     ap (λ b. cond b (e ∷ filter (λ x. p x.0) es) (filter (λ x. p x.0) es)) (is e.0)
     ∙ ap (λ zs. cond (q e.0) (e ∷ zs) zs) (same_tests p q es is)
 
-key_is_path : (w : List ℕ) → IsKey w → IsPath w
+pub key_is_path : (w : List ℕ) → IsKey w → IsPath w
 key_is_path [] key = absurd key
 key_is_path (b ∷ w) key = key
 
@@ -57,7 +57,7 @@ since_is t from = same_tests (λ w. is_ge (slice_cmp nat_cmp w from)) (λ w. is_
 -- ---- pages
 
 -- each key is before those after it
-abbrev Rises : List Entry → Type 0
+abbrev pub Rises : List Entry → Type 0
 Rises [] = Unit {0}
 Rises (e ∷ es) = AllByRecursion (λ x. slice_cmp nat_cmp e.0 x.0 ≡ Less) es × Rises es
 
@@ -65,7 +65,7 @@ behind_all : (w : List ℕ) (es : List Entry) → AllByRecursion (λ v. slice_cm
 behind_all w [] all = tt
 behind_all w (e ∷ es) all = (all.0, behind_all w es all.1)
 
-rises : (es : List Entry) → ArePathsAscending es → Rises es
+pub rises : (es : List Entry) → ArePathsAscending es → Rises es
 unfolding IsStrictlySortedBy
 rises [] up = tt
 rises (e ∷ es) up = (behind_all e.0 es up.0, rises es up.1)
@@ -78,7 +78,7 @@ some_behind w p (e ∷ es) all =
       | false ↦ some_behind w p es all.1
     ]
 
-some_rise : (p : List ℕ → Bool) (es : List Entry) → Rises es → Rises (filter (λ e. p e.0) es)
+pub some_rise : (p : List ℕ → Bool) (es : List Entry) → Rises es → Rises (filter (λ e. p e.0) es)
 some_rise p [] up = tt
 some_rise p (e ∷ es) up =
     elim (p e.0) as (λ b. Rises (cond b (e ∷ filter (λ x. p x.0) es) (filter (λ x. p x.0) es))) [
@@ -115,3 +115,31 @@ pages_fit t old new page last rest ascends on is =
     ∙ filter_twice (holds old) (λ w. is_gt (slice_cmp nat_cmp w last.0)) (walk t)
     ∙ ap (filter (λ e. is_gt (slice_cmp nat_cmp e.0 last.0))) is
     ∙ behind_last page last rest (subst Rises is up)
+
+-- ---- pages backwards
+
+none_before : (w : List ℕ) (es : List Entry) → AllByRecursion (λ e. slice_cmp nat_cmp w e.0 ≡ Less) es → filter (λ e. is_lt (slice_cmp nat_cmp e.0 w)) es ≡ []
+none_before w [] all = refl
+none_before w (e ∷ es) all =
+    let behind = ap is_lt (nat_list_cmp_total.antisymm e.0 w ∙ ap ordering_reverse all.0) in
+    ap (λ b. cond b (e ∷ filter (λ x. is_lt (slice_cmp nat_cmp x.0 w)) es) (filter (λ x. is_lt (slice_cmp nat_cmp x.0 w)) es)) behind
+    ∙ none_before w es all.1
+
+before_first : (rest : List Entry) (first : Entry) (page : List Entry) → Rises (rest ++ first ∷ page) → filter (λ e. is_lt (slice_cmp nat_cmp e.0 first.0)) (rest ++ first ∷ page) ≡ rest
+before_first [] first page up =
+    let itself = ap is_lt (tied_itself nat_list_cmp_total first.0) in
+    ap (λ b. cond b (first ∷ filter (λ x. is_lt (slice_cmp nat_cmp x.0 first.0)) page) (filter (λ x. is_lt (slice_cmp nat_cmp x.0 first.0)) page)) itself
+    ∙ none_before first.0 page up.0
+before_first (e ∷ rest) first page up =
+    let before = ap is_lt (last_of_all e.0 rest first page up.0) in
+    ap (λ b. cond b (e ∷ filter (λ x. is_lt (slice_cmp nat_cmp x.0 first.0)) (rest ++ first ∷ page)) (filter (λ x. is_lt (slice_cmp nat_cmp x.0 first.0)) (rest ++ first ∷ page))) before
+    ∙ ap (λ zs. e ∷ zs) (before_first rest first page up.1)
+
+pub pages_fit_backwards : (t : Tree) (old new : KeySpan) (rest : List Entry) (first : Entry) (page : List Entry) → IsAscending t.children → HoldsBefore old new first.0 → entries_within t old ≡ rest ++ first ∷ page
+    → entries_within t new ≡ rest
+pages_fit_backwards t old new rest first page ascends on is =
+    let up : Rises (entries_within t old) = some_rise (holds old) (walk t) (rises (walk t) (walk_ascends t ascends)) in
+    same_tests (holds new) (λ w. holds old w && is_lt (slice_cmp nat_cmp w first.0)) (walk t) on
+    ∙ filter_twice (holds old) (λ w. is_lt (slice_cmp nat_cmp w first.0)) (walk t)
+    ∙ ap (filter (λ e. is_lt (slice_cmp nat_cmp e.0 first.0))) is
+    ∙ before_first rest first page (subst Rises is up)

@@ -202,3 +202,38 @@ one_less len prefix some within highest =
 -- and another one is raised
 pub one_raised : (len : ℕ) (prefix : List ℕ) → 0 < len → len ≤ length prefix → get_or prefix (len - 1) 0 < 255 → successor (take len prefix) ≡ Some (take (len - 1) prefix ++ (get_or prefix (len - 1) 0 + 1) ∷ [])
 one_raised len prefix some within low = ap successor (last_apart len prefix some within) ∙ raised_last (take (len - 1) prefix) (get_or prefix (len - 1) 0) low
+
+-- ---- further back
+
+before_both : (w key : List ℕ) (to : Option (List ℕ)) → ends_before to key ≡ true → is_lt (slice_cmp nat_cmp w key) ≡ true → ends_before to w ≡ true
+before_both w key None low at = refl
+before_both w key (Some to) low at = ap is_lt (nat_list_cmp_total.trans w key to (less (slice_cmp nat_cmp w key) at) (less (slice_cmp nat_cmp key to) low))
+
+-- an end that comes behind a byte string gives way
+pub ends_further : (w key : List ℕ) (to : Option (List ℕ)) (from : Bool) → ends_before to key ≡ true → (from && is_lt (slice_cmp nat_cmp w key)) ≡ ((from && ends_before to w) && is_lt (slice_cmp nat_cmp w key))
+ends_further w key to from low =
+    (elim (is_lt (slice_cmp nat_cmp w key)) as (λ b. is_lt (slice_cmp nat_cmp w key) ≡ b → (from && b) ≡ ((from && ends_before to w) && b)) [
+      | true ↦ λ at. sym (and_true (from && ends_before to w) ∙ ap (λ b. from && b) (before_both w key to low at))
+      | false ↦ λ _. and_false from ∙ sym (and_false (from && ends_before to w))
+    ]) refl
+
+not_before : (w key to : List ℕ) → is_lt (slice_cmp nat_cmp key to) ≡ false → is_lt (slice_cmp nat_cmp w to) ≡ true → is_lt (slice_cmp nat_cmp w key) ≡ true
+not_before w key to high at =
+    let o = nat_list_cmp_total in
+    let low : slice_cmp nat_cmp w to ≡ Less = less (slice_cmp nat_cmp w to) at in
+    (elim (slice_cmp nat_cmp key to) as (λ r. slice_cmp nat_cmp key to ≡ r → is_lt r ≡ false → is_lt (slice_cmp nat_cmp w key) ≡ true) [
+      | Less ↦ λ _ h. absurd (true≢false h)
+      | Equal ↦ λ e _. ap is_lt (alike_right o key to w e ∙ low)
+      | Greater ↦ λ e _.
+          let up : slice_cmp nat_cmp to key ≡ Less = o.antisymm to key ∙ ap ordering_reverse e in
+          ap is_lt (o.trans w to key low up)
+    ]) refl high
+
+-- and one that doesn't leaves out already what isn't before that
+pub ends_already : (w key : List ℕ) (to : Option (List ℕ)) (from : Bool) → ends_before to key ≡ false → (from && ends_before to w) ≡ ((from && ends_before to w) && is_lt (slice_cmp nat_cmp w key))
+ends_already w key None from high = absurd (true≢false high)
+ends_already w key (Some to) from high =
+    (elim (is_lt (slice_cmp nat_cmp w to)) as (λ b. is_lt (slice_cmp nat_cmp w to) ≡ b → (from && b) ≡ ((from && b) && is_lt (slice_cmp nat_cmp w key))) [
+      | true ↦ λ at. sym (ap (λ b. (from && true) && b) (not_before w key to high at) ∙ and_true (from && true))
+      | false ↦ λ _. and_false from ∙ sym (ap (λ b. b && is_lt (slice_cmp nat_cmp w key)) (and_false from))
+    ]) refl

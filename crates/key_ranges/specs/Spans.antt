@@ -48,6 +48,10 @@ entries_within t span = filter (λ e. holds span e.0) (walk t)
 abbrev pub HoldsBehind : KeySpan → KeySpan → List ℕ → Type 0
 HoldsBehind old new key = (w : List ℕ) → holds new w ≡ (holds old w && is_gt (slice_cmp nat_cmp w key))
 
+-- or before it
+abbrev pub HoldsBefore : KeySpan → KeySpan → List ℕ → Type 0
+HoldsBefore old new key = (w : List ℕ) → holds new w ≡ (holds old w && is_lt (slice_cmp nat_cmp w key))
+
 -- a range holds the paths that begin with a prefix
 abbrev pub HoldsPrefixed : KeySpan → List ℕ → Type 0
 HoldsPrefixed span prefix = (w : List ℕ) → IsPath w → holds span w ≡ starts_with nat_eq w prefix

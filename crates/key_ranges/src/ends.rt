@@ -44,3 +44,13 @@ pub(crate) fn end_of<A: Allocator + Copy>(
         Bound::Unbounded => Ok(None),
     }
 }
+
+/// Whether a byte string comes before an end, if there is one.
+pub(crate) fn comes_before<A: Allocator>(key: &[u8], end: &Option<Vec<u8, A>>) -> bool
+    ensures { result ≡ ends_before (option_map (λ to. to.items) end.now) key.now }
+{
+    match end {
+        Some(to) => key.cmp(to.as_slice()).is_lt(),
+        None => true,
+    }
+}

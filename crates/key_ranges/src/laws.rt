@@ -1,8 +1,8 @@
 //! Which entries of a tree are in a range.
 
 ghost use Rattle.std.specs.Prelude.{◌++◌, ◌∷◌, ◌≡◌, Bool, filter, List, nat_eq, ℕ};
-ghost use Rattle.key_ranges.specs.Words.{entries_within, Entry, holds, HoldsBehind, HoldsPrefixed};
-ghost use Rattle.key_ranges.specs.Words.{IsAscending, IsSound, KeySpan, starts_with, Tree, walk};
+ghost use Rattle.key_ranges.specs.Words.{entries_within, Entry, holds, HoldsBefore, HoldsBehind};
+ghost use Rattle.key_ranges.specs.Words.{HoldsPrefixed, IsAscending, IsSound, KeySpan, starts_with, Tree, walk};
 
 /// A range has the entries at whose keys a test holds, if that test says what the range holds: as the clause of [`KeyRange::between`] does.
 ///
@@ -25,4 +25,12 @@ pub fn pages_join()
     //  last one's key has exactly these others.
     ensures { (tree : Tree) (old new : KeySpan) (page : List Entry) (last : Entry) (rest : List Entry) → IsAscending tree.children → HoldsBehind old new last.0
         → entries_within tree old ≡ page ++ last ∷ rest → entries_within tree new ≡ rest }
+{}
+
+/// Pages join backwards too: a range that goes back before the first entry of a page has exactly the entries that were left before it.
+pub fn pages_join_backwards()
+    //= If labels ascend, and the entries of a range are some, the first one of a page and its others, then the range that goes back before
+    //  that first one's key has exactly those before it.
+    ensures { (tree : Tree) (old new : KeySpan) (rest : List Entry) (first : Entry) (page : List Entry) → IsAscending tree.children → HoldsBefore old new first.0
+        → entries_within tree old ≡ rest ++ first ∷ page → entries_within tree new ≡ rest }
 {}

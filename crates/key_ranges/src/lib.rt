@@ -7,5 +7,7 @@ mod laws;
 mod prefix;
 mod range;
 
-pub use laws::{pages_join, prefix_ranges_have_their_entries, ranges_have_what_they_hold};
+pub use laws::{
+    pages_join, pages_join_backwards, prefix_ranges_have_their_entries, ranges_have_what_they_hold,
+};
 pub use range::KeyRange;

@@ -1,10 +1,10 @@
 //! Ranges of byte strings.
 
 ghost use Rattle.std.specs.Prelude.{◌&&◌, ◌≡◌, IfOk, List, OnErr, OnOk, option_map, ℕ};
-ghost use Rattle.key_ranges.specs.Words.{bound_map, follows_start, holds, HoldsBehind};
-ghost use Rattle.key_ranges.specs.Words.{HoldsPrefixed, KeySpan, precedes_stop, span_code};
+ghost use Rattle.key_ranges.specs.Words.{bound_map, follows_start, holds, HoldsBefore};
+ghost use Rattle.key_ranges.specs.Words.{HoldsBehind, HoldsPrefixed, KeySpan, precedes_stop, span_code};
 
-use crate::ends::{behind, end_of, start_of};
+use crate::ends::{behind, comes_before, end_of, start_of};
 use crate::prefix::behind_prefix;
 use std::alloc::{AllocError, Allocator};
 use std::marker::Model;
@@ -88,6 +88,31 @@ impl<A: Allocator + Copy> KeyRange<A> {
             return Ok(());
         }
         self.from = behind(*self.from.allocator(), key)?;
+        Ok(())
+    }
+
+    /// Leaves out what isn't before a byte string: so the range goes on backwards, before the first one that was seen.
+    ///
+    /// ```
+    /// let mut range = KeyRange::with_prefix(rt.alloc(), b"ne")?;
+    /// range.go_back_before(b"net")?;
+    /// assert_eq!(rt; range.to(), Some(b"net".as_slice()));
+    /// ```
+    ///
+    /// # Errors
+    /// An allocation was refused. Then the range is what it was.
+    pub fn go_back_before(&mut self, key: &[u8]) -> Result<(), AllocError>
+        //= A range that goes back before a byte string holds what it held that comes before it.
+        ensures before { OnOk result (HoldsBefore self.old self.new key.now) }
+
+        //= If an allocation is refused, it is what it was.
+        ensures refused { OnErr result (self.new ≡ self.old) }
+    {
+        if !comes_before(key, &self.to) {
+            return Ok(());
+        }
+        let to = Vec::from_slice(*self.from.allocator(), key)?;
+        self.to = Some(to);
         Ok(())
     }
 }
