@@ -320,11 +320,11 @@ swap_step p q e es true false p_is q_is more =
     more ∙ sym (ap (λ b. cond b (e ∷ filter (λ x. q x.0) (filter (λ x. p x.0) es)) (filter (λ x. q x.0) (filter (λ x. p x.0) es))) q_is)
 swap_step p q e es false false p_is q_is more = more
 
-either_first : (p q : List ℕ → Bool) (es : List Entry) → filter (λ e. p e.0) (filter (λ e. q e.0) es) ≡ filter (λ e. q e.0) (filter (λ e. p e.0) es)
+pub either_first : (p q : List ℕ → Bool) (es : List Entry) → filter (λ e. p e.0) (filter (λ e. q e.0) es) ≡ filter (λ e. q e.0) (filter (λ e. p e.0) es)
 either_first p q [] = refl
 either_first p q (e ∷ es) = swap_step p q e es (p e.0) (q e.0) refl refl (either_first p q es)
 
-none_left : (test : List ℕ → Bool) (es : List Entry) → AllByRecursion (λ e. test e.0 ≡ false) es → filter (λ e. test e.0) es ≡ []
+pub none_left : (test : List ℕ → Bool) (es : List Entry) → AllByRecursion (λ e. test e.0 ≡ false) es → filter (λ e. test e.0) es ≡ []
 none_left test [] all = refl
 none_left test (e ∷ es) all = ap (λ b. cond b (e ∷ filter (λ x. test x.0) es) (filter (λ x. test x.0) es)) all.0 ∙ none_left test es all.1
 
