@@ -37,6 +37,7 @@ abbrev pub IsFirst : ByValue → Entry → List Entry → Type 0
 IsFirst order e [] = Unit {0}
 IsFirst order e (x ∷ xs) = (is_gt (entry_cmp order e x) ≡ false) × IsFirst order e xs
 
+-- no entry of a list comes before one that is ahead of it
 abbrev pub IsInOrder : ByValue → List Entry → Type 0
 IsInOrder order [] = Unit {0}
 IsInOrder order (x ∷ xs) = IsFirst order x xs × IsInOrder order xs
@@ -49,6 +50,7 @@ turn_of HighestFirst (pos n) = negsuc n
 turn_of HighestFirst (negsuc n) = pos n
 turn_of LowestFirst v = v
 
+-- an entry with its number in the place of its value, or the other way round
 abbrev pub turned_entry : ByValue → Entry → Entry
 turned_entry order e = (e.0, turn_of order e.1)
 
@@ -78,5 +80,6 @@ abbrev pub IsLast : ByValue → Entry → List Entry → Type 0
 IsLast order e [] = Unit {0}
 IsLast order e (x ∷ xs) = (is_gt (entry_cmp order x e) ≡ false) × IsLast order e xs
 
+-- an entry comes behind all that are kept
 abbrev pub FollowsAll : {A : Type 0} → Entry → List (ℤ × Vec ℕ A) → Type 0
 FollowsAll e kept = IsLast LowestFirst e (map found_entry kept)

@@ -29,12 +29,13 @@ ends_before (Some to) w = is_lt (slice_cmp nat_cmp w to)
 abbrev pub holds : KeySpan → List ℕ → Bool
 holds span w = is_ge (slice_cmp nat_cmp w span.from) && ends_before span.to w
 
--- whether a byte string doesn't come before the start of a range, and whether it doesn't come behind its end
+-- whether a byte string doesn't come before the start of a range
 abbrev pub follows_start : Bound (List ℕ) → List ℕ → Bool
 follows_start (Included key) w = is_ge (slice_cmp nat_cmp w key)
 follows_start (Excluded key) w = is_gt (slice_cmp nat_cmp w key)
 follows_start Unbounded w = true
 
+-- whether it doesn't come behind the end of a range
 abbrev pub precedes_stop : Bound (List ℕ) → List ℕ → Bool
 precedes_stop (Included key) w = is_le (slice_cmp nat_cmp w key)
 precedes_stop (Excluded key) w = is_lt (slice_cmp nat_cmp w key)
@@ -56,12 +57,14 @@ HoldsBefore old new key = (w : List ℕ) → holds new w ≡ (holds old w && is_
 abbrev pub HoldsPrefixed : KeySpan → List ℕ → Type 0
 HoldsPrefixed span prefix = (w : List ℕ) → IsPath w → holds span w ≡ starts_with nat_eq w prefix
 
--- the first byte string behind all that begin with a prefix, if there is one: the prefix without the highest bytes at its end, and the
--- byte before them raised by one
+-- a byte put ahead of what comes behind all that begin with the bytes behind it; where nothing does, the byte is raised by one, unless it is
+-- the highest
 abbrev pub raise_last : ℕ → Option (List ℕ) → Option (List ℕ)
 raise_last byte None = if byte == 255 then None else Some ((byte + 1) ∷ [])
 raise_last byte (Some rest) = Some (byte ∷ rest)
 
+-- the first byte string behind all that begin with a prefix, if there is one: the prefix without the highest bytes at its end, and with the
+-- byte before them raised by one
 abbrev pub successor : List ℕ → Option (List ℕ)
 successor [] = None
 successor (byte ∷ prefix) = raise_last byte (successor prefix)
