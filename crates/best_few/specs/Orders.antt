@@ -28,7 +28,7 @@ abbrev pub sort_by_value : ByValue → List Entry → List Entry
 sort_by_value order [] = []
 sort_by_value order (e ∷ es) = put_by_value order e (sort_by_value order es)
 
--- the first of them, so many at the most
+-- the first of some entries in order, so many at the most
 abbrev pub best : ByValue → ℕ → List Entry → List Entry
 best order most es = take most (sort_by_value order es)
 
@@ -58,7 +58,7 @@ turned_entry order e = (e.0, turn_of order e.1)
 abbrev pub found_entry : {A : Type 0} → ℤ × Vec ℕ A → Entry
 found_entry found = (found.1.items, found.0)
 
--- how they are compared
+-- which of two entries that are kept comes first
 abbrev pub kept_cmp : {A : Type 0} → ℤ × Vec ℕ A → ℤ × Vec ℕ A → Ordering
 kept_cmp a b = ordering_then (int_cmp a.0 b.0) (slice_cmp nat_cmp a.1.items b.1.items)
 
@@ -66,7 +66,7 @@ kept_cmp a b = ordering_then (int_cmp a.0 b.0) (slice_cmp nat_cmp a.1.items b.1.
 abbrev pub KeepsBest : {A : Type 0} → ℕ → List (ℤ × Vec ℕ A) → Entry → List (ℤ × Vec ℕ A) → Type 0
 KeepsBest most old e new = sort_by_value LowestFirst (map found_entry new) ≡ best LowestFirst most (e ∷ map found_entry old)
 
--- they are those that were kept and it
+-- after an entry more, those that are kept are those that were and it
 abbrev pub KeepsOneMore : {A : Type 0} → List (ℤ × Vec ℕ A) → Entry → List (ℤ × Vec ℕ A) → Type 0
 KeepsOneMore old e new = sort_by_value LowestFirst (map found_entry new) ≡ sort_by_value LowestFirst (e ∷ map found_entry old)
 

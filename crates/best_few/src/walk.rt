@@ -7,9 +7,10 @@ use std::alloc::AllocError;
 
 /// Gives entries one after another, and lends the key of the one that it gave last.
 pub trait EntryWalk {
-    /// The entries that are left, and the key that is lent.
+    /// The entries that are left.
     ghost left: { Self → List Entry };
 
+    /// The key that is lent.
     ghost held: { Self → List ℕ };
 
     /// Goes to the next entry, and returns its value: None if no entry is left.

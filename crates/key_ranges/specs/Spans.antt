@@ -35,7 +35,7 @@ follows_start (Included key) w = is_ge (slice_cmp nat_cmp w key)
 follows_start (Excluded key) w = is_gt (slice_cmp nat_cmp w key)
 follows_start Unbounded w = true
 
--- whether it doesn't come behind the end of a range
+-- whether a byte string doesn't come behind the end of a range
 abbrev pub precedes_stop : Bound (List ℕ) → List ℕ → Bool
 precedes_stop (Included key) w = is_le (slice_cmp nat_cmp w key)
 precedes_stop (Excluded key) w = is_lt (slice_cmp nat_cmp w key)
@@ -49,7 +49,7 @@ entries_within t span = filter (λ e. holds span e.0) (walk t)
 abbrev pub HoldsBehind : KeySpan → KeySpan → List ℕ → Type 0
 HoldsBehind old new key = (w : List ℕ) → holds new w ≡ (holds old w && is_gt (slice_cmp nat_cmp w key))
 
--- or before it
+-- a range holds what another one holds that comes before a byte string
 abbrev pub HoldsBefore : KeySpan → KeySpan → List ℕ → Type 0
 HoldsBefore old new key = (w : List ℕ) → holds new w ≡ (holds old w && is_lt (slice_cmp nat_cmp w key))
 
@@ -57,8 +57,8 @@ HoldsBefore old new key = (w : List ℕ) → holds new w ≡ (holds old w && is_
 abbrev pub HoldsPrefixed : KeySpan → List ℕ → Type 0
 HoldsPrefixed span prefix = (w : List ℕ) → IsPath w → holds span w ≡ starts_with nat_eq w prefix
 
--- a byte put ahead of what comes behind all that begin with the bytes behind it; where nothing does, the byte is raised by one, unless it is
--- the highest
+-- a byte ahead of what comes behind all that begin with the bytes behind it; where nothing does, the byte is raised by one, unless it
+-- is the highest
 abbrev pub raise_last : ℕ → Option (List ℕ) → Option (List ℕ)
 raise_last byte None = if byte == 255 then None else Some ((byte + 1) ∷ [])
 raise_last byte (Some rest) = Some (byte ∷ rest)

@@ -16,15 +16,15 @@ use Rattle.last_entries.specs.declared.near.Near.{Near}
 abbrev pub AscendByKeys : List Entry → Type 0
 AscendByKeys es = ArePathsAscending es × ArePathsKeys es
 
--- those at a byte string and after it
+-- the entries at a byte string and after it
 abbrev pub from_on : List ℕ → List Entry → List Entry
 from_on key es = filter (λ e. is_ge (slice_cmp nat_cmp e.0 key)) es
 
--- those behind a byte string
+-- the entries behind a byte string
 abbrev pub behind_key : List ℕ → List Entry → List Entry
 behind_key key es = filter (λ e. is_gt (slice_cmp nat_cmp e.0 key)) es
 
--- those before an end, or all if there is none
+-- the entries before an end, or all if there is none
 abbrev pub before_end : Option (List ℕ) → List Entry → List Entry
 before_end to es = filter (λ e. ends_before to e.0) es
 
@@ -60,7 +60,7 @@ pub record IsNearBy (es : List Entry) (key : List ℕ) (value : ℤ) (depth high
   pub low : depth < length key → get_or key depth 0 ≤ highest
   pub small : highest < 256
 
--- the same of a search under way
+-- what a search under way has found is near the last entry
 abbrev pub IsNear : {A : Type 0} → List Entry → Near A → Type 0
 IsNear es near = IsNearBy es near.key.items near.value near.depth near.highest
 
@@ -68,7 +68,7 @@ IsNear es near = IsNearBy es near.key.items near.value near.depth near.highest
 abbrev pub far : List Entry → List ℕ → ℕ → ℕ → ℕ
 far es key depth highest = 256 * (sum_by (λ e. length e.0 + 1) (behind_key key es) + (length key - depth)) + (highest - get_or key depth 0)
 
--- the same of a search under way
+-- how much is still to come of a search under way
 abbrev pub farness : {A : Type 0} → List Entry → Near A → ℕ
 farness es near = far es near.key.items near.depth near.highest
 

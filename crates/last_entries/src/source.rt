@@ -8,6 +8,7 @@ use std::alloc::{AllocError, Allocator};
 
 /// Entries whose keys ascend, of which the first one at a byte string or after it can be found.
 pub trait Ascending {
+    /// All entries.
     ghost entries: { Self → List Entry };
 
     /// The value of the first entry whose key is at a byte string or after it: its key is written into a buffer, instead of what that held.
