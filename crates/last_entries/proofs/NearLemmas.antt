@@ -1,5 +1,5 @@
 -- How a search comes nearer to the last of some entries.
-use Rattle.std.proofs.Common.{◌≡◌, ℕ, zero, suc, ◌+◌, ◌-◌, ◌*◌, ◌<◌, ◌≤◌, ◌⊎◌, inl, inr, Bool, true, false, cond, ℤ, List, [], ◌∷◌, ◌++◌, length, take, drop, get_or, map, None, Option, Some, refl, sym, ap, ◌∙◌, subst, arith}
+use Rattle.std.proofs.Common.{◌≡◌, ℕ, zero, suc, ◌+◌, ◌-◌, ◌<◌, ◌≤◌, inl, inr, Bool, true, false, cond, ℤ, List, [], ◌∷◌, ◌++◌, length, take, drop, get_or, None, Option, Some, refl, sym, ap, ◌∙◌, subst, arith}
 use Rattle.std.specs.Prelude.{filter}
 use Rattle.std.specs.Cmp.Lexicographic.{slice_cmp}
 use Rattle.std.specs.List.{AllByRecursion, sum_by}
@@ -9,7 +9,7 @@ use Rattle.std.proofs.lemmas.Bool.{true≢false}
 use Rattle.std.proofs.lemmas.Cmp.{nat_cmp_total, nat_list_cmp_total, tied_itself}
 use Rattle.std.proofs.lemmas.List.{length-take-le, take_all, take_more}
 use Rattle.std.proofs.lemmas.List.Sums.{sum_by-cons}
-use Rattle.cedar_tree.specs.Laws.{ArePathsAscending, ArePathsKeys}
+use Rattle.cedar_tree.specs.Laws.{ArePathsKeys}
 use Rattle.cedar_tree.specs.Queries.{Entry}
 use Rattle.cedar_tree.specs.Tree.{IsKey, IsPath}
 use Rattle.key_ranges.specs.Spans.{ends_before}
@@ -145,9 +145,10 @@ no_higher : (front : List ℕ) (es : List Entry) → AllByRecursion (λ e. IsPat
 no_higher front [] paths all = tt
 no_higher front (e ∷ es) paths all =
     let rest = all.0.0 in
-    let is = all.0.1 in
-    (ap (λ w. slice_cmp nat_cmp w (front ++ 256 ∷ [])) is ∙ same_front front rest (256 ∷ []) ∙ below_all rest (path_behind front rest (subst IsPath is paths.0)),
-      no_higher front es paths.1 all.1)
+    let is = all.0.1 in (
+      ap (λ w. slice_cmp nat_cmp w (front ++ 256 ∷ [])) is ∙ same_front front rest (256 ∷ []) ∙ below_all rest (path_behind front rest (subst IsPath is paths.0)),
+      no_higher front es paths.1 all.1,
+    )
 
 -- ---- the steps of a search
 
@@ -175,21 +176,22 @@ one_deeper w key d highest within is front before behind =
     let rest = front.0 in
     let parted : key ≡ take d key ++ c ∷ drop (d + 1) key = apart d key ∙ ap (λ zs. take d key ++ zs) (byte_apart d key within) in
     let low : slice_cmp nat_cmp rest ((c + 1) ∷ []) ≡ Less =
-      ap (λ n. slice_cmp nat_cmp rest ((n + 1) ∷ [])) is
-      ∙ sym (same_front (take d key) rest ((highest + 1) ∷ []))
-      ∙ sym (ap (λ z. slice_cmp nat_cmp z (take d key ++ (highest + 1) ∷ [])) front.1)
-      ∙ before in
+    ap (λ n. slice_cmp nat_cmp rest ((n + 1) ∷ [])) is
+    ∙ sym (same_front (take d key) rest ((highest + 1) ∷ []))
+    ∙ sym (ap (λ z. slice_cmp nat_cmp z (take d key ++ (highest + 1) ∷ [])) front.1)
+    ∙ before in
     let high : is_gt (slice_cmp nat_cmp rest (c ∷ drop (d + 1) key)) ≡ true =
-      ap is_gt (sym (same_front (take d key) rest (c ∷ drop (d + 1) key)))
-      ∙ sym (ap (λ z. is_gt (slice_cmp nat_cmp z (take d key ++ c ∷ drop (d + 1) key))) front.1)
-      ∙ sym (ap (λ z. is_gt (slice_cmp nat_cmp w z)) parted)
-      ∙ behind in
-    let byte = has_byte c (drop (d + 1) key) rest high low in
-    (byte.0,
+    ap is_gt (sym (same_front (take d key) rest (c ∷ drop (d + 1) key)))
+    ∙ sym (ap (λ z. is_gt (slice_cmp nat_cmp z (take d key ++ c ∷ drop (d + 1) key))) front.1)
+    ∙ sym (ap (λ z. is_gt (slice_cmp nat_cmp w z)) parted)
+    ∙ behind in
+    let byte = has_byte c (drop (d + 1) key) rest high low in (
+      byte.0,
       front.1
-      ∙ ap (λ zs. take d key ++ zs) byte.1
-      ∙ joined_again (take d key) c byte.0
-      ∙ ap (λ zs. zs ++ byte.0) (sym (take_more key d 0 within)))
+          ∙ ap (λ zs. take d key ++ zs) byte.1
+          ∙ joined_again (take d key) c byte.0
+          ∙ ap (λ zs. zs ++ byte.0) (sym (take_more key d 0 within)),
+    )
 
 all_deeper : (es : List Entry) (key : List ℕ) (d highest : ℕ) → d < length key → get_or key d 0 ≡ highest → AllByRecursion (λ e. GoesOnFrom (take d key) e.0) es
     → AllByRecursion (λ e. slice_cmp nat_cmp e.0 (take d key ++ (highest + 1) ∷ []) ≡ Less) es → AllByRecursion (λ e. is_gt (slice_cmp nat_cmp e.0 key) ≡ true) es → AllByRecursion (λ e. GoesOnFrom (take (d + 1) key) e.0) es
@@ -239,9 +241,9 @@ further es key value d highest b g v rest near before is =
     let long : length (take d key) ≡ d = length-take-le d key near.within in
     let same_take : take d g ≡ take d key = ap (take d) front.1 ∙ take_of_front (take d key) front.0 d long in
     let from : is_ge (slice_cmp nat_cmp front.0 (b ∷ [])) ≡ true =
-      ap is_ge (sym (same_front (take d key) front.0 (b ∷ []))) ∙ sym (ap (λ z. is_ge (slice_cmp nat_cmp z x)) front.1) ∙ first.1 in
+    ap is_ge (sym (same_front (take d key) front.0 (b ∷ []))) ∙ sym (ap (λ z. is_ge (slice_cmp nat_cmp z x)) front.1) ∙ first.1 in
     let low : slice_cmp nat_cmp front.0 ((highest + 1) ∷ []) ≡ Less =
-      sym (same_front (take d key) front.0 ((highest + 1) ∷ [])) ∙ sym (ap (λ z. slice_cmp nat_cmp z (take d key ++ (highest + 1) ∷ [])) front.1) ∙ under in
+    sym (same_front (take d key) front.0 ((highest + 1) ∷ [])) ∙ sym (ap (λ z. slice_cmp nat_cmp z (take d key ++ (highest + 1) ∷ [])) front.1) ∙ under in
     let byte = has_some_byte b highest front.0 from low in
     let here : get_or g d 0 ≡ get_or front.0 0 0 = ap (λ z. get_or z d 0) front.1 ∙ byte_of_front (take d key) front.0 d long in
     let all_long : length g ≡ length (take d key) + length front.0 = ap length front.1 ∙ length_of_front (take d key) front.0 in

@@ -1,12 +1,11 @@
 -- Byte strings that begin with the same bytes, and what comes behind them.
-use Rattle.std.proofs.Common.{◌≡◌, ℕ, zero, suc, ◌+◌, ◌-◌, ◌<◌, ◌≤◌, true, false, List, [], ◌∷◌, ◌++◌, length, take, drop, get_or, refl, sym, ap, ◌∙◌, subst, arith}
+use Rattle.std.proofs.Common.{◌≡◌, ℕ, zero, suc, ◌+◌, ◌<◌, ◌≤◌, true, false, List, [], ◌∷◌, ◌++◌, length, take, drop, get_or, refl, sym, ap, ◌∙◌, arith}
 use Rattle.std.specs.Cmp.Lexicographic.{slice_cmp}
 use Rattle.std.specs.Ordering.{is_ge, is_gt, is_lt, nat_cmp, ordering_reverse, ordering_then}
 use Rattle.std.specs.declared.cmp.Ordering.{Ordering}
 use Rattle.std.specs.declared.cmp.Ordering.TheVariants.{Equal, Greater, Less}
 use Rattle.std.proofs.lemmas.Bool.{true≢false}
-use Rattle.std.proofs.lemmas.Cmp.{alike_right, by_ranked, nat_cmp_total, nat_list_cmp_total, ranked, tied_itself}
-use Rattle.std.proofs.lemmas.List.{take_more}
+use Rattle.std.proofs.lemmas.Cmp.{by_ranked, nat_cmp_total, nat_list_cmp_total, ranked, tied_itself}
 use Rattle.cedar_tree.specs.Tree.{IsPath}
 use Rattle.last_entries.specs.Nearness.{GoesOnFrom}
 
@@ -73,10 +72,10 @@ has_byte c rest (x ∷ xs) behind low =
     (λ e _. absurd (true≢false (sym (sym (ap (λ o. is_gt (ordering_then o (slice_cmp nat_cmp xs rest))) e) ∙ behind))))
     (λ _ same. (xs, ap (λ b. b ∷ xs) same))
     (λ _ high.
-      by_ranked (x < c + 1) (x ≡ c + 1) (c + 1 < x) (nat_cmp x (c + 1)) (ranked x (c + 1) (nat_cmp x (c + 1)) refl)
-      (λ _ less. absurd (omega (arith, high, less)))
-      (λ e _. absurd (true≢false (ap is_lt (sym low ∙ ap (λ o. ordering_then o (slice_cmp nat_cmp xs [])) e) ∙ not_below xs)))
-      (λ e _. absurd (true≢false (ap is_lt (sym low ∙ ap (λ o. ordering_then o (slice_cmp nat_cmp xs [])) e)))))
+    by_ranked (x < c + 1) (x ≡ c + 1) (c + 1 < x) (nat_cmp x (c + 1)) (ranked x (c + 1) (nat_cmp x (c + 1)) refl)
+    (λ _ less. absurd (omega (arith, high, less)))
+    (λ e _. absurd (true≢false (ap is_lt (sym low ∙ ap (λ o. ordering_then o (slice_cmp nat_cmp xs [])) e) ∙ not_below xs)))
+    (λ e _. absurd (true≢false (ap is_lt (sym low ∙ ap (λ o. ordering_then o (slice_cmp nat_cmp xs [])) e)))))
   where
     not_below : (w : List ℕ) → is_lt (slice_cmp nat_cmp w []) ≡ false
     not_below [] = refl

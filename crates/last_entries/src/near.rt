@@ -95,11 +95,7 @@ fn wider<S: Ascending, A: Allocator + Copy>(
 }
 
 /// Some bytes and one more.
-fn joined<A: Allocator + Copy>(
-    alloc: A,
-    bytes: &[u8],
-    byte: u8,
-) -> Result<Vec<u8, A>, AllocError>
+fn joined<A: Allocator + Copy>(alloc: A, bytes: &[u8], byte: u8) -> Result<Vec<u8, A>, AllocError>
     ensures { IfOk result (λ all. all.items ≡ bytes.now ++ byte ∷ []) }
 {
     let mut all = Vec::with_capacity(alloc, bytes.len() + 1)?;

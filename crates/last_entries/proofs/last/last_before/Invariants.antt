@@ -1,4 +1,4 @@
-use Rattle.std.proofs.Common.{ℕ, List, Option, option_map, Bor}
+use Rattle.std.proofs.Common.{ℕ, List, option_map, Bor}
 use Rattle.last_entries.specs.Nearness.{before_end, farness, IsNear}
 use Rattle.last_entries.proofs.last.last_before.Given as goal
 

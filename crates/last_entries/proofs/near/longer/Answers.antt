@@ -1,6 +1,6 @@
-use Rattle.std.proofs.Common.{rules, ◌≡◌, ◌<◌, ◌++◌, ◌∷◌, [], ℕ, ℤ, List, length, None, Option, option_map, Some, ap, sym, subst, ◌∙◌, Bor, FitsSigned, to_z, of_z, w32}
+use Rattle.std.proofs.Common.{rules, ◌≡◌, ◌++◌, ◌∷◌, [], ℕ, ℤ, List, length, Option, option_map, Some, ap, sym, subst, ◌∙◌, Bor, FitsSigned, to_z, of_z, w32}
 use Rattle.std.proofs.lemmas.Int.{to_z-of_z}
-use Rattle.last_entries.specs.Nearness.{before_end, far, from_on, IsFirstOf, IsNearBy}
+use Rattle.last_entries.specs.Nearness.{before_end, from_on, IsFirstOf, IsNearBy}
 use Rattle.last_entries.proofs.NearLemmas.{longer_ends, longer_finds}
 use Rattle.last_entries.proofs.near.longer.Goals as goal
 

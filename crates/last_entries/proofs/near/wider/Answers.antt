@@ -1,4 +1,4 @@
-use Rattle.std.proofs.Common.{rules, ◌≡◌, ◌+◌, ◌-◌, ◌<◌, ◌≤◌, ◌++◌, ◌∷◌, [], ℕ, ℤ, List, length, take, get_or, Option, option_map, Some, ap, sym, subst, ◌∙◌, arith, Bor, FitsSigned, to_z, of_z, w32}
+use Rattle.std.proofs.Common.{rules, ◌≡◌, ◌+◌, ◌<◌, ◌≤◌, ◌++◌, ◌∷◌, [], ℕ, ℤ, List, length, take, get_or, Option, option_map, Some, ap, sym, subst, ◌∙◌, arith, Bor, FitsSigned, to_z, of_z, w32}
 use Rattle.std.proofs.lemmas.Int.{to_z-of_z}
 use Rattle.std.proofs.lemmas.List.{get_or_default}
 use Rattle.last_entries.specs.Nearness.{before_end, from_on, IsFirstOf, IsNearBy}

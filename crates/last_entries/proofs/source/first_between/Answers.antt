@@ -1,6 +1,5 @@
-use Rattle.std.proofs.Common.{rules, ◌≡◌, ◌∷◌, [], ℕ, ℤ, List, true, false, None, Option, option_map, Some, ap, sym, subst, ◌∙◌, Bor, FitsSigned, to_z, of_z, w32}
+use Rattle.std.proofs.Common.{rules, ◌≡◌, ◌∷◌, [], ℕ, ℤ, List, true, false, Option, option_map, Some, ap, sym, subst, ◌∙◌, Bor, FitsSigned, to_z, of_z, w32}
 use Rattle.std.proofs.lemmas.Int.{to_z-of_z}
-use Rattle.cedar_tree.specs.Queries.{Entry}
 use Rattle.last_entries.specs.Nearness.{before_end, from_on, IsFirstOf}
 use Rattle.key_ranges.specs.Spans.{ends_before}
 use Rattle.last_entries.proofs.NearLemmas.{first_is_behind, first_is_between, none_between}

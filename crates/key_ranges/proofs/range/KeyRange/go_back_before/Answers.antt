@@ -1,4 +1,4 @@
-use Rattle.std.proofs.Common.{rules, ◌≡◌, ◌&&◌, ℕ, List, Bool, true, false, ap, sym, ◌∙◌, Option, option_map}
+use Rattle.std.proofs.Common.{rules, ◌≡◌, ◌&&◌, ℕ, List, true, false, ap, sym, ◌∙◌, Option, option_map}
 use Rattle.std.specs.Cmp.Lexicographic.{slice_cmp}
 use Rattle.std.specs.Ordering.{is_ge, is_lt, nat_cmp}
 use Rattle.key_ranges.specs.Spans.{ends_before}
