@@ -1,42 +1,16 @@
 //! The first and the last entry in a range.
 
 ghost use Rattle.std.specs.Prelude.{◌≡◌, Err, false, IfErr, IfOk, true};
-ghost use Rattle.cedar_complete.specs.Words.{entries_within, FromOn, IsHeadOf, IsLastOf, last_found};
-ghost use Rattle.cedar_complete.specs.Words.{walk};
+ghost use Rattle.cedar_complete.specs.Words.{entries_within, entry_told, IsHeadOf, IsLastOf};
+ghost use Rattle.cedar_complete.specs.Words.{unless_before};
 
 use crate::error::RangeError;
 use crate::ranges::entries_in;
-use cedarwood::{Layout, Trie};
+use crate::searched::Searched;
+use cedarwood::{Layout, RangeEntries, Trie, Walked};
 use key_ranges::KeyRange;
-use last_entries::{Ascending, last_before};
-use std::alloc::{AllocError, Allocator};
-
-/// A dictionary whose labels ascend, to look entries up in.
-#[derive(Drop)]
-struct Searched<'a, L: Layout, const SLOTS: usize, A: Allocator> {
-    trie: &'a Trie<L, SLOTS, A>,
-}
-
-impl<'a, L: Layout, const SLOTS: usize, A: Allocator + Copy> Ascending
-    for Searched<'a, L, SLOTS, A>
-{
-    ghost entries = { λ searched. walk searched.trie.now.state.tree };
-
-    fn first_since<B: Allocator>(
-        &self,
-        from: &[u8],
-        key: &mut Vec<u8, B>,
-    ) -> Result<Option<i32>, AllocError> {
-        // That labels ascend was asked before a search begins.
-        let Some(mut entries) = self.trie.entries_from_bytes(from) else {
-            return Err(AllocError);
-        };
-        match entries.next_into(key) {
-            Ok(found) => Ok(found),
-            Err(_) => Err(AllocError),
-        }
-    }
-}
+use last_entries::last_before;
+use std::alloc::Allocator;
 
 /// The first entry in a range: its value and its key, in memory from `alloc`; None if there is none. So the entry at a key or after it (the
 /// ceiling), or behind it, is that of a range that starts there.
@@ -56,16 +30,27 @@ pub fn first_in<L: Layout, const SLOTS: usize, A: Allocator + Copy, B: Allocator
     range: &KeyRange<B>,
 ) -> Result<Option<(i32, Vec<u8, B>)>, RangeError>
     //= The first entry in a range is the first one of its entries.
-    ensures found { IfOk result (λ found. IsHeadOf (entries_within trie.now.state.tree range.now) (last_found found)) }
+    ensures found { IfOk result (λ found. IsHeadOf (entries_within trie.now.state.tree range.now) (entry_told found)) }
 
-    //= Where labels don't ascend, the first and the last entry in a range aren't told, and that is the error; else only memory may be
-    //  lacking. [with refused; also last_in]
+    //= Where labels don't ascend, no entry of a range is told, and that is the error; else only memory may be lacking. [with refused; also
+    //  last_in, next_matching]
     ensures order { trie.now.state.ordered ≡ false → result ≡ Err RangeError.NotAscending }
     ensures refused { trie.now.state.ordered ≡ true → IfErr result (λ e. e ≡ RangeError.Memory) }
 {
-    let Some(mut entries) = entries_in(trie, range) else {
-        return Err(RangeError::NotAscending);
-    };
+    match entries_in(trie, range) {
+        Some(entries) => first_of(alloc, entries),
+        None => Err(RangeError::NotAscending),
+    }
+}
+
+/// The first of the entries that are left of a range.
+fn first_of<T: Walked, A: Allocator + Copy, B: Allocator + Copy>(
+    alloc: B,
+    mut entries: RangeEntries<'_, T, A>,
+) -> Result<Option<(i32, Vec<u8, B>)>, RangeError>
+    ensures found { IfOk result (λ found. IsHeadOf entries.entry (entry_told found)) }
+    ensures refused { IfErr result (λ e. e ≡ RangeError.Memory) }
+{
     let mut key = Vec::new(alloc);
     match entries.next_into(&mut key) {
         Ok(Some(value)) => Ok(Some((value, key))),
@@ -96,32 +81,43 @@ pub fn last_in<L: Layout, const SLOTS: usize, A: Allocator + Copy, B: Allocator 
     range: &KeyRange<B>,
 ) -> Result<Option<(i32, Vec<u8, B>)>, RangeError>
     //= The last entry in a range is the last one of its entries.
-    ensures found { IfOk result (λ found. IsLastOf (entries_within trie.now.state.tree range.now) (last_found found)) }
+    ensures found { IfOk result (λ found. IsLastOf (entries_within trie.now.state.tree range.now) (entry_told found)) }
 
     ensures order { trie.now.state.ordered ≡ false → result ≡ Err RangeError.NotAscending }
     ensures refused { trie.now.state.ordered ≡ true → IfErr result (λ e. e ≡ RangeError.Memory) }
 {
-    // Its clause says that the dictionary is valid.
-    let _ = trie.len();
-    if trie.entries_from_bytes(&[]).is_none() {
+    if !ascends(trie) {
         return Err(RangeError::NotAscending);
     }
+    // Its clause says that the dictionary is valid.
+    let _ = trie.len();
     let searched = Searched { trie };
     match last_before(alloc, &searched, range.to()) {
-        Ok(Some((value, key))) => Ok(unless_before(range.from(), value, key)),
-        Ok(None) => Ok(None),
+        Ok(found) => Ok(unless_before(range.from(), found)),
         Err(_) => Err(RangeError::Memory),
+    }
+}
+
+/// Whether a dictionary's labels ascend.
+pub(crate) fn ascends<L: Layout, const SLOTS: usize, A: Allocator + Copy>(
+    trie: &Trie<L, SLOTS, A>,
+) -> bool
+    ensures { result ≡ trie.now.state.ordered }
+{
+    match trie.entries_from_bytes(&[]) {
+        Some(_) => true,
+        None => false,
     }
 }
 
 /// An entry, unless its key comes before a byte string.
 fn unless_before<B: Allocator>(
     from: &[u8],
-    value: i32,
-    key: Vec<u8, B>,
+    found: Option<(i32, Vec<u8, B>)>,
 ) -> Option<(i32, Vec<u8, B>)>
-    ensures { FromOn from.now (key.items, value) (last_found result) }
+    ensures { entry_told result ≡ unless_before from.now (entry_told found) }
 {
+    let (value, key) = found?;
     if key.as_slice().cmp(from).is_lt() {
         return None;
     }

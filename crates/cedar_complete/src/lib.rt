@@ -1,4 +1,5 @@
-//! Completions as people type: the best few of a dictionary's entries, pages of them, and ranges with ends of any kind.
+//! Completions as people type: the best few of a dictionary's entries, pages of them, ranges with ends of any kind, and what an automaton
+//! accepts of them, such as what is an edit away.
 //!
 //! ```
 //! cedar.build(&[("net", 7), ("nest", 9), ("ten", 2)])?;
@@ -10,11 +11,14 @@
 mod best;
 mod ends;
 mod error;
+mod matching;
 mod ranges;
+mod searched;
 
 pub use best::{best_entries, best_with_prefix};
 pub use best_few::ByValue;
 pub use ends::{first_in, last_in};
 pub use error::RangeError;
 pub use key_ranges::KeyRange;
+pub use matching::next_matching;
 pub use ranges::entries_in;

@@ -108,13 +108,17 @@ behind_last (e ∷ page) last rest up =
     ap (λ b. cond b (e ∷ filter (λ x. is_gt (slice_cmp nat_cmp x.0 last.0)) (page ++ last ∷ rest)) (filter (λ x. is_gt (slice_cmp nat_cmp x.0 last.0)) (page ++ last ∷ rest))) before
     ∙ behind_last page last rest up.1
 
-pub pages_fit : (t : Tree) (old new : KeySpan) (page : List Entry) (last : Entry) (rest : List Entry) → IsAscending t.children → HoldsBehind old new last.0 → entries_within t old ≡ page ++ last ∷ rest → entries_within t new ≡ rest
-pages_fit t old new page last rest ascends on is =
-    let up : Rises (entries_within t old) = some_rise (holds old) (walk t) (rises (walk t) (walk_ascends t ascends)) in
-    same_tests (holds new) (λ w. holds old w && is_gt (slice_cmp nat_cmp w last.0)) (walk t) on
-    ∙ filter_twice (holds old) (λ w. is_gt (slice_cmp nat_cmp w last.0)) (walk t)
+-- of entries whose keys ascend, those behind one are left
+pub held_behind : (es : List Entry) (old new : KeySpan) (page : List Entry) (last : Entry) (rest : List Entry) → Rises es → HoldsBehind old new last.0
+    → filter (λ e. holds old e.0) es ≡ page ++ last ∷ rest → filter (λ e. holds new e.0) es ≡ rest
+held_behind es old new page last rest up on is =
+    same_tests (holds new) (λ w. holds old w && is_gt (slice_cmp nat_cmp w last.0)) es on
+    ∙ filter_twice (holds old) (λ w. is_gt (slice_cmp nat_cmp w last.0)) es
     ∙ ap (filter (λ e. is_gt (slice_cmp nat_cmp e.0 last.0))) is
-    ∙ behind_last page last rest (subst Rises is up)
+    ∙ behind_last page last rest (subst Rises is (some_rise (holds old) es up))
+
+pub pages_fit : (t : Tree) (old new : KeySpan) (page : List Entry) (last : Entry) (rest : List Entry) → IsAscending t.children → HoldsBehind old new last.0 → entries_within t old ≡ page ++ last ∷ rest → entries_within t new ≡ rest
+pages_fit t old new page last rest ascends on is = held_behind (walk t) old new page last rest (rises (walk t) (walk_ascends t ascends)) on is
 
 -- ---- pages backwards
 

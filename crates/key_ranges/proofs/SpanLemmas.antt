@@ -11,7 +11,7 @@ use Rattle.std.proofs.lemmas.Bool.Decides.{eqb_tells}
 use Rattle.std.proofs.lemmas.Cmp.{alike_right, by_ranked, nat_cmp_total, nat_list_cmp_total, ranked, tied_itself}
 use Rattle.std.proofs.lemmas.List.{take_more}
 use Rattle.cedar_tree.specs.Tree.{IsPath}
-use Rattle.key_ranges.specs.Spans.{ends_before, raise_last, successor}
+use Rattle.key_ranges.specs.Spans.{ends_before, follows_prefix, raise_last, successor}
 
 -- ---- two bytes
 
@@ -237,3 +237,64 @@ ends_already w key (Some to) from high =
       | true ↦ λ at. sym (ap (λ b. (from && true) && b) (not_before w key to high at) ∙ and_true (from && true))
       | false ↦ λ _. and_false from ∙ sym (ap (λ b. b && is_lt (slice_cmp nat_cmp w key)) (and_false from))
     ]) refl
+
+-- ---- past a prefix
+
+ge_from_gt : (o : Ordering) → is_gt o ≡ true → is_ge o ≡ true
+ge_from_gt Less h = absurd (true≢false (sym h))
+ge_from_gt Equal h = refl
+ge_from_gt Greater h = refl
+
+less_from_ge : (o : Ordering) → is_ge o ≡ false → o ≡ Less
+less_from_ge Less h = refl
+less_from_ge Equal h = absurd (true≢false h)
+less_from_ge Greater h = absurd (true≢false h)
+
+pub ge_is : (o : Ordering) → not (is_lt o) ≡ is_ge o
+ge_is Less = refl
+ge_is Equal = refl
+ge_is Greater = refl
+
+-- at what isn't before a byte string, or after it, nothing comes before that
+pub never_before : (w from next : List ℕ) → is_ge (slice_cmp nat_cmp from next) ≡ true → is_ge (slice_cmp nat_cmp w from) ≡ true → is_lt (slice_cmp nat_cmp w next) ≡ false
+never_before w from next high at =
+    (elim (is_lt (slice_cmp nat_cmp w next)) as (λ b. is_lt (slice_cmp nat_cmp w next) ≡ b → b ≡ false) [
+      | true ↦ λ low.
+          let less_from : is_lt (slice_cmp nat_cmp from next) ≡ false = lt_is (slice_cmp nat_cmp from next) ∙ ap not high in
+          absurd (true≢false (sym (not_before w from next less_from low) ∙ lt_is (slice_cmp nat_cmp w from) ∙ ap not at))
+      | false ↦ λ _. refl
+    ]) refl
+
+pub follows_is : (w prefix next : List ℕ) → successor prefix ≡ Some next → follows_prefix prefix w ≡ is_ge (slice_cmp nat_cmp w next)
+follows_is w prefix next is = ap (λ (to : Option (List ℕ)). not (ends_before to w)) is ∙ ge_is (slice_cmp nat_cmp w next)
+
+-- where nothing comes behind all that begin with a prefix, nothing is left
+pub past_all : (w prefix end : List ℕ) (from old : Bool) → successor prefix ≡ None → end ≡ [] → (from && is_lt (slice_cmp nat_cmp w end)) ≡ (old && follows_prefix prefix w)
+past_all w prefix end from old none is =
+    ap (λ e. from && is_lt (slice_cmp nat_cmp w e)) is
+    ∙ ap (λ b. from && b) (not_below_none w)
+    ∙ and_false from
+    ∙ sym (ap (λ (to : Option (List ℕ)). old && not (ends_before to w)) none ∙ and_false old)
+
+-- a start that already comes behind all of them stays
+pub past_already : (w prefix next from : List ℕ) (end : Bool) → successor prefix ≡ Some next → is_ge (slice_cmp nat_cmp from next) ≡ true
+    → (is_ge (slice_cmp nat_cmp w from) && end) ≡ ((is_ge (slice_cmp nat_cmp w from) && end) && follows_prefix prefix w)
+past_already w prefix next from end is high =
+    (elim (is_ge (slice_cmp nat_cmp w from)) as (λ b. is_ge (slice_cmp nat_cmp w from) ≡ b → (b && end) ≡ ((b && end) && follows_prefix prefix w)) [
+      | true ↦ λ at.
+          let passing : follows_prefix prefix w ≡ true = ap (λ (to : Option (List ℕ)). not (ends_before to w)) is ∙ ap not (never_before w from next high at) in
+          sym (ap (λ b. end && b) passing ∙ and_true end)
+      | false ↦ λ _. refl
+    ]) refl
+
+-- and one that doesn't gives way
+pub past_further : (w prefix next from : List ℕ) (end : Bool) → successor prefix ≡ Some next → is_ge (slice_cmp nat_cmp from next) ≡ false
+    → (is_ge (slice_cmp nat_cmp w next) && end) ≡ ((is_ge (slice_cmp nat_cmp w from) && end) && follows_prefix prefix w)
+past_further w prefix next from end is low =
+    (elim (is_ge (slice_cmp nat_cmp w next)) as (λ b. is_ge (slice_cmp nat_cmp w next) ≡ b → (b && end) ≡ ((is_ge (slice_cmp nat_cmp w from) && end) && b)) [
+      | true ↦ λ at.
+          let behind = ge_from_gt (slice_cmp nat_cmp w from) (behind_start w from next (less_from_ge (slice_cmp nat_cmp from next) low) at) in
+          sym (and_true (is_ge (slice_cmp nat_cmp w from) && end) ∙ ap (λ b. b && end) behind)
+      | false ↦ λ _. sym (and_false (is_ge (slice_cmp nat_cmp w from) && end))
+    ]) refl
+    ∙ sym (ap (λ b. (is_ge (slice_cmp nat_cmp w from) && end) && b) (follows_is w prefix next is))

@@ -1,5 +1,5 @@
 -- Ranges of byte strings in their order, and their ends.
-use Rattle.std.specs.Prelude.{◌≡◌, ℕ, ◌+◌, ◌==◌, Bool, true, ◌&&◌, if◌then◌else◌, List, [], ◌∷◌}
+use Rattle.std.specs.Prelude.{◌≡◌, ℕ, ◌+◌, ◌==◌, Bool, true, not, ◌&&◌, if◌then◌else◌, List, [], ◌∷◌}
 use Rattle.std.specs.Prelude.{filter, nat_eq, None, Option, Some}
 use Rattle.std.specs.Coded.{Coded, code_by, coded×, coded_ℕ, coded_list, coded_option}
 use Rattle.std.specs.Cmp.Lexicographic.{slice_cmp}
@@ -68,3 +68,11 @@ raise_last byte (Some rest) = Some (byte ∷ rest)
 abbrev pub successor : List ℕ → Option (List ℕ)
 successor [] = None
 successor (byte ∷ prefix) = raise_last byte (successor prefix)
+
+-- whether a byte string comes behind all that begin with a prefix
+abbrev pub follows_prefix : List ℕ → List ℕ → Bool
+follows_prefix prefix w = not (ends_before (successor prefix) w)
+
+-- a range holds what another one holds that comes behind all that begin with a prefix
+abbrev pub HoldsPast : KeySpan → KeySpan → List ℕ → Type 0
+HoldsPast old new prefix = (w : List ℕ) → holds new w ≡ (holds old w && follows_prefix prefix w)

@@ -2,7 +2,8 @@
 
 ghost use Rattle.std.specs.Prelude.{◌&&◌, ◌≡◌, IfOk, List, OnErr, OnOk, option_map, ℕ};
 ghost use Rattle.key_ranges.specs.Words.{bound_map, follows_start, holds, HoldsBefore};
-ghost use Rattle.key_ranges.specs.Words.{HoldsBehind, HoldsPrefixed, KeySpan, precedes_stop, span_code};
+ghost use Rattle.key_ranges.specs.Words.{HoldsBehind, HoldsPast, HoldsPrefixed, KeySpan};
+ghost use Rattle.key_ranges.specs.Words.{precedes_stop, span_code};
 
 use crate::ends::{behind, comes_before, end_of, start_of};
 use crate::prefix::behind_prefix;
@@ -88,6 +89,38 @@ impl<A: Allocator + Copy> KeyRange<A> {
             return Ok(());
         }
         self.from = behind(*self.from.allocator(), key)?;
+        Ok(())
+    }
+
+    /// Leaves out what doesn't come behind all byte strings that begin with a prefix: so the range goes past these at once.
+    ///
+    /// ```
+    /// let mut range = KeyRange::with_prefix(rt.alloc(), b"n")?;
+    /// range.go_past_prefix(b"ne")?;
+    /// assert_eq!(rt; range.from(), b"nf".as_slice());
+    /// ```
+    ///
+    /// # Errors
+    /// An allocation was refused. Then the range is what it was.
+    pub fn go_past_prefix(&mut self, prefix: &[u8]) -> Result<(), AllocError>
+        //= A range that goes past a prefix holds what it held that comes behind all byte strings that begin with the prefix. [by
+        //  follows_prefix]
+        ensures past { OnOk result (HoldsPast self.old self.new prefix.now) }
+
+        //= If an allocation is refused, it is what it was.
+        ensures refused { OnErr result (self.new ≡ self.old) }
+    {
+        let alloc = *self.from.allocator();
+        let Some(next) = behind_prefix(alloc, prefix)? else {
+            // Nothing comes behind them, and nothing comes before the empty byte string.
+            let nothing = Vec::new(alloc);
+            self.to = Some(nothing);
+            return Ok(());
+        };
+        if self.from.as_slice().cmp(next.as_slice()).is_ge() {
+            return Ok(());
+        }
+        self.from = next;
         Ok(())
     }
 

@@ -1,5 +1,6 @@
 -- The last entry in a range, by the last one before its end.
 use Rattle.std.proofs.Common.{◌≡◌, ℕ, ℤ, true, false, cond, List, [], ◌∷◌, ◌++◌, None, Option, Some, MatchOption, sym, ap, ◌∙◌, subst}
+use Rattle.std.specs.Prelude.{filter}
 use Rattle.std.specs.Cmp.Lexicographic.{slice_cmp}
 use Rattle.std.specs.List.{AllByRecursion}
 use Rattle.std.specs.Ordering.{is_ge, nat_cmp}
@@ -9,7 +10,7 @@ use Rattle.cedar_tree.specs.Queries.{Entry, walk}
 use Rattle.cedar_tree.specs.Tree.{IsAscending, IsSound, Tree}
 use Rattle.cedar_tree.proofs.EntryLemmas.Keys.{walk_keys}
 use Rattle.cedar_tree.proofs.WalkLemmas.{walk_ascends}
-use Rattle.key_ranges.specs.Spans.{ends_before, entries_within, KeySpan}
+use Rattle.key_ranges.specs.Spans.{ends_before, entries_within, holds, KeySpan}
 use Rattle.key_ranges.proofs.EntryRangeLemmas.{filter_twice, Rises, rises, some_rise}
 use Rattle.last_entries.specs.Nearness.{AscendByKeys, before_end, from_on, IsFirstOf}
 use Rattle.last_entries.proofs.NearLemmas.{either_first, none_left}
@@ -20,10 +21,10 @@ pub walk_listed : (t : Tree) → IsSound t → IsAscending t.children → Ascend
 walk_listed t sound ascends = (walk_ascends t ascends, walk_keys t sound)
 
 -- what is in a range is what is before its end, from its beginning on
-within_is : (t : Tree) (span : KeySpan) → entries_within t span ≡ from_on span.from (before_end span.to (walk t))
-within_is t span =
-    filter_twice (λ w. is_ge (slice_cmp nat_cmp w span.from)) (ends_before span.to) (walk t)
-    ∙ sym (either_first (λ w. is_ge (slice_cmp nat_cmp w span.from)) (ends_before span.to) (walk t))
+pub within_is : (span : KeySpan) (es : List Entry) → filter (λ e. holds span e.0) es ≡ from_on span.from (before_end span.to es)
+within_is span es =
+    filter_twice (λ w. is_ge (slice_cmp nat_cmp w span.from)) (ends_before span.to) es
+    ∙ sym (either_first (λ w. is_ge (slice_cmp nat_cmp w span.from)) (ends_before span.to) es)
 
 from_and_one : (from : List ℕ) (front : List Entry) (last : Entry) → is_ge (slice_cmp nat_cmp last.0 from) ≡ true → from_on from (front ++ last ∷ []) ≡ from_on from front ++ last ∷ []
 from_and_one from [] last at = ap (λ b. cond b (last ∷ []) []) at
@@ -45,18 +46,18 @@ none_from from (e ∷ es) last up low =
 
 pub last_told : (t : Tree) (span : KeySpan) (front : List Entry) (last : Entry) → before_end span.to (walk t) ≡ front ++ last ∷ [] → is_ge (slice_cmp nat_cmp last.0 span.from) ≡ true
     → (some : List Entry) × (entries_within t span ≡ some ++ last ∷ [])
-last_told t span front last is at = (from_on span.from front, within_is t span ∙ ap (from_on span.from) is ∙ from_and_one span.from front last at)
+last_told t span front last is at = (from_on span.from front, within_is span (walk t) ∙ ap (from_on span.from) is ∙ from_and_one span.from front last at)
 
 pub last_too_low : (t : Tree) (span : KeySpan) (front : List Entry) (last : Entry) → IsAscending t.children → before_end span.to (walk t) ≡ front ++ last ∷ [] → is_ge (slice_cmp nat_cmp last.0 span.from) ≡ false
     → entries_within t span ≡ []
 last_too_low t span front last ascends is low =
     let up : Rises (front ++ last ∷ []) = subst Rises is (some_rise (ends_before span.to) (walk t) (rises (walk t) (walk_ascends t ascends))) in
-    within_is t span
+    within_is span (walk t)
     ∙ ap (from_on span.from) is
     ∙ none_left (λ w. is_ge (slice_cmp nat_cmp w span.from)) (front ++ last ∷ []) (none_from span.from front last up (not_from (slice_cmp nat_cmp last.0 span.from) low))
 
 pub none_within : (t : Tree) (span : KeySpan) → before_end span.to (walk t) ≡ [] → entries_within t span ≡ []
-none_within t span is = within_is t span ∙ ap (from_on span.from) is
+none_within t span is = within_is span (walk t) ∙ ap (from_on span.from) is
 
 -- what a walk gives next is its first entry
 pub first_of : (es : List Entry) (key : List ℕ) (found : Option ℤ) (later : List Entry) → MatchOption found ((es ≡ []) × (later ≡ [])) (λ value. es ≡ (key, value) ∷ later) → IsFirstOf es key found

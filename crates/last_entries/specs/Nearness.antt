@@ -37,8 +37,8 @@ abbrev pub IsLastOf : List Entry → Option Entry → Type 0
 IsLastOf es found = MatchOption found (es ≡ []) (λ last. (front : List Entry) × (es ≡ front ++ last ∷ []))
 
 -- a value and a key as an entry
-abbrev pub last_found : {A : Type 0} → Option (ℤ × Vec ℕ A) → Option Entry
-last_found found = option_map (λ last. (last.1.items, last.0)) found
+abbrev pub entry_told : {A : Type 0} → Option (ℤ × Vec ℕ A) → Option Entry
+entry_told found = option_map (λ told. (told.1.items, told.0)) found
 
 -- ---- how it is found
 

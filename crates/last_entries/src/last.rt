@@ -1,7 +1,7 @@
 //! The last entry before an end.
 
 ghost use Rattle.std.specs.Prelude.{IfOk, option_map};
-ghost use Rattle.last_entries.specs.Words.{AscendByKeys, before_end, IsLastOf, last_found};
+ghost use Rattle.last_entries.specs.Words.{AscendByKeys, before_end, entry_told, IsLastOf};
 
 use crate::near::{Near, nearer};
 use crate::source::{Ascending, first_between};
@@ -20,7 +20,7 @@ pub fn last_before<S: Ascending, A: Allocator + Copy>(
     requires { AscendByKeys (S.entries source.now) }
 
     //= A search for the last entry finds the last one before an end, or of all, and returns None exactly if there is none.
-    ensures { IfOk result (λ found. IsLastOf (before_end (option_map (λ z. z.now) to.entry) (S.entries source.now)) (last_found found)) }
+    ensures { IfOk result (λ found. IsLastOf (before_end (option_map (λ z. z.now) to.entry) (S.entries source.now)) (entry_told found)) }
 {
     let mut key = Vec::new(alloc);
     let Some(value) = first_between(source, &[], to, &mut key)? else {

@@ -25,14 +25,21 @@ pub trait Ascending {
         ensures { IfOk result (IsFirstOf (from_on from.now (entries self.now)) key.new.items) };
 }
 
-/// The first entry at a byte string or after it, and before an end, if there is one.
-pub(crate) fn first_between<S: Ascending, A: Allocator>(
+/// The value of the first entry at a byte string or after it, and before an end, if there is one: its key is written into a buffer, instead
+/// of what that held. None if there is no such entry.
+///
+/// # Errors
+/// An allocation was refused. Then the buffer may hold anything.
+pub fn first_between<S: Ascending, A: Allocator>(
     source: &S,
     from: &[u8],
     to: Option<&[u8]>,
     key: &mut Vec<u8, A>,
 ) -> Result<Option<i32>, AllocError>
     requires { AscendByKeys (S.entries source.now) }
+
+    //= A look-up between two byte strings finds the first entry at the one or after it, and before the other, and returns None exactly if
+    //  there is none.
     ensures { IfOk result (IsFirstOf (from_on from.now (before_end (option_map (λ z. z.now) to.entry) (S.entries source.now))) key.new.items) }
 {
     let Some(value) = source.first_since(from, key)? else {

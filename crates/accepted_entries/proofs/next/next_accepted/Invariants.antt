@@ -1,0 +1,11 @@
+use Rattle.std.proofs.Common.{◌≡◌, length}
+use Rattle.accepted_entries.specs.Accepted.{accepted_in, entries_in_span}
+use Rattle.accepted_entries.proofs.next.next_accepted.Given as goal
+
+-- what is accepted is still in the range
+abbrev pub invariant-loop-key : goal.invariant-loop-key
+invariant-loop-key g l =
+    accepted_in (g.M.Automaton.accepts l.automaton) l.range (g.S.Ascending.entries l.source) ≡ accepted_in (g.M.Automaton.accepts l.automaton) l.initial.range (g.S.Ascending.entries l.source)
+
+abbrev pub decreases-loop-key : goal.decreases-loop-key
+decreases-loop-key g l = length (entries_in_span l.range (g.S.Ascending.entries l.source))
