@@ -32,7 +32,7 @@ sort_by_value order (e ∷ es) = put_by_value order e (sort_by_value order es)
 abbrev pub best : ByValue → ℕ → List Entry → List Entry
 best order most es = take most (sort_by_value order es)
 
--- no entry of a list comes before this one
+-- no entry of a list comes before another entry
 abbrev pub IsFirst : ByValue → Entry → List Entry → Type 0
 IsFirst order e [] = Unit {0}
 IsFirst order e (x ∷ xs) = (is_gt (entry_cmp order e x) ≡ false) × IsFirst order e xs
@@ -75,7 +75,7 @@ abbrev pub PrecedesLast : {A : Type 0} → Entry → List (ℤ × Vec ℕ A) →
 PrecedesLast e [] = ⊥
 PrecedesLast e (last ∷ kept) = is_lt (entry_cmp LowestFirst e (found_entry last)) ≡ true
 
--- no entry of a list comes behind this one
+-- no entry of a list comes behind another entry
 abbrev pub IsLast : ByValue → Entry → List Entry → Type 0
 IsLast order e [] = Unit {0}
 IsLast order e (x ∷ xs) = (is_gt (entry_cmp order x e) ≡ false) × IsLast order e xs

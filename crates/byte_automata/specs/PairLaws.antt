@@ -5,7 +5,7 @@ use Rattle.std.specs.Prelude.{fold}
 use Rattle.std.proofs.lemmas.Bool.{or_parts}
 use Rattle.byte_automata.specs.Pairs.{both_after}
 
--- their states after some bytes
+-- the states of two automata after some bytes
 pub both_run : {S R : Type 0} (f : S → ℕ → S) (g : R → ℕ → R) (s : S) (r : R) (read : List ℕ) → fold (both_after f g) (s, r) read ≡ (fold f s read, fold g r read)
 both_run f g s r [] = refl
 both_run f g s r (b ∷ read) = both_run f g (f s b) (g r b) read

@@ -236,7 +236,7 @@ pattern_tells pattern read =
     end_live pattern (fold (λ places. pattern_after pattern places false) (pattern_start pattern) read) (closed_run pattern (pattern_start pattern) read c)
     ∙ live_run pattern (pattern_start pattern) read [] c ∙ live_start pattern (read ++ []) ∙ ap (fits pattern) (append-nil read)
 
--- where there are none, nothing that goes on fits
+-- where there are no places, nothing that goes on fits
 pub pattern_prunes : (pattern read rest : List ℕ) → pattern_may (fold (λ places. pattern_after pattern places false) (pattern_start pattern) read) ≡ false → fits pattern (read ++ rest) ≡ false
 pattern_prunes pattern read rest h =
     let places = fold (λ places. pattern_after pattern places false) (pattern_start pattern) read in

@@ -17,23 +17,23 @@ fits (p ∷ pattern) (b ∷ bytes) =
 abbrev pub bit_of : Bool → ℕ
 bit_of b = cond b 1 0
 
--- those after one byte more, where `enters` says whether what is before the pattern leads to its first byte
+-- the places after one byte more, where `enters` says whether what is before the pattern leads to its first byte
 unfoldable pub pattern_after : List ℕ → ℕ → Bool → ℕ → ℕ
 pattern_after [] places enters byte = bit_of enters
 pattern_after (p ∷ pattern) places enters byte =
     if p == 42 then bit_of (places % 2 == 1 || enters) + 2 * pattern_after pattern (places / 2) (places % 2 == 1 || enters) byte
     else bit_of enters + 2 * pattern_after pattern (places / 2) (places % 2 == 1 && (p == 63 || p == byte)) byte
 
--- those before the first byte
+-- the places before the first byte
 unfoldable pub pattern_start : List ℕ → ℕ
 pattern_start [] = 1
 pattern_start (p ∷ pattern) = if p == 42 then 1 + 2 * pattern_start pattern else 1
 
--- whether the end is among them
+-- whether the end of a pattern is among some of its places
 unfoldable pub pattern_end : List ℕ → ℕ → Bool
 pattern_end [] places = places % 2 == 1
 pattern_end (p ∷ pattern) places = pattern_end pattern (places / 2)
 
--- whether there are any
+-- whether there is any place: if not, nothing that goes on fits
 abbrev pub pattern_may : ℕ → Bool
 pattern_may places = not (places == 0)

@@ -54,7 +54,7 @@ tells_from prefix (b ∷ read) n =
 pub prefix_tells : (prefix read : List ℕ) → prefix_ended prefix (fold (prefix_after prefix) (Some 0) read) ≡ begins_with prefix read
 prefix_tells prefix read = tells_from prefix read 0
 
--- where a byte differed, nothing that goes on does
+-- where a byte differed, nothing that goes on begins with the prefix
 pub prefix_prunes : (prefix read rest : List ℕ) → is_some (fold (prefix_after prefix) (Some 0) read) ≡ false → begins_with prefix (read ++ rest) ≡ false
 prefix_prunes prefix read rest h =
     let at = fold (prefix_after prefix) (Some 0) read in

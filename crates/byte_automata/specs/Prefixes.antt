@@ -14,7 +14,7 @@ prefix_after prefix None byte = None
 prefix_after prefix (Some read) byte =
     if nat_le (length prefix) read then Some read else if slice_index prefix read == byte then Some (read + 1) else None
 
--- whether all of it was
+-- whether all of a prefix was read
 abbrev pub prefix_ended : List ℕ → Option ℕ → Bool
 prefix_ended prefix None = false
 prefix_ended prefix (Some read) = nat_le (length prefix) read

@@ -117,7 +117,9 @@ fn unless_before<B: Allocator>(
 ) -> Option<(i32, Vec<u8, B>)>
     ensures { entry_told result ≡ unless_before from.now (entry_told found) }
 {
-    let (value, key) = found?;
+    let Some((value, key)) = found else {
+        return None;
+    };
     if key.as_slice().cmp(from).is_lt() {
         return None;
     }
