@@ -2,7 +2,9 @@
 
 ghost use Rattle.byte_automata.specs.Words.{ReadsCharacters};
 
-/// Says that the characters that [`WithinCharacters`](crate::WithinCharacters) reads of a text's bytes are those of the text.
+/// The characters that [`WithinCharacters`] reads of a text's bytes are those of the text.
+///
+/// [`WithinCharacters`]: crate::WithinCharacters
 pub fn characters_are_read()
     //= The characters that are read of a text in UTF-8 are those of the text.
     ensures { ReadsCharacters }

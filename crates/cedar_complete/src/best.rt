@@ -57,7 +57,9 @@ pub fn best_with_prefix<L: Layout, const SLOTS: usize, A: Allocator + Copy, B: A
 }
 
 /// The best of the entries that are left of a range, as `best_with_prefix` finds them: of all entries after [`Trie::entries_from_bytes`],
-/// of those between two keys after [`Trie::range_bytes`] or [`entries_in`](crate::entries_in).
+/// of those between two keys after [`Trie::range_bytes`], or of those in a range after [`entries_in`].
+///
+/// [`entries_in`]: crate::entries_in
 ///
 /// ```
 /// let entries = cedar.range_bytes(b"net", b"u").ok_or("ascending labels")?;

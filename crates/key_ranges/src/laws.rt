@@ -23,14 +23,12 @@ pub fn prefix_ranges_have_their_entries()
 pub fn pages_join()
     //= If labels ascend, and the entries of a range are those of a page, its last one and others, then the range that goes on after the
     //  last one's key has exactly these others.
-    ensures { (tree : Tree) (old new : KeySpan) (page : List Entry) (last : Entry) (rest : List Entry) → IsAscending tree.children → HoldsBehind old new last.0
-        → entries_within tree old ≡ page ++ last ∷ rest → entries_within tree new ≡ rest }
+    ensures { (tree : Tree) (old new : KeySpan) (page : List Entry) (last : Entry) (rest : List Entry) → IsAscending tree.children → HoldsBehind old new last.0 → entries_within tree old ≡ page ++ last ∷ rest → entries_within tree new ≡ rest }
 {}
 
 /// Pages join backwards too: a range that goes back before the first entry of a page has exactly the entries that were left before it.
 pub fn pages_join_backwards()
     //= If labels ascend, and the entries of a range are some, the first one of a page and its others, then the range that goes back before
     //  that first one's key has exactly those before it.
-    ensures { (tree : Tree) (old new : KeySpan) (rest : List Entry) (first : Entry) (page : List Entry) → IsAscending tree.children → HoldsBefore old new first.0
-        → entries_within tree old ≡ rest ++ first ∷ page → entries_within tree new ≡ rest }
+    ensures { (tree : Tree) (old new : KeySpan) (rest : List Entry) (first : Entry) (page : List Entry) → IsAscending tree.children → HoldsBefore old new first.0 → entries_within tree old ≡ rest ++ first ∷ page → entries_within tree new ≡ rest }
 {}
