@@ -3,7 +3,7 @@ use Rattle.std.proofs.Common.{◌≡◌, ◌⊎◌, ℕ, ◌+◌, ◌<◌, ◌�
 use Rattle.std.specs.Prelude.{filter, nat_eq}
 use Rattle.std.specs.Cmp.Lexicographic.{slice_cmp}
 use Rattle.std.specs.List.{AllByRecursion, starts_with}
-use Rattle.std.specs.Ordering.{is_ge, nat_cmp, ordering_reverse}
+use Rattle.std.specs.Ordering.{is_ge, is_gt, is_lt, nat_cmp, ordering_reverse}
 use Rattle.std.specs.declared.cmp.Ordering.TheVariants.{Less}
 use Rattle.std.proofs.lemmas.Bool.{and_parts, true≢false}
 use Rattle.std.proofs.lemmas.Bool.Decides.{eqb_tells}
@@ -12,12 +12,12 @@ use Rattle.cedar_tree.specs.Queries.{Entry}
 use Rattle.cedar_tree.specs.Tree.{IsPath}
 use Rattle.key_ranges.specs.Spans.{ends_before, follows_prefix, holds, HoldsBehind, HoldsPast, KeySpan, successor}
 use Rattle.key_ranges.proofs.EntryRangeLemmas.{filter_twice, held_behind, Rises, rises, same_tests, some_rise}
-use Rattle.key_ranges.proofs.SpanLemmas.{all_follow, ge_is, never_before, prefixed}
+use Rattle.key_ranges.proofs.SpanLemmas.{all_follow, before_both, ge_is, never_before, prefixed}
 use Rattle.last_entries.specs.Nearness.{AscendByKeys, before_end, from_on, GoesOnFrom}
 use Rattle.last_entries.proofs.EndLemmas.{within_is}
-use Rattle.last_entries.proofs.NearLemmas.{all_paths, some_of}
-use Rattle.last_entries.proofs.PathLemmas.{apart, same_front}
-use Rattle.accepted_entries.specs.Accepted.{accepted_in, entries_in_span, IsDeadEnd, PassesOver, SaysOf, verdict_of}
+use Rattle.last_entries.proofs.NearLemmas.{all_paths, first_passes, some_of}
+use Rattle.last_entries.proofs.PathLemmas.{apart, behind_both, gt_from_less, less_from_gt, same_front}
+use Rattle.accepted_entries.specs.Accepted.{accepted_in, entries_in_span, HoldsEnd, IsDeadEnd, PassesOver, SaysOf, verdict_of}
 
 -- ---- bytes that begin with others
 
@@ -162,6 +162,55 @@ passed_over accepts old new es key value rest listed is (inl behind) =
       omega (arith, many, fewer),
     )
 passed_over accepts old new es key value rest listed is (inr past) = past_front accepts old new es key value rest past.0 listed is past.2 past.3
+
+-- ---- what the range holds then
+
+pub end_of_itself : (span : KeySpan) → HoldsEnd span span
+end_of_itself span = record { within = λ w h. h; behind = λ v w _ _ h. h }
+
+-- a range that goes on behind a key, or past a prefix, holds the last part of what it held
+end_behind : (old now new : KeySpan) (key : List ℕ) → HoldsEnd old now → HoldsBehind now new key → HoldsEnd old new
+end_behind old now new key end on = record {
+  within = λ w h. end.within w (and_parts (holds now w) (is_gt (slice_cmp nat_cmp w key)) (sym (on w) ∙ h)).0;
+  behind = λ v w h up held.
+    let parts = and_parts (holds now v) (is_gt (slice_cmp nat_cmp v key)) (sym (on v) ∙ h) in
+    let still = end.behind v w parts.0 up held in
+    let further = behind_both key v w (less_from_gt key v parts.1) (gt_from_less v w up) in
+    on w ∙ (λ i. still i && further i);
+}
+
+follows_further : (prefix v w : List ℕ) → follows_prefix prefix v ≡ true → slice_cmp nat_cmp v w ≡ Less → follows_prefix prefix w ≡ true
+follows_further prefix v w h up =
+    (elim (ends_before (successor prefix) w) as (λ b. ends_before (successor prefix) w ≡ b → not b ≡ true) [
+      | true ↦ λ before. absurd (true≢false (sym h ∙ ap not (before_both v w (successor prefix) before (ap is_lt up))))
+      | false ↦ λ _. refl
+    ]) refl
+
+end_past : (old now new : KeySpan) (prefix : List ℕ) → HoldsEnd old now → HoldsPast now new prefix → HoldsEnd old new
+end_past old now new prefix end past = record {
+  within = λ w h. end.within w (and_parts (holds now w) (follows_prefix prefix w) (sym (past w) ∙ h)).0;
+  behind = λ v w h up held.
+    let parts = and_parts (holds now v) (follows_prefix prefix v) (sym (past v) ∙ h) in
+    let still = end.behind v w parts.0 up held in
+    let further = follows_further prefix v w parts.1 up in
+    past w ∙ (λ i. still i && further i);
+}
+
+pub end_over : (accepts : List ℕ → Bool) (old now new : KeySpan) (key : List ℕ) → HoldsEnd old now → PassesOver accepts key now new → HoldsEnd old new
+end_over accepts old now new key end (inl behind) = end_behind old now new key end behind.1
+end_over accepts old now new key end (inr past) = end_past old now new (take past.0 key) end past.3
+
+same_end : (a b c : Bool) → (a ≡ true → b ≡ true) → (c ≡ true → b ≡ true → a ≡ true) → (a && c) ≡ (b && c)
+same_end true b c f g = sym (ap (λ d. d && c) (f refl))
+same_end false true true f g = g refl refl
+same_end false true false f g = refl
+same_end false false c f g = refl
+
+-- so behind a key that it holds it holds all that there was
+pub behind_first : (old now new : KeySpan) (es : List Entry) (key : List ℕ) (value : ℤ) (rest : List Entry) → HoldsEnd old now → entries_in_span now es ≡ (key, value) ∷ rest → HoldsBehind now new key → HoldsBehind old new key
+behind_first old now new es key value rest end is on w =
+    let held : holds now key ≡ true = (first_passes (holds now) es (key, value) rest is).1 in
+    on w ∙ same_end (holds now w) (holds old w) (is_gt (slice_cmp nat_cmp w key)) (end.within w) (λ behind all. end.behind key w held (less_from_gt key w behind) all)
 
 -- ---- a key that was read to its end
 

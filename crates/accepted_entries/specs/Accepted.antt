@@ -1,7 +1,10 @@
 -- The entries in a range whose keys an automaton accepts.
 use Rattle.std.specs.Prelude.{◌≡◌, ◌⊎◌, ℕ, ◌≤◌, Bool, false, true, List, [], ◌∷◌, ◌++◌}
-use Rattle.std.specs.Prelude.{filter, length, MatchOption, Option, take}
+use Rattle.std.specs.Prelude.{filter, IfSome, length, MatchOption, Option, take}
 use Rattle.std.specs.Bool.{MatchBool}
+use Rattle.std.specs.Cmp.Lexicographic.{slice_cmp}
+use Rattle.std.specs.Ordering.{nat_cmp}
+use Rattle.std.specs.declared.cmp.Ordering.TheVariants.{Less}
 use Rattle.cedar_tree.specs.Queries.{Entry}
 use Rattle.key_ranges.specs.Spans.{holds, HoldsBehind, HoldsPast, KeySpan}
 use Rattle.accepted_entries.specs.declared.reading.Verdict.{Verdict}
@@ -19,11 +22,20 @@ accepted_in accepts span es = filter (λ e. accepts e.0) (entries_in_span span e
 abbrev pub GivesFirst : List Entry → Option Entry → List Entry → Type 0
 GivesFirst es found later = MatchOption found ((es ≡ []) × (later ≡ [])) (λ first. es ≡ first ∷ later)
 
+-- if an entry was found, a range holds what another one holds that comes behind its key
+abbrev pub GoesOnBehind : KeySpan → KeySpan → Option Entry → Type 0
+GoesOnBehind old new found = IfSome found (λ e. HoldsBehind old new e.0)
+
 -- ---- how it is found
 
 -- nothing passes a test that begins with these bytes
 abbrev pub IsDeadEnd : (List ℕ → Bool) → List ℕ → Type 0
 IsDeadEnd accepts front = (rest : List ℕ) → accepts (front ++ rest) ≡ false
+
+-- a range holds the last part of another one: no more than that, and with each byte string all that come behind it
+pub record HoldsEnd (old new : KeySpan) : Type 0 where
+  pub within : (w : List ℕ) → holds new w ≡ true → holds old w ≡ true
+  pub behind : (v w : List ℕ) → holds new v ≡ true → slice_cmp nat_cmp v w ≡ Less → holds old w ≡ true → holds new w ≡ true
 
 -- what is said of a key is what a test says
 abbrev pub SaysOf : (List ℕ → Bool) → List ℕ → Verdict → Type 0

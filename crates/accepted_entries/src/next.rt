@@ -2,7 +2,7 @@
 
 ghost use Rattle.std.specs.Prelude.{◌≡◌, IfOk, OnErr};
 ghost use Rattle.accepted_entries.specs.Words.{accepted_in, AscendByKeys, entry_told, GivesFirst};
-ghost use Rattle.accepted_entries.specs.Words.{LeavesKey};
+ghost use Rattle.accepted_entries.specs.Words.{GoesOnBehind, LeavesKey};
 
 use crate::reading::{Verdict, read_key};
 use byte_automata::Automaton;
@@ -29,6 +29,9 @@ pub fn next_accepted<S: Ascending, M: Automaton, A: Allocator + Copy>(
     //= A search for what an automaton accepts finds the first of the entries in a range whose keys it accepts; the others of these are
     //  still in the range. It returns None exactly if there is none, and then none is left. [by accepted_in]
     ensures found { IfOk result (λ found. GivesFirst (accepted_in (M.accepts automaton.now) range.old (S.entries source.now)) (entry_told found) (accepted_in (M.accepts automaton.now) range.new (S.entries source.now))) }
+
+    //= The range then holds exactly what it held that comes behind the key that was found. [by HoldsBehind]
+    ensures behind { IfOk result (λ found. GoesOnBehind range.old range.new (entry_told found)) }
 
     //= If an allocation is refused, all of them are still in the range.
     ensures refused { OnErr result (accepted_in (M.accepts automaton.now) range.new (S.entries source.now) ≡ accepted_in (M.accepts automaton.now) range.old (S.entries source.now)) }

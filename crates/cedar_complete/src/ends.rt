@@ -33,7 +33,7 @@ pub fn first_in<L: Layout, const SLOTS: usize, A: Allocator + Copy, B: Allocator
     ensures found { IfOk result (λ found. IsHeadOf (entries_within trie.now.state.tree range.now) (entry_told found)) }
 
     //= Where labels don't ascend, no entry of a range is told, and that is the error; else only memory may be lacking. [with refused; also
-    //  last_in, next_matching]
+    //  last_in, next_matching, best_matching]
     ensures order { trie.now.state.ordered ≡ false → result ≡ Err RangeError.NotAscending }
     ensures refused { trie.now.state.ordered ≡ true → IfErr result (λ e. e ≡ RangeError.Memory) }
 {

@@ -20,5 +20,5 @@ pub use best_few::ByValue;
 pub use ends::{first_in, last_in};
 pub use error::RangeError;
 pub use key_ranges::KeyRange;
-pub use matching::next_matching;
+pub use matching::{best_matching, next_matching};
 pub use ranges::entries_in;

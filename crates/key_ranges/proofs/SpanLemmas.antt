@@ -205,7 +205,7 @@ one_raised len prefix some within low = ap successor (last_apart len prefix some
 
 -- ---- further back
 
-before_both : (w key : List ℕ) (to : Option (List ℕ)) → ends_before to key ≡ true → is_lt (slice_cmp nat_cmp w key) ≡ true → ends_before to w ≡ true
+pub before_both : (w key : List ℕ) (to : Option (List ℕ)) → ends_before to key ≡ true → is_lt (slice_cmp nat_cmp w key) ≡ true → ends_before to w ≡ true
 before_both w key None low at = refl
 before_both w key (Some to) low at = ap is_lt (nat_list_cmp_total.trans w key to (less (slice_cmp nat_cmp w key) at) (less (slice_cmp nat_cmp key to) low))
 

@@ -56,7 +56,7 @@ some_of P test (e ∷ es) all = elim (test e.0) as (λ b. AllByRecursion P (cond
 ]
 
 -- what is first of what passes is one of all, and passes
-first_passes : (test : List ℕ → Bool) (es : List Entry) (g : Entry) (rest : List Entry) → filter (λ e. test e.0) es ≡ g ∷ rest → IsOneOf g es × (test g.0 ≡ true)
+pub first_passes : (test : List ℕ → Bool) (es : List Entry) (g : Entry) (rest : List Entry) → filter (λ e. test e.0) es ≡ g ∷ rest → IsOneOf g es × (test g.0 ≡ true)
 first_passes test [] g rest is = absurd (let long = ap length is in omega (arith, long))
 first_passes test (e ∷ es) g rest is =
     (elim (test e.0) as (λ b. test e.0 ≡ b → cond b (e ∷ filter (λ x. test x.0) es) (filter (λ x. test x.0) es) ≡ g ∷ rest → IsOneOf g (e ∷ es) × (test g.0 ≡ true)) [

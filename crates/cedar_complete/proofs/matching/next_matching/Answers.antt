@@ -18,6 +18,9 @@ next_accepted-requires g c =
 pub returns-in-Ok-clause-found : goal.returns-in-Ok-clause-found
 returns-in-Ok-clause-found g c = c.in-Ok.ensures.found
 
+pub returns-in-Ok-clause-behind : goal.returns-in-Ok-clause-behind
+returns-in-Ok-clause-behind g c = c.in-Ok.ensures.behind
+
 pub returns-in-Ok-clause-order : goal.returns-in-Ok-clause-order
 returns-in-Ok-clause-order g c =
     let up : c.ascends.result ≡ true = search rules in
