@@ -23,7 +23,7 @@ pub(crate) fn read_key<M: Automaton>(automaton: &M, key: &[u8]) -> Verdict
     let mut len = 0;
     while automaton.can_match(&state) {
         if len == key.len() {
-            return verdict(automaton.is_match(&state));
+            return verdict_of(automaton.is_match(&state));
         }
         state = automaton.step(&state, key[len]);
         len += 1;
@@ -32,7 +32,7 @@ pub(crate) fn read_key<M: Automaton>(automaton: &M, key: &[u8]) -> Verdict
 }
 
 /// What is said of a key that was read to its end.
-fn verdict(accepts: bool) -> Verdict
+fn verdict_of(accepts: bool) -> Verdict
     ensures { result ≡ verdict_of accepts }
 {
     if accepts {

@@ -12,7 +12,7 @@ use Rattle.last_entries.proofs.EndLemmas.{last_told, last_too_low, none_within}
 use Rattle.cedar_complete.specs.Ends.{unless_before}
 
 last_kept : (t : Tree) (span : KeySpan) (found : Option Entry) → IsAscending t.children → IsLastOf (before_end span.to (walk t)) found → IsLastOf (entries_within t span) (unless_before span.from found)
-last_kept t span None ascends none = none_within t span none
+last_kept t span None ascends is = none_within t span is
 last_kept t span (Some last) ascends is =
     let o = slice_cmp nat_cmp last.0 span.from in
     (elim (is_lt o) as (λ b. is_lt o ≡ b → IsLastOf (entries_within t span) (if b then None else Some last)) [

@@ -6,7 +6,7 @@ ghost use Rattle.cedar_complete.specs.Words.{unless_before};
 
 use crate::error::RangeError;
 use crate::ranges::entries_in;
-use crate::searched::Searched;
+use crate::look_ups::Searched;
 use cedarwood::{Layout, RangeEntries, Trie, Walked};
 use key_ranges::KeyRange;
 use last_entries::last_before;

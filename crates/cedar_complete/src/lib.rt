@@ -11,9 +11,9 @@
 mod best;
 mod ends;
 mod error;
+mod look_ups;
 mod matching;
 mod ranges;
-mod searched;
 
 pub use best::{best_entries, best_with_prefix};
 pub use best_few::ByValue;

@@ -7,7 +7,7 @@ ghost use Rattle.cedar_complete.specs.Words.{matches_within};
 
 use crate::ends::ascends;
 use crate::error::RangeError;
-use crate::searched::{FirstSince, Searched};
+use crate::look_ups::{FirstSince, Searched};
 use accepted_entries::next_accepted;
 use best_few::{ByValue, EntryWalk, best_of};
 use byte_automata::Automaton;

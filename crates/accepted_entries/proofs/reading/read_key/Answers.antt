@@ -15,7 +15,7 @@ returns-then-len-eq-len g c =
     let all : length key ≤ c.loop-state.len = search rules in
     let end = c.loop-state.invariant.1 ∙ ap (λ (l : List ℕ). fold after first l) (take_all c.loop-state.len key all) in
     let says : c.is_match.result ≡ g.M.Automaton.accepts m key = c.is_match.ensures ∙ ap (g.M.Automaton.matches m) end ∙ g.met.M.Automaton.tells m key in
-    subst (SaysOf (g.M.Automaton.accepts m) key) (sym c.verdict.ensures) (says_at_end (g.M.Automaton.accepts m) key c.is_match.result says)
+    subst (SaysOf (g.M.Automaton.accepts m) key) (sym c.verdict_of.ensures) (says_at_end (g.M.Automaton.accepts m) key c.is_match.result says)
 
 pub loop-state-preserved : goal.loop-state-preserved
 loop-state-preserved g c =

@@ -1,7 +1,7 @@
 use Rattle.std.proofs.Common.{subst}
 use Rattle.last_entries.specs.Nearness.{IsFirstOf}
 use Rattle.last_entries.proofs.EndLemmas.{first_of}
-use Rattle.cedar_complete.proofs.searched.TrieFirstSince.seek.Goals as goal
+use Rattle.cedar_complete.proofs.look_ups.TrieFirstSince.seek.Goals as goal
 
 pub returns-in-Ok : goal.returns-in-Ok
 returns-in-Ok g c =
