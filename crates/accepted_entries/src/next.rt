@@ -1,8 +1,9 @@
 //! The next entry that an automaton accepts.
 
 ghost use Rattle.std.specs.Prelude.{◌≡◌, IfOk, OnErr};
-ghost use Rattle.accepted_entries.specs.Words.{accepted_in, AscendByKeys, entry_told, GivesFirst};
-ghost use Rattle.accepted_entries.specs.Words.{GoesOnBehind, LeavesKey};
+ghost use Rattle.accepted_entries.specs.Words.{accepted_in, AscendByKeys, entries_in_span};
+ghost use Rattle.accepted_entries.specs.Words.{entry_told, GivesFirst, GoesOnBehind, IsFirstOf};
+ghost use Rattle.accepted_entries.specs.Words.{LeavesKey};
 
 use crate::reading::{Verdict, read_key};
 use byte_automata::Automaton;
@@ -37,12 +38,24 @@ pub fn next_accepted<S: Ascending, M: Automaton, A: Allocator + Copy>(
     ensures refused { OnErr result (accepted_in (M.accepts automaton.now) range.new (S.entries source.now) ≡ accepted_in (M.accepts automaton.now) range.old (S.entries source.now)) }
 {
     let mut key = Vec::new(alloc);
-    while let Some(value) = first_between(source, range.from(), range.to(), &mut key)? {
+    while let Some(value) = first_in_range(source, range, &mut key)? {
         if leave_first(automaton, &key, range)? {
             return Ok(Some((value, key)));
         }
     }
     Ok(None)
+}
+
+/// The value of the first entry in a range, whose key is written into a buffer; None if there is none.
+fn first_in_range<S: Ascending, A: Allocator>(
+    source: &S,
+    range: &KeyRange<A>,
+    key: &mut Vec<u8, A>,
+) -> Result<Option<i32>, AllocError>
+    requires { AscendByKeys (S.entries source.now) }
+    ensures { IfOk result (IsFirstOf (entries_in_span range.now (S.entries source.now)) key.new.items) }
+{
+    first_between(source, range.from(), range.to(), key)
 }
 
 /// Lets a range go on behind its first key, or past all that begin with some bytes of it, if the automaton accepts none of these. It returns
