@@ -27,7 +27,7 @@ loop-state-preserved g c =
     let within : at ≤ length key = c.loop-state.invariant.0 in
     let more : at < length key = search rules in (
       omega (arith, more),
-      c.step.ensures
+      c.step-state.ensures
           ∙ ap (λ s. after s (get_or key at 0)) c.loop-state.invariant.1
           ∙ sym (fold-append after first (take at key) (get_or key at 0 ∷ []))
           ∙ ap (λ (l : List ℕ). fold after first l) (sym (take_more key at 0 more)),
