@@ -6,8 +6,8 @@ use Rattle.accepted_entries.specs.Accepted.{SaysOf}
 use Rattle.accepted_entries.proofs.AcceptLemmas.{says_at_end}
 use Rattle.accepted_entries.proofs.reading.read_key.Goals as goal
 
-pub returns-then-len-eq-len : goal.returns-then-len-eq-len
-returns-then-len-eq-len g c =
+pub returns-then-len-key : goal.returns-then-len-key
+returns-then-len-key g c =
     let m = c.args.automaton.now in
     let after = g.M.Automaton.after m in
     let first = g.M.Automaton.initial m in
