@@ -18,7 +18,8 @@ returns-then-leave_first-clause-found g c =
     let value : ℤ = c.in-Some.value in
     let first : IsFirstOf (entries_in_span old es) key (Some value) = subst (λ (o : Option ℤ). IsFirstOf (entries_in_span old es) key o) c.in-Some.is c.in_ok-value.ensures in
     let ends : c.in_ok-leave_first.field-0 ≡ true = search rules in
-    let leaves : LeavesKey accepts key old new true = subst (λ b. LeavesKey accepts key old new b) ends c.in_ok-leave_first.ensures.left in
+    let leaves : LeavesKey accepts key old new true =
+    subst (λ k. LeavesKey accepts k old new true) c.deref.ensures.value (subst (λ b. LeavesKey accepts c.deref.result.now old new b) ends c.in_ok-leave_first.ensures.left) in
     let fits : FitsSigned w32 value = search rules in
     let number : to_z w32 (of_z w32 value) ≡ value = to_z-of_z w32 value fits in
     sym c.loop-key.invariant.accepted
@@ -35,7 +36,8 @@ returns-then-leave_first-clause-behind g c =
     let value : ℤ = c.in-Some.value in
     let first : IsFirstOf (entries_in_span old es) key (Some value) = subst (λ (o : Option ℤ). IsFirstOf (entries_in_span old es) key o) c.in-Some.is c.in_ok-value.ensures in
     let ends : c.in_ok-leave_first.field-0 ≡ true = search rules in
-    let leaves : LeavesKey accepts key old new true = subst (λ b. LeavesKey accepts key old new b) ends c.in_ok-leave_first.ensures.left in
+    let leaves : LeavesKey accepts key old new true =
+    subst (λ k. LeavesKey accepts k old new true) c.deref.ensures.value (subst (λ b. LeavesKey accepts c.deref.result.now old new b) ends c.in_ok-leave_first.ensures.left) in
     behind_first c.args.range.now old new es key value first.0 c.loop-key.invariant.end first.1 leaves.1
 
 pub loop-key-init : goal.loop-key-init
@@ -51,7 +53,8 @@ loop-key-preserved g c =
     let value : ℤ = c.in-Some.value in
     let first : IsFirstOf (entries_in_span old es) key (Some value) = subst (λ (o : Option ℤ). IsFirstOf (entries_in_span old es) key o) c.in-Some.is c.in_ok-value.ensures in
     let goes_on : c.in_ok-leave_first.field-0 ≡ false = search rules in
-    let leaves : LeavesKey accepts key old new false = subst (λ b. LeavesKey accepts key old new b) goes_on c.in_ok-leave_first.ensures.left in
+    let leaves : LeavesKey accepts key old new false =
+    subst (λ k. LeavesKey accepts k old new false) c.deref.ensures.value (subst (λ b. LeavesKey accepts c.deref.result.now old new b) goes_on c.in_ok-leave_first.ensures.left) in
     record {
       accepted = sym (passed_over accepts old new es key value first.0 c.requires first.1 leaves).0 ∙ c.loop-key.invariant.accepted;
       end = end_over accepts c.args.range.now old new key c.loop-key.invariant.end leaves;
@@ -67,7 +70,8 @@ loop-key-smaller g c =
     let value : ℤ = c.in-Some.value in
     let first : IsFirstOf (entries_in_span old es) key (Some value) = subst (λ (o : Option ℤ). IsFirstOf (entries_in_span old es) key o) c.in-Some.is c.in_ok-value.ensures in
     let goes_on : c.in_ok-leave_first.field-0 ≡ false = search rules in
-    let leaves : LeavesKey accepts key old new false = subst (λ b. LeavesKey accepts key old new b) goes_on c.in_ok-leave_first.ensures.left in
+    let leaves : LeavesKey accepts key old new false =
+    subst (λ k. LeavesKey accepts k old new false) c.deref.ensures.value (subst (λ b. LeavesKey accepts c.deref.result.now old new b) goes_on c.in_ok-leave_first.ensures.left) in
     (passed_over accepts old new es key value first.0 c.requires first.1 leaves).1
 
 pub returns-clause-found : goal.returns-clause-found
