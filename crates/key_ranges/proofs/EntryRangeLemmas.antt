@@ -1,5 +1,5 @@
 -- The entries of a tree that are in a range.
-use Rattle.std.proofs.Common.{◌≡◌, ℕ, Bool, true, false, cond, ◌&&◌, List, [], ◌∷◌, ◌++◌, map, None, Some, refl, sym, ap, ◌∙◌, subst}
+use Rattle.std.proofs.Common.{◌≡◌, ℕ, Bool, true, false, cond, ◌&&◌, List, [], ◌∷◌, ◌++◌, map, refl, sym, ap, ◌∙◌, subst}
 use Rattle.std.specs.Prelude.{filter, nat_eq}
 use Rattle.std.specs.Cmp.Lexicographic.{slice_cmp}
 use Rattle.std.specs.List.{AllByRecursion, starts_with}
@@ -12,7 +12,6 @@ use Rattle.cedar_tree.specs.Laws.{ArePathsAscending}
 use Rattle.cedar_tree.specs.Tree.{IsAscending, IsKey, IsPath, IsSound, Tree}
 use Rattle.cedar_tree.proofs.EntryLemmas.Keys.{walk_keys}
 use Rattle.cedar_tree.proofs.WalkLemmas.{walk_ascends}
-use Rattle.key_ranges.proofs.SpanLemmas.{and_true}
 use Rattle.key_ranges.specs.Spans.{entries_within, holds, HoldsBefore, HoldsBehind, HoldsPrefixed, KeySpan}
 
 -- ---- tests that say the same
@@ -46,13 +45,6 @@ filter_step p q e es rest false c is at = is
 pub filter_twice : (p q : List ℕ → Bool) (es : List Entry) → filter (λ e. p e.0 && q e.0) es ≡ filter (λ e. q e.0) (filter (λ e. p e.0) es)
 filter_twice p q [] = refl
 filter_twice p q (e ∷ es) = filter_step p q e es (filter (λ x. p x.0 && q x.0) es) (p e.0) (q e.0) (filter_twice p q es) refl
-
--- so the entries between two ends are those in a range, and so are those from one on
-pub between_is : (t : Tree) (from to : List ℕ) → filter (λ e. is_lt (slice_cmp nat_cmp e.0 to)) (filter (λ e. is_ge (slice_cmp nat_cmp e.0 from)) (walk t)) ≡ entries_within t (record { from = from; to = Some to })
-between_is t from to = sym (filter_twice (λ w. is_ge (slice_cmp nat_cmp w from)) (λ w. is_lt (slice_cmp nat_cmp w to)) (walk t))
-
-pub since_is : (t : Tree) (from : List ℕ) → filter (λ e. is_ge (slice_cmp nat_cmp e.0 from)) (walk t) ≡ entries_within t (record { from = from; to = None })
-since_is t from = same_tests (λ w. is_ge (slice_cmp nat_cmp w from)) (λ w. is_ge (slice_cmp nat_cmp w from) && true) (walk t) (λ w. sym (and_true (is_ge (slice_cmp nat_cmp w from))))
 
 -- ---- pages
 

@@ -1,3 +1,2 @@
-pub mod EndLemmas
 pub mod NearLemmas
 pub mod PathLemmas
