@@ -181,10 +181,10 @@ end_behind : (old now new : KeySpan) (key : List ℕ) → HoldsEnd old now → H
 end_behind old now new key end on = record {
   within = λ w h. end.within w (and_parts (holds now w) (is_gt (slice_cmp nat_cmp w key)) (sym (on w) ∙ h)).0;
   behind = λ v w h up held.
-    let parts = and_parts (holds now v) (is_gt (slice_cmp nat_cmp v key)) (sym (on v) ∙ h) in
-    let still = end.behind v w parts.0 up held in
-    let further = behind_both key v w (less_from_gt key v parts.1) (gt_from_less v w up) in
-    on w ∙ (λ i. still i && further i);
+      let parts = and_parts (holds now v) (is_gt (slice_cmp nat_cmp v key)) (sym (on v) ∙ h) in
+      let still = end.behind v w parts.0 up held in
+      let further = behind_both key v w (less_from_gt key v parts.1) (gt_from_less v w up) in
+      on w ∙ (λ i. still i && further i);
 }
 
 follows_further : (prefix v w : List ℕ) → follows_prefix prefix v ≡ true → slice_cmp nat_cmp v w ≡ Less → follows_prefix prefix w ≡ true
@@ -198,10 +198,10 @@ end_past : (old now new : KeySpan) (prefix : List ℕ) → HoldsEnd old now → 
 end_past old now new prefix end past = record {
   within = λ w h. end.within w (and_parts (holds now w) (follows_prefix prefix w) (sym (past w) ∙ h)).0;
   behind = λ v w h up held.
-    let parts = and_parts (holds now v) (follows_prefix prefix v) (sym (past v) ∙ h) in
-    let still = end.behind v w parts.0 up held in
-    let further = follows_further prefix v w parts.1 up in
-    past w ∙ (λ i. still i && further i);
+      let parts = and_parts (holds now v) (follows_prefix prefix v) (sym (past v) ∙ h) in
+      let still = end.behind v w parts.0 up held in
+      let further = follows_further prefix v w parts.1 up in
+      past w ∙ (λ i. still i && further i);
 }
 
 pub end_over : (accepts : List ℕ → Bool) (old now new : KeySpan) (key : List ℕ) → HoldsEnd old now → PassesOver accepts key now new → HoldsEnd old new
