@@ -1,0 +1,13 @@
+pub mod EarliestLemmas
+pub mod EndOrderLemmas
+pub mod LayoutLemmas
+pub mod LinkLemmas
+pub mod ListLemmas
+pub mod NodesLemmas
+pub mod OccurrenceLemmas
+pub mod PlainLemmas
+pub mod ScanLemmas
+pub mod StepLemmas
+pub mod StreamLemmas
+pub mod SuffixLemmas
+pub mod VisitedLemmas

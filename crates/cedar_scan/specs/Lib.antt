@@ -1,0 +1,10 @@
+pub mod Automata
+pub mod Earliest
+pub mod Laws
+pub mod Plain
+pub mod Scans
+pub mod Streams
+pub mod Suffixes
+pub mod Tables
+pub mod Walks
+pub mod Words

@@ -1,0 +1,19 @@
+-- The words that the clauses cite, from one place.
+pub use Rattle.cedar_scan.specs.Automata.{AreByDepth, AreLaid, AreLinkedFirst, AreNodes, AreSlotsWithin}
+pub use Rattle.cedar_scan.specs.Automata.{blank, CanLink, child_in, FailsTo, IsAutomaton}
+pub use Rattle.cedar_scan.specs.Automata.{IsGoto, IsLinked, IsPlacing, IsStepFrom, GetsLinks, state_at}
+pub use Rattle.cedar_scan.specs.Automata.{GoesToSuffix, StepsWithin, with_node}
+pub use Rattle.cedar_scan.specs.Earliest.{CostsFirst, earliest, earliest_from, GivesEarliest}
+pub use Rattle.cedar_scan.specs.Laws.{AreByEnd, IsLongestHeld, PiecesJoin}
+pub use Rattle.cedar_scan.specs.Plain.{all_beginning, OccursIn}
+pub use Rattle.cedar_scan.specs.Scans.{ReadsByte, CostsNext, CostsStep, GivesNext, IsCursor}
+pub use Rattle.cedar_scan.specs.Scans.{all_left, steps_left, TakesFound}
+pub use Rattle.cedar_scan.specs.Streams.{CostsInPiece, IsStream, NextInPiece, path_in, stream_code}
+pub use Rattle.cedar_scan.specs.Streams.{StreamAt}
+pub use Rattle.cedar_scan.specs.Suffixes.{failure, held_suffix, is_node, key_suffix, keys_ending}
+pub use Rattle.cedar_scan.specs.Suffixes.{overlapping, Occurrence, all_ending}
+pub use Rattle.cedar_scan.specs.Tables.{slot_in}
+pub use Rattle.cedar_scan.specs.Walks.{scan_code, ScanLeft}
+pub use Rattle.cedarwood.specs.Words.{IsBlankOf, IsWellFormed, Tree, tree_of}
+pub use Rattle.std.specs.Iterator.{item_count, YieldsFirst}
+pub use Rattle.std.specs.List.Sorted.{IsPermutation}

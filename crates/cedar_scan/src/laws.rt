@@ -1,0 +1,30 @@
+//! Laws of what a scanner finds.
+
+ghost use Rattle.std.specs.Prelude.{◌↔◌, Contains, List, ℕ};
+ghost use Rattle.cedar_scan.specs.Words.{AreByEnd, held_suffix, OccursIn, IsLongestHeld};
+ghost use Rattle.cedar_scan.specs.Words.{IsPermutation, overlapping, PiecesJoin, Occurrence, all_beginning, Tree};
+
+/// A scan stands for the longest suffix of what it has read that leads to a node.
+pub fn held_suffixes_are_longest()
+    //= The suffix that a scan stands for leads to a node, and no longer one does.
+    ensures { (tree : Tree) (text : List ℕ) → IsLongestHeld tree text (held_suffix tree text) }
+{}
+
+/// The overlapping matches of a scanner are those of a plain search, which looks for the keys that begin at each position, as `matches` of
+/// `cedar_words` does: each once, in another order. They ascend by their ends, and at one end from the longest to the shortest.
+pub fn overlapping_are_all_keys()
+    //= The overlapping matches of a text are what a search at each of its positions finds, in another order.
+    ensures same { (tree : Tree) (text : List ℕ) → IsPermutation (all_beginning tree 0 text) (overlapping tree text) }
+
+    //= A key is among them exactly if it occurs in the text.
+    ensures exact { (tree : Tree) (text : List ℕ) (s : Occurrence) → Contains (overlapping tree text) s ↔ OccursIn tree text s }
+
+    //= They ascend by their ends, and at one end from the longest to the shortest: so each is among them once.
+    ensures order { (tree : Tree) (text : List ℕ) → AreByEnd (overlapping tree text) }
+{}
+
+/// What a stream finds in pieces is what is found in the whole text.
+pub fn pieces_join()
+    //= What is found in two pieces of a text, the second one from the suffix of the first on, is what is found in both together.
+    ensures { (tree : Tree) (first : List ℕ) (second : List ℕ) → PiecesJoin tree first second }
+{}
