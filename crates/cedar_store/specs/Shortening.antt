@@ -2,10 +2,12 @@
 use Rattle.std.specs.Prelude.{◌≡◌, ◌⊎◌, ℕ, false, List, length, Ok, Err, Some}
 use Rattle.cedarwood.specs.Queries.{walk}
 use Rattle.cedarwood.specs.State.{State}
+use Rattle.cedar_store.specs.Causes.{IsOfDevice}
 use Rattle.cedar_store.specs.Compactions.{CompactCause, compacted_length, is_beyond}
 use Rattle.cedar_store.specs.declared.compaction.CompactError.{CompactError}
 use Rattle.cedar_store.specs.declared.compaction.CompactError.TheVariants.{Failed}
 use Rattle.cedar_store.specs.declared.compaction.Compaction.TheVariants.{Never}
+use Rattle.cedar_store.specs.declared.error.DurableError.{DurableError}
 use Rattle.cedar_store.specs.declared.store.Store.{Store}
 
 -- the file's length wasn't looked at, and no compaction is reported
@@ -51,7 +53,8 @@ IsLookedAfter seen faults state old new = IsNotDue old new ⊎ IsLookedAt seen f
 abbrev pub IsFailureTold : {T A D : Type 0} → Store T A D → Type 0
 IsFailureTold new = (new.base ≡ new.journal.end) × (new.last_compaction ≡ Some (Err Failed))
 
--- what a change that wasn't acknowledged has done about the length of its file: nothing, unless the device failed in
--- a compaction
-abbrev pub IsLookedAfterError : {T A D : Type 0} → Store T A D → Store T A D → Type 0
-IsLookedAfterError old new = IsUnlooked old new ⊎ IsFailureTold new
+-- what a change that wasn't acknowledged, with this error, has done about the length of its file: nothing; or the
+-- device failed, and `last_compaction` reports that (`IsFailureTold`)
+abbrev pub IsLookedAfterError : {T A D : Type 0} → (D → ℕ) → Store T A D → Store T A D → DurableError → Type 0
+IsLookedAfterError faults old new e =
+    IsUnlooked old new ⊎ (IsOfDevice (faults old.journal.device) (faults new.journal.device) e × IsFailureTold new)

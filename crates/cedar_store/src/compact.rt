@@ -133,7 +133,7 @@ impl<T: Words, A: Allocator + Copy, D: ReplaceDevice> Store<T, A, D> {
         ensures recorded { OnOk result ((file_payloads (D.seen self.new.journal.device) ≡ with_payload (payload_of frame.now) (file_payloads (D.seen self.old.journal.device)))
             ⊎ IsShortened D.seen T.state self.old self.new) }
         ensures looked_after { OnOk result (IsLookedAfter D.seen D.faults T.state self.old self.new) }
-        ensures told { OnErr result (IsLookedAfterError self.old self.new) }
+        ensures told { IfErr result (IsLookedAfterError D.faults self.old self.new) }
         ensures err { IfErr result (LeavesUnwritten D.faults self.old self.new) }
         ensures left { IfErr result (λ e. Leaves e (T.state self.new.words ≡ all_erased_late (T.state self.old.words) (changes_told changes.now))
             (LostRoom D.seen D.may_leave self.old self.new) ⊥) }

@@ -279,9 +279,9 @@ impl<T: Words, A: Allocator + Copy, D: ReplaceDevice> Store<T, A, D> {
         //  IsLookedAfter; also insert, update_bytes, update, erase_bytes, erase, apply_batch]
         ensures looked_after { OnOk result (IsLookedAfter D.seen D.faults T.state self.old self.new) }
 
-        //= A change that fails has looked at nothing and reports no compaction, unless the device failed in one: then it reports that. [by
-        //  IsLookedAfterError; also insert, update_bytes, update, erase_bytes, erase, apply_batch]
-        ensures told { OnErr result (IsLookedAfterError self.old self.new) }
+        //= A change that fails has looked at nothing and reports no compaction, unless it fails by the device: then it may report one in which
+        //  that failed. [by IsLookedAfterError; also insert, update_bytes, update, erase_bytes, erase, apply_batch]
+        ensures told { IfErr result (IsLookedAfterError D.faults self.old self.new) }
 
         //= The count of a store stays that of its file's records, in each change and each compaction, as long as the store hasn't failed.
         //  [also insert, update_bytes, update, erase_bytes, erase, apply_batch, compact]
@@ -338,7 +338,7 @@ impl<T: Words, A: Allocator + Copy, D: ReplaceDevice> Store<T, A, D> {
         ensures counted { KeepsCount D.seen self.old self.new }
         ensures recorded { OnOk result (IsRecordedIn D.seen T.state self.old self.new (put_at key.now value ∷ [])) }
         ensures looked_after { OnOk result (IsLookedAfter D.seen D.faults T.state self.old self.new) }
-        ensures told { OnErr result (IsLookedAfterError self.old self.new) }
+        ensures told { IfErr result (IsLookedAfterError D.faults self.old self.new) }
         ensures faulty { self.old.failed ≡ false → IfSome (fault key.now value) (λ e. result ≡ Err (DurableError.Refused e)) }
         ensures cause { IfErr result (IsChangeCause D.faults self.old self.new (fault key.now value) (length key.now + 5)) }
         ensures err { IfErr result (LeavesStore T.state self.old self.new (after_put (T.state self.old.words) key.now value)) }
@@ -361,7 +361,7 @@ impl<T: Words, A: Allocator + Copy, D: ReplaceDevice> Store<T, A, D> {
         ensures counted { KeepsCount D.seen self.old self.new }
         ensures recorded { OnOk result (IsRecordedIn D.seen T.state self.old self.new (put_at key.now value ∷ [])) }
         ensures looked_after { OnOk result (IsLookedAfter D.seen D.faults T.state self.old self.new) }
-        ensures told { OnErr result (IsLookedAfterError self.old self.new) }
+        ensures told { IfErr result (IsLookedAfterError D.faults self.old self.new) }
         ensures faulty { self.old.failed ≡ false → IfSome (fault key.now value) (λ e. result ≡ Err (DurableError.Refused e)) }
         ensures cause { IfErr result (IsChangeCause D.faults self.old self.new (fault key.now value) (length key.now + 5)) }
         ensures err { IfErr result (LeavesStore T.state self.old self.new (after_put (T.state self.old.words) key.now value)) }
@@ -387,7 +387,7 @@ impl<T: Words, A: Allocator + Copy, D: ReplaceDevice> Store<T, A, D> {
         ensures counted { KeepsCount D.seen self.old self.new }
         ensures recorded { OnOk result (IsRecordedIn D.seen T.state self.old self.new (put_at key.now value ∷ [])) }
         ensures looked_after { OnOk result (IsLookedAfter D.seen D.faults T.state self.old self.new) }
-        ensures told { OnErr result (IsLookedAfterError self.old self.new) }
+        ensures told { IfErr result (IsLookedAfterError D.faults self.old self.new) }
         ensures faulty { self.old.failed ≡ false → IfSome (fault key.now value) (λ e. result ≡ Err (DurableError.Refused e)) }
         ensures cause { IfErr result (IsChangeCause D.faults self.old self.new (fault key.now value) (length key.now + 5)) }
         ensures err { IfErr result (LeavesStore T.state self.old self.new (after_put (T.state self.old.words) key.now value)) }
@@ -424,7 +424,7 @@ impl<T: Words, A: Allocator + Copy, D: ReplaceDevice> Store<T, A, D> {
         ensures counted { KeepsCount D.seen self.old self.new }
         ensures recorded { IfOk result (λ held. held ≡ true → IsRecordedIn D.seen T.state self.old self.new (erase_at key.now ∷ [])) }
         ensures looked_after { IfOk result (λ held. held ≡ true → IsLookedAfter D.seen D.faults T.state self.old self.new) }
-        ensures told { OnErr result (IsLookedAfterError self.old self.new) }
+        ensures told { IfErr result (IsLookedAfterError D.faults self.old self.new) }
 
         //= An erasure fails only if the store has failed before, for lack of memory, if the record is too long or the records end too far
         //  back, or if the device failed. [also erase]
@@ -462,7 +462,7 @@ impl<T: Words, A: Allocator + Copy, D: ReplaceDevice> Store<T, A, D> {
         ensures counted { KeepsCount D.seen self.old self.new }
         ensures recorded { IfOk result (λ held. held ≡ true → IsRecordedIn D.seen T.state self.old self.new (erase_at key.now ∷ [])) }
         ensures looked_after { IfOk result (λ held. held ≡ true → IsLookedAfter D.seen D.faults T.state self.old self.new) }
-        ensures told { OnErr result (IsLookedAfterError self.old self.new) }
+        ensures told { IfErr result (IsLookedAfterError D.faults self.old self.new) }
         ensures cause { IfErr result (IsEraseCause D.faults self.old self.new (length key.now + 1)) }
         ensures err { IfErr result (LeavesStore T.state self.old self.new (after_erase (T.state self.old.words) key.now)) }
     {
@@ -501,7 +501,7 @@ impl<T: Words, A: Allocator + Copy, D: ReplaceDevice> Store<T, A, D> {
         ensures counted { KeepsCount D.seen self.old self.new }
         ensures recorded { OnOk result ((changes.now ≡ [] → ⊥) → IsRecordedIn D.seen T.state self.old self.new (changes_told changes.now)) }
         ensures looked_after { OnOk result ((changes.now ≡ [] → ⊥) → IsLookedAfter D.seen D.faults T.state self.old self.new) }
-        ensures told { OnErr result (IsLookedAfterError self.old self.new) }
+        ensures told { IfErr result (IsLookedAfterError D.faults self.old self.new) }
 
         //= A batch in which a pair has a fault is refused with the first such pair's index and fault, whatever memory there is, if the
         //  store hasn't failed.

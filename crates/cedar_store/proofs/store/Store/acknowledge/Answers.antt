@@ -9,11 +9,11 @@ use Rattle.cedar_store.specs.Changes.{after_payloads}
 use Rattle.cedar_store.specs.declared.error.DurableError.TheVariants as error
 use Rattle.cedar_store.specs.Files.{state_of, IsEither, StandsFor}
 use Rattle.cedar_store.specs.Told.{changes_told}
-use Rattle.cedar_store.proofs.Compacted.{change_of_one, on_err, state_more, still_more}
+use Rattle.cedar_store.proofs.Compacted.{change_of_one, on_err, on_err_too, state_more, still_more}
 use Rattle.cedar_store.proofs.Shortened.{looked_since}
-use Rattle.cedar_store.proofs.Unwritten.{leaves_unwritten, unwritten_by_device}
+use Rattle.cedar_store.proofs.Unwritten.{leaves_unwritten, of_device_since, unwritten_by_device}
 use Rattle.cedar_store.proofs.States.{either}
-use Rattle.std.proofs.lemmas.Result.{on_ok_weaker, on_err_weaker}
+use Rattle.std.proofs.lemmas.Result.{on_ok_weaker}
 use Rattle.cedar_store.proofs.store.Store.acknowledge.Goals as goal
 
 pub compact_if_due-requires-clause-consistent : goal.compact_if_due-requires-clause-consistent
@@ -147,7 +147,12 @@ returns-in-Ok-clause-looked_after g c =
     (looked_since d.seen d.faults g.T.Words.state c.args.self.now c.append.new.self c.compact_if_due.new.self c.append.ensures.unlooked c.append.ensures.rule c.append.ensures.faults) c.compact_if_due.ensures.looked_after
 
 pub returns-in-Ok-clause-told : goal.returns-in-Ok-clause-told
-returns-in-Ok-clause-told g c = on_err_weaker c.compact_if_due.result (λ is. inr is) c.compact_if_due.ensures.told
+returns-in-Ok-clause-told g c =
+    let faults = g.D.Device.faults in
+    on_err_too c.compact_if_due.result
+    (λ e fails told.
+    inr (of_device_since (faults c.args.self.now.journal.device) (faults c.append.new.self.journal.device) (faults c.compact_if_due.new.self.journal.device) e c.append.ensures.faults fails.0, told))
+    c.compact_if_due.ensures.err c.compact_if_due.ensures.told
 
 pub returns-then-not-self-clause-told : goal.returns-then-not-self-clause-told
 returns-then-not-self-clause-told g c = inl c.append.ensures.unlooked

@@ -1,6 +1,6 @@
 use Rattle.std.specs.Prelude.{nat_eq, option_and_then, option_map, Some}
 use Rattle.std.specs.List.{AllByRecursion}
-use Rattle.std.proofs.Common.{◌≡◌, false, true, ◌∙◌, ap, length, refl, subst, sym, rules}
+use Rattle.std.proofs.Common.{◌≡◌, false, true, ◌∙◌, ap, inl, length, refl, subst, sym, rules}
 use Rattle.std.proofs.lemmas.Bool.{false≢true}
 use Rattle.cedar_journal.specs.Device.{LeavesOnly}
 use Rattle.cedar_journal.specs.Frames.{payload_of}
@@ -8,7 +8,7 @@ use Rattle.cedar_store.specs.Batches.{AreHeld, IsFaultless, all_erased_late, fir
 use Rattle.cedar_store.specs.Changes.{after, all_changed}
 use Rattle.cedar_store.specs.Files.{IsEither}
 use Rattle.cedar_store.specs.Told.{changes_told}
-use Rattle.cedar_store.proofs.Compacted.{failed_ready, recorded_in}
+use Rattle.cedar_store.proofs.Compacted.{failed_ready, on_each_err, recorded_in}
 use Rattle.cedar_store.proofs.FirstFaults.{first_handed, none_refused, nothing_told_of}
 use Rattle.cedar_store.proofs.Ordered.{stays_ordered}
 use Rattle.cedar_store.proofs.Payloads.{handed_on}
@@ -32,6 +32,9 @@ returns-then-is_empty-clause-faulty g c = λ _. subst (AllByRecursion IsFaultles
 
 pub returns-in-Ok-clause-nothing : goal.returns-in-Ok-clause-nothing
 returns-in-Ok-clause-nothing g c = λ none. absurd (false≢true (c.if-is_empty.ensures ∙ ap (λ l. nat_eq (length l) 0) none))
+
+pub returns-in_err-batch-clause-told : goal.returns-in_err-batch-clause-told
+returns-in_err-batch-clause-told g c = on_each_err c.from_residual.result (λ e. inl (refl, refl))
 
 pub returns-in_err-batch-clause-cause : goal.returns-in_err-batch-clause-cause
 returns-in_err-batch-clause-cause g c =
