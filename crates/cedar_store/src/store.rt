@@ -405,11 +405,11 @@ impl<T: Words, A: Allocator + Copy, D: ReplaceDevice> Store<T, A, D> {
         requires ready { IsReadyStore D.seen D.may_leave T.state self.old }
 
         //= An acknowledged erasure has removed the key from the dictionary, and the file represents it, on the disk. It returns whether the
-        //  key was held. If it wasn't, the file doesn't change. [with ready, answer, missed; also erase]
+        //  key was held. If it wasn't, the store is as it was. [with ready, answer, missed; also erase]
         ensures erased { IfOk result (λ held. HasState T.state self.new (if held then after_erase (T.state self.old.words) key.now else (T.state self.old.words))) }
         ensures ready { IsReadyStore D.seen D.may_leave T.state self.new }
         ensures answer { IfOk result (λ held. held ≡ is_some (number_at (T.state self.old.words).tree key.now)) }
-        ensures missed { IfOk result (λ held. held ≡ false → self.new.journal ≡ self.old.journal) }
+        ensures missed { IfOk result (λ held. held ≡ false → self.new ≡ self.old) }
 
         //= A crash at any moment of an erasure leaves a file that represents the dictionary from before it, with the change or without.
         //  [also erase]
@@ -454,7 +454,7 @@ impl<T: Words, A: Allocator + Copy, D: ReplaceDevice> Store<T, A, D> {
         ensures erased { IfOk result (λ held. HasState T.state self.new (if held then after_erase (T.state self.old.words) key.now else (T.state self.old.words))) }
         ensures ready { IsReadyStore D.seen D.may_leave T.state self.new }
         ensures answer { IfOk result (λ held. held ≡ is_some (number_at (T.state self.old.words).tree key.now)) }
-        ensures missed { IfOk result (λ held. held ≡ false → self.new.journal ≡ self.old.journal) }
+        ensures missed { IfOk result (λ held. held ≡ false → self.new ≡ self.old) }
         ensures any_moment { CrashLeavesEither D.moment D.left_since T.state self.old self.new (after_erase (T.state self.old.words) key.now) }
         ensures failed { self.old.failed ≡ true → result ≡ Err DurableError.Failed }
         ensures untouched { self.old.failed ≡ true → self.new ≡ self.old }
@@ -483,10 +483,10 @@ impl<T: Words, A: Allocator + Copy, D: ReplaceDevice> Store<T, A, D> {
         requires ready { IsReadyStore D.seen D.may_leave T.state self.old }
 
         //= Once a batch is acknowledged, the dictionary is as all of its changes leave it, one after another, and the file represents that,
-        //  on the disk. A batch of no changes leaves the file as it was. [with ready, nothing]
+        //  on the disk. A batch of no changes leaves the store as it was. [with ready, nothing]
         ensures made { OnOk result (HasState T.state self.new (all_changed (T.state self.old.words) (changes_told changes.now))) }
         ensures ready { IsReadyStore D.seen D.may_leave T.state self.new }
-        ensures nothing { OnOk result (changes.now ≡ [] → self.new.journal ≡ self.old.journal) }
+        ensures nothing { OnOk result (changes.now ≡ [] → self.new ≡ self.old) }
 
         //= A crash at any moment of a batch leaves a file that represents the dictionary from before it, or the one with all of its
         //  changes.
