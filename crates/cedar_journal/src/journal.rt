@@ -6,7 +6,8 @@
 ghost use Rattle.std.specs.Prelude.{◌+◌, ◌<◌, ◌^◌, ◌≡◌, ◌≤◌, IfErr, IfOk, IsErrOf, IsOkAnd};
 ghost use Rattle.std.specs.Prelude.{length, OnErr, OnOk, Some, true};
 ghost use Rattle.cedar_journal.specs.Words.{with_payload, Device, HasExtent, IfKept, image_bytes};
-ghost use Rattle.cedar_journal.specs.Words.{extent_end, is_at_rest, IsBeforeOrAfter, IsSettled};
+ghost use Rattle.cedar_journal.specs.Words.{extent_end, extent_format, is_at_rest};
+ghost use Rattle.cedar_journal.specs.Words.{IsBeforeOrAfter, IsSettled};
 ghost use Rattle.cedar_journal.specs.Words.{IsStaged, LeavesOnly, Only, payload_of, payloads_of};
 ghost use Rattle.cedar_journal.specs.Words.{file_payloads, StandsForEither};
 
@@ -74,8 +75,9 @@ impl<D: Device> Journal<D> {
         //= An opening returns `Failed` only if the disk has failed. [also open_read]
         ensures failed { IfErr result (λ e. e.0 ≡ DeviceError.Failed → D.faults device < D.faults e.1) }
 
-        //= Its records end where the file's did. [also open_read]
+        //= Its records end where the file's did, and are of the file's version. A new file is of version 2. [with format; also open_read]
         ensures end { IfOk result (λ journal. journal.end ≡ extent_end extent) }
+        ensures format { IfOk result (λ journal. journal.format ≡ extent_format extent) }
     {
         let mut device = device;
         match make_ready(&mut device, extent) {
@@ -109,6 +111,7 @@ impl<D: Device> Journal<D> {
             (λ c. file_payloads c ≡ file_payloads (D.seen device))) }
         ensures failed { IfErr result (λ e. e.0 ≡ DeviceError.Failed → D.faults device < D.faults e.1) }
         ensures end { IfOk result (λ journal. journal.end ≡ extent_end extent) }
+        ensures format { IfOk result (λ journal. journal.format ≡ extent_format extent) }
 
         //= Opening a file that is at rest writes nothing: the device is as it was.
         ensures at_rest { is_at_rest bytes.now extent ≡ true → IsOkAnd result (λ journal. journal.device ≡ device) }

@@ -30,7 +30,7 @@ module _ {T A D : Type 0} (seen : D → List ℕ) (faults : D → ℕ) (state : 
     ⊎_elim
         (λ (enough : IsShortEnough state between new). inl (enough.0 ∙ un.1, ap (λ r. is_beyond r (compacted_length (walk (state new.words).tree)) new.journal.end) (sym rule) ∙ enough.1))
         (⊎_elim
-        (λ (short : IsShortened seen state between new). inr (inl (λ never. short.0 (rule ∙ never), short.1, short.2)))
+        (λ (short : IsShortened seen state between new). inr (inl (λ never. short.0 (rule ∙ never), short.1, short.2, short.3)))
         (λ (kept : IsKeptLong faults between new).
         inr (inr (kept.0, kept.1, kept_since (faults old.journal.device) (faults between.journal.device) (faults new.journal.device) kept.0 later kept.2))))
         looked.1,

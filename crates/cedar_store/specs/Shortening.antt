@@ -9,6 +9,7 @@ use Rattle.cedar_store.specs.declared.compaction.CompactError.TheVariants.{Faile
 use Rattle.cedar_store.specs.declared.compaction.Compaction.TheVariants.{Never}
 use Rattle.cedar_store.specs.declared.error.DurableError.{DurableError}
 use Rattle.cedar_store.specs.declared.store.Store.{Store}
+use Rattle.cedar_store.specs.Files.{record_count}
 
 -- the file's length wasn't looked at, and no compaction is reported
 abbrev pub IsUnlooked : {T A D : Type 0} → Store T A D → Store T A D → Type 0
@@ -23,11 +24,12 @@ abbrev pub IsShortEnough : {T A D : Type 0} → (T → State) → Store T A D �
 IsShortEnough state old new =
     (new.last_compaction ≡ old.last_compaction) × (is_beyond old.compaction (compacted_length (walk (state new.words).tree)) new.journal.end ≡ false)
 
--- the file was made short: it has a record for each entry and nothing else. Only a rule other than `Never` does so,
--- and `last_compaction` reports it
+-- the file was made short: it has a record for each entry, and no more bytes than these take. Only a rule other than
+-- `Never` does so, and `last_compaction` reports it
 abbrev pub IsShortened : {T A D : Type 0} → (D → List ℕ) → (T → State) → Store T A D → Store T A D → Type 0
 IsShortened seen state old new =
     (old.compaction ≡ Never → ⊥) × (new.last_compaction ≡ Some (Ok tt)) × (length (seen new.journal.device) ≡ compacted_length (walk (state new.words).tree))
+    × (record_count (seen new.journal.device) ≡ Some (length (walk (state new.words).tree)))
 
 -- why a file is the old one: no new one was made in memory, or the device kept the old one
 abbrev pub KeptCause : ℕ → ℕ → CompactError → Type 0

@@ -23,8 +23,8 @@ pub use Rattle.cedar_store.specs.Compactions.{compact_error, CompactCause, compa
 pub use Rattle.cedar_store.specs.Compactions.{CompactMemory, default_rule, is_beyond}
 pub use Rattle.cedar_store.specs.Compactions.{IsBeforeReplacing, IsPutBehind, LeavesFile}
 pub use Rattle.cedar_store.specs.Compactions.{replace_error}
-pub use Rattle.cedar_store.specs.Files.{AddsRecord, IsCorrupt, IsEither, record_count}
-pub use Rattle.cedar_store.specs.Files.{StandsFor, state_of}
+pub use Rattle.cedar_store.specs.Files.{AddsRecord, format_named, IsCorrupt, IsEither}
+pub use Rattle.cedar_store.specs.Files.{record_count, StandsFor, state_of}
 pub use Rattle.cedar_store.specs.Promises.{CrashLeavesEither, CrashLeavesState}
 pub use Rattle.cedar_store.specs.Promises.{CrashLeavesStateOrOld, FailsByDevice, HasState}
 pub use Rattle.cedar_store.specs.Promises.{IsBatchCause, IsChangeCause, IsCounted, IsEraseCause}

@@ -10,7 +10,7 @@ ghost use Rattle.cedar_store.specs.Words.{image_bytes, is_beyond, IsBeforeReplac
 ghost use Rattle.cedar_store.specs.Words.{IsEither, IsFailureTold, IsLookedAfter};
 ghost use Rattle.cedar_store.specs.Words.{IsLookedAfterError, IsLookedAt, IsPutBehind};
 ghost use Rattle.cedar_store.specs.Words.{IsReadyStore, IsSettled, IsShortened, KeepsCount};
-ghost use Rattle.cedar_store.specs.Words.{KeepsFile, LeavesUnwritten, Leaves, LeavesFile};
+ghost use Rattle.cedar_store.specs.Words.{KeepsFile, LeavesUnwritten, Leaves, LeavesFile, record_count};
 ghost use Rattle.cedar_store.specs.Words.{LeavesOnly, LostRoom, new_state, payload_of, payloads_of};
 ghost use Rattle.cedar_store.specs.Words.{file_payloads, after_payloads, State, state_of, walk};
 
@@ -35,10 +35,13 @@ impl<T: Words, A: Allocator + Copy, D: ReplaceDevice> Store<T, A, D> {
     pub fn compact(&mut self) -> Result<(), CompactError>
         requires ready { IsReadyStore D.seen D.may_leave T.state self.old }
 
-        //= A file that was compacted has one record for each entry and nothing else. It represents the dictionary, on the disk, and the
-        //  dictionary is as it was. So a store that had failed goes on. [with ready, words]
+        //= A file that was compacted has one record for each entry and nothing else, and is of version 2. It represents the dictionary, on
+        //  the disk, and the dictionary is as it was. So a store that had failed goes on. [with each, whole, format, ready, words]
         ensures compacted { OnOk result ((self.new.failed ≡ false)
             × (length (D.seen self.new.journal.device) ≡ compacted_length (walk (T.state self.old.words).tree))) }
+        ensures each { OnOk result (record_count (D.seen self.new.journal.device) ≡ Some (length (walk (T.state self.old.words).tree))) }
+        ensures whole { OnOk result (self.new.journal.end + 1 ≡ length (D.seen self.new.journal.device)) }
+        ensures format { OnOk result (self.new.journal.format ≡ Format.Summed) }
         ensures ready { IsReadyStore D.seen D.may_leave T.state self.new }
         ensures words { self.new.words ≡ self.old.words }
         ensures counted { KeepsCount D.seen self.old self.new }
@@ -94,6 +97,9 @@ impl<T: Words, A: Allocator + Copy, D: ReplaceDevice> Store<T, A, D> {
         requires ready { IsReadyStore D.seen D.may_leave T.state self.old }
         ensures compacted { OnOk result ((self.new.failed ≡ false)
             × (length (D.seen self.new.journal.device) ≡ compacted_length (walk (T.state self.old.words).tree))) }
+        ensures each { OnOk result (record_count (D.seen self.new.journal.device) ≡ Some (length (walk (T.state self.old.words).tree))) }
+        ensures whole { OnOk result (self.new.journal.end + 1 ≡ length (D.seen self.new.journal.device)) }
+        ensures format { OnOk result (self.new.journal.format ≡ Format.Summed) }
         ensures ready { IsReadyStore D.seen D.may_leave T.state self.new }
         ensures words { self.new.words ≡ self.old.words }
         ensures counted { KeepsCount D.seen self.old self.new }
@@ -240,6 +246,9 @@ impl<T: Words, A: Allocator + Copy, D: ReplaceDevice> Store<T, A, D> {
         ensures ready { IsReadyStore D.seen D.may_leave T.state self.old → IsReadyStore D.seen D.may_leave T.state self.new }
         ensures done { OnOk result ((self.new.failed ≡ false) × (self.new.base ≡ self.new.journal.end)) }
         ensures bytes { OnOk result (D.seen self.new.journal.device ≡ image_bytes image.now) }
+        ensures each { OnOk result (record_count (D.seen self.new.journal.device) ≡ Some (length (walk (T.state self.old.words).tree))) }
+        ensures whole { OnOk result (self.new.journal.end + 1 ≡ length (D.seen self.new.journal.device)) }
+        ensures format { OnOk result (self.new.journal.format ≡ Format.Summed) }
         ensures kept { IfKept result (KeepsFile D.seen D.may_leave self.old self.new) }
         ensures err_end { OnErr result ((self.new.base ≡ self.old.base) × (self.new.journal.end ≡ self.old.journal.end)) }
         ensures untold { self.new.last_compaction ≡ self.old.last_compaction }

@@ -4,7 +4,7 @@ ghost use Rattle.std.specs.Prelude.{◌+◌, ◌<◌, ◌^◌, ◌≡◌, ◌≤
 ghost use Rattle.std.specs.Prelude.{IsErrOf, IsOk, OnErr, OnOk, Some, [], false};
 ghost use Rattle.std.specs.Prelude.{if◌then◌else◌, is_some, length, true};
 ghost use Rattle.cedar_store.specs.Words.{with_payload, all_changed, changes_told, erase_at};
-ghost use Rattle.cedar_store.specs.Words.{ends_closed, after_erase, fault, format_of};
+ghost use Rattle.cedar_store.specs.Words.{ends_closed, after_erase, fault, format_named, format_of};
 ghost use Rattle.cedar_store.specs.Words.{first_refused, number_at, payload_of, file_payloads};
 ghost use Rattle.cedar_store.specs.Words.{state_of, after_put, AllByRecursion, HasExtent};
 ghost use Rattle.cedar_store.specs.Words.{IsBeforeOrAfter, IsBeforeWrites, IsCorrupt, IsFaultless};
@@ -110,6 +110,9 @@ impl<T: Made<A>, A: Allocator + Copy, D: Device> Store<T, A, D> {
 
         //= An opened store has counted the records of its file. [by IsCounted]
         ensures counted { IfOk result (λ store. IsCounted D.seen store) }
+
+        //= Its records are of the version that the file's header names; those of a new file are of version 2.
+        ensures format { IfOk result (λ store. store.journal.format ≡ format_named (format_of (D.seen device))) }
 
         //= The rule of a store that was opened is the default: its file may be twice as long as its entries take, and 64 KiB. Its length
         //  hasn't been looked at, and no compaction is reported. [with unlooked, told]
