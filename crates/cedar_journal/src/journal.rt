@@ -8,8 +8,8 @@ ghost use Rattle.std.specs.Prelude.{length, OnErr, OnOk, Some, true};
 ghost use Rattle.cedar_journal.specs.Words.{with_payload, Device, HasExtent, IfKept, image_bytes};
 ghost use Rattle.cedar_journal.specs.Words.{extent_end, extent_format, is_at_rest};
 ghost use Rattle.cedar_journal.specs.Words.{IsBeforeOrAfter, IsSettled};
-ghost use Rattle.cedar_journal.specs.Words.{IsStaged, LeavesOnly, Only, payload_of, payloads_of};
-ghost use Rattle.cedar_journal.specs.Words.{file_payloads, StandsForEither};
+ghost use Rattle.cedar_journal.specs.Words.{IsStaged, LeavesOnly, Only, overhead, payload_of};
+ghost use Rattle.cedar_journal.specs.Words.{file_payloads, payloads_of, StandsForEither};
 
 use crate::records::{ends_closed, open_gate};
 use crate::repair::{cut_off, make_ready};
@@ -195,7 +195,9 @@ impl<D: Device> Journal<D> {
         ensures any_moment { LeavesOnly D.moment D.left_since self.old.device self.new.device
             (IsBeforeOrAfter (file_payloads (D.seen self.old.device)) (payload_of frame.now)) }
 
-        //= An acknowledgement leaves the format, and if it fails, where the records end. [with format]
+        //= An acknowledgement leaves the format. The records end as many bytes further back as the record has; if it fails, where they did.
+        //  [with end, format]
+        ensures longer { OnOk result (self.new.end ≡ self.old.end + (overhead self.old.format + length (payload_of frame.now))) }
         ensures end { OnErr result (self.new.end ≡ self.old.end) }
         ensures format { self.new.format ≡ self.old.format }
 
@@ -217,9 +219,11 @@ impl<D: Device> Journal<D> {
     pub fn append<A: Allocator>(&mut self, frame: &Frame<A>) -> Result<(), JournalError>
         requires { IsSettled D.seen D.may_leave self.old.device self.old.format self.old.end }
 
-        //= Once a record is appended, the file is at rest and on the disk, and represents one more payload, this one. [with settled]
+        //= Once a record is appended, the file is at rest and on the disk, and represents one more payload, this one. The records end as many
+        //  bytes further back as the record has. [with settled, longer]
         ensures acknowledged { OnOk result (file_payloads (D.seen self.new.device) ≡ with_payload (payload_of frame.now) (file_payloads (D.seen self.old.device))) }
         ensures settled { OnOk result (IsSettled D.seen D.may_leave self.new.device self.new.format self.new.end) }
+        ensures longer { OnOk result (self.new.end ≡ self.old.end + (overhead self.old.format + length (payload_of frame.now))) }
 
         //= A crash at any moment of that leaves the payloads from before it, with or without the new one.
         ensures any_moment { LeavesOnly D.moment D.left_since self.old.device self.new.device

@@ -8,7 +8,7 @@ ghost use Rattle.cedar_store.specs.Words.{compacted_length, CrashLeavesState};
 ghost use Rattle.cedar_store.specs.Words.{CrashLeavesStateOrOld, FailsByDevice, fault, IfKept};
 ghost use Rattle.cedar_store.specs.Words.{image_bytes, is_beyond, IsBeforeReplacing, IsConsistent};
 ghost use Rattle.cedar_store.specs.Words.{IsEither, IsFailureTold, IsLookedAfter};
-ghost use Rattle.cedar_store.specs.Words.{IsLookedAfterError, IsLookedAt, IsPutBehind};
+ghost use Rattle.cedar_store.specs.Words.{end_behind, IsLookedAfterError, IsPutBehind, IsSeenTo};
 ghost use Rattle.cedar_store.specs.Words.{IsReadyStore, IsSettled, IsShortened, KeepsCount};
 ghost use Rattle.cedar_store.specs.Words.{KeepsFile, LeavesUnwritten, Leaves, LeavesFile, record_count};
 ghost use Rattle.cedar_store.specs.Words.{LeavesOnly, LostRoom, new_state, payload_of, payloads_of};
@@ -138,7 +138,7 @@ impl<T: Words, A: Allocator + Copy, D: ReplaceDevice> Store<T, A, D> {
         ensures due { OnOk result (is_beyond self.new.compaction self.new.base self.new.journal.end ≡ false) }
         ensures recorded { OnOk result ((file_payloads (D.seen self.new.journal.device) ≡ with_payload (payload_of frame.now) (file_payloads (D.seen self.old.journal.device)))
             ⊎ IsShortened D.seen T.state self.old self.new) }
-        ensures looked_after { OnOk result (IsLookedAfter D.seen D.faults T.state self.old self.new) }
+        ensures looked_after { OnOk result (IsLookedAfter D.seen D.faults T.state (end_behind self.old (length (payload_of frame.now))) self.old self.new) }
         ensures told { IfErr result (IsLookedAfterError D.faults self.old self.new) }
         ensures err { IfErr result (LeavesUnwritten D.faults self.old self.new) }
         ensures left { IfErr result (λ e. Leaves e (T.state self.new.words ≡ all_erased_late (T.state self.old.words) (changes_told changes.now))
@@ -174,7 +174,7 @@ impl<T: Words, A: Allocator + Copy, D: ReplaceDevice> Store<T, A, D> {
         ensures done { OnOk result (self.new.failed ≡ false) }
         ensures due { OnOk result (is_beyond self.new.compaction self.new.base self.new.journal.end ≡ false) }
         ensures recorded { OnOk result ((D.seen self.new.journal.device ≡ D.seen self.old.journal.device) ⊎ IsShortened D.seen T.state self.old self.new) }
-        ensures looked_after { OnOk result (IsLookedAfter D.seen D.faults T.state self.old self.new) }
+        ensures looked_after { OnOk result (IsLookedAfter D.seen D.faults T.state self.old.journal.end self.old self.new) }
         ensures told { OnErr result (IsFailureTold self.new) }
         ensures err { IfErr result (FailsByDevice D.faults self.old self.new) }
         ensures words { self.new.words ≡ self.old.words }
@@ -209,7 +209,7 @@ impl<T: Words, A: Allocator + Copy, D: ReplaceDevice> Store<T, A, D> {
         ensures ready { IsReadyStore D.seen D.may_leave T.state self.new }
         ensures done { OnOk result ((self.new.failed ≡ false) × (self.new.base ≡ self.new.journal.end)) }
         ensures recorded { OnOk result ((D.seen self.new.journal.device ≡ D.seen self.old.journal.device) ⊎ IsShortened D.seen T.state self.old self.new) }
-        ensures looked_at { OnOk result (IsLookedAt D.seen D.faults T.state self.old self.new) }
+        ensures looked_at { OnOk result (IsSeenTo D.seen D.faults T.state self.old.journal.end self.old self.new) }
         ensures told { OnErr result (IsFailureTold self.new) }
         ensures err { IfErr result (FailsByDevice D.faults self.old self.new) }
         ensures words { self.new.words ≡ self.old.words }

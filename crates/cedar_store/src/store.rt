@@ -4,6 +4,7 @@ ghost use Rattle.std.specs.Prelude.{◌+◌, ◌<◌, ◌^◌, ◌≡◌, ◌≤
 ghost use Rattle.std.specs.Prelude.{IsErrOf, IsOk, OnErr, OnOk, Some, [], false};
 ghost use Rattle.std.specs.Prelude.{if◌then◌else◌, is_some, length, true};
 ghost use Rattle.cedar_store.specs.Words.{with_payload, all_changed, changes_told, erase_at};
+ghost use Rattle.cedar_store.specs.Words.{batch_length, end_behind};
 ghost use Rattle.cedar_store.specs.Words.{ends_closed, after_erase, fault, format_named, format_of};
 ghost use Rattle.cedar_store.specs.Words.{first_refused, number_at, payload_of, file_payloads};
 ghost use Rattle.cedar_store.specs.Words.{state_of, after_put, AllByRecursion, HasExtent};
@@ -277,10 +278,10 @@ impl<T: Words, A: Allocator + Copy, D: ReplaceDevice> Store<T, A, D> {
         ensures recorded { OnOk result (IsRecordedIn D.seen T.state self.old self.new (put_at key.now value ∷ [])) }
 
         //= An acknowledged change looks after the length of its file, by the rule. If the file isn't too long for what it had at the last
-        //  look, nothing is done. Otherwise it is looked at: it isn't too long for its entries, or it was made short, or it was kept as it
-        //  was, for lack of memory, for a record that would be too long, or by the device; then `last_compaction` has the reason. [by
-        //  IsLookedAfter; also insert, update_bytes, update, erase_bytes, erase, apply_batch]
-        ensures looked_after { OnOk result (IsLookedAfter D.seen D.faults T.state self.old self.new) }
+        //  look, nothing is done. Otherwise it is looked at: it isn't too long for its entries; or it was, and was made short; or it was
+        //  kept as it was, for lack of memory, for a record that would be too long, or by the device; then `last_compaction` has the
+        //  reason. [by IsLookedAfter; also insert, update_bytes, update, erase_bytes, erase, apply_batch]
+        ensures looked_after { OnOk result (IsLookedAfter D.seen D.faults T.state (end_behind self.old (length key.now + 5)) self.old self.new) }
 
         //= A change that fails has looked at nothing and reports no compaction, unless it fails by the device: then it may report one in which
         //  that failed. [by IsLookedAfterError; also insert, update_bytes, update, erase_bytes, erase, apply_batch]
@@ -340,7 +341,7 @@ impl<T: Words, A: Allocator + Copy, D: ReplaceDevice> Store<T, A, D> {
         ensures rule { self.new.compaction ≡ self.old.compaction }
         ensures counted { KeepsCount D.seen self.old self.new }
         ensures recorded { OnOk result (IsRecordedIn D.seen T.state self.old self.new (put_at key.now value ∷ [])) }
-        ensures looked_after { OnOk result (IsLookedAfter D.seen D.faults T.state self.old self.new) }
+        ensures looked_after { OnOk result (IsLookedAfter D.seen D.faults T.state (end_behind self.old (length key.now + 5)) self.old self.new) }
         ensures told { IfErr result (IsLookedAfterError D.faults self.old self.new) }
         ensures faulty { self.old.failed ≡ false → IfSome (fault key.now value) (λ e. result ≡ Err (DurableError.Refused e)) }
         ensures cause { IfErr result (IsChangeCause D.faults self.old self.new (fault key.now value) (length key.now + 5)) }
@@ -363,7 +364,7 @@ impl<T: Words, A: Allocator + Copy, D: ReplaceDevice> Store<T, A, D> {
         ensures rule { self.new.compaction ≡ self.old.compaction }
         ensures counted { KeepsCount D.seen self.old self.new }
         ensures recorded { OnOk result (IsRecordedIn D.seen T.state self.old self.new (put_at key.now value ∷ [])) }
-        ensures looked_after { OnOk result (IsLookedAfter D.seen D.faults T.state self.old self.new) }
+        ensures looked_after { OnOk result (IsLookedAfter D.seen D.faults T.state (end_behind self.old (length key.now + 5)) self.old self.new) }
         ensures told { IfErr result (IsLookedAfterError D.faults self.old self.new) }
         ensures faulty { self.old.failed ≡ false → IfSome (fault key.now value) (λ e. result ≡ Err (DurableError.Refused e)) }
         ensures cause { IfErr result (IsChangeCause D.faults self.old self.new (fault key.now value) (length key.now + 5)) }
@@ -389,7 +390,7 @@ impl<T: Words, A: Allocator + Copy, D: ReplaceDevice> Store<T, A, D> {
         ensures rule { self.new.compaction ≡ self.old.compaction }
         ensures counted { KeepsCount D.seen self.old self.new }
         ensures recorded { OnOk result (IsRecordedIn D.seen T.state self.old self.new (put_at key.now value ∷ [])) }
-        ensures looked_after { OnOk result (IsLookedAfter D.seen D.faults T.state self.old self.new) }
+        ensures looked_after { OnOk result (IsLookedAfter D.seen D.faults T.state (end_behind self.old (length key.now + 5)) self.old self.new) }
         ensures told { IfErr result (IsLookedAfterError D.faults self.old self.new) }
         ensures faulty { self.old.failed ≡ false → IfSome (fault key.now value) (λ e. result ≡ Err (DurableError.Refused e)) }
         ensures cause { IfErr result (IsChangeCause D.faults self.old self.new (fault key.now value) (length key.now + 5)) }
@@ -426,7 +427,7 @@ impl<T: Words, A: Allocator + Copy, D: ReplaceDevice> Store<T, A, D> {
         ensures rule { self.new.compaction ≡ self.old.compaction }
         ensures counted { KeepsCount D.seen self.old self.new }
         ensures recorded { IfOk result (λ held. held ≡ true → IsRecordedIn D.seen T.state self.old self.new (erase_at key.now ∷ [])) }
-        ensures looked_after { IfOk result (λ held. held ≡ true → IsLookedAfter D.seen D.faults T.state self.old self.new) }
+        ensures looked_after { IfOk result (λ held. held ≡ true → IsLookedAfter D.seen D.faults T.state (end_behind self.old (length key.now + 1)) self.old self.new) }
         ensures told { IfErr result (IsLookedAfterError D.faults self.old self.new) }
 
         //= An erasure fails only if the store has failed before, for lack of memory, if the record is too long or the records end too far
@@ -464,7 +465,7 @@ impl<T: Words, A: Allocator + Copy, D: ReplaceDevice> Store<T, A, D> {
         ensures rule { self.new.compaction ≡ self.old.compaction }
         ensures counted { KeepsCount D.seen self.old self.new }
         ensures recorded { IfOk result (λ held. held ≡ true → IsRecordedIn D.seen T.state self.old self.new (erase_at key.now ∷ [])) }
-        ensures looked_after { IfOk result (λ held. held ≡ true → IsLookedAfter D.seen D.faults T.state self.old self.new) }
+        ensures looked_after { IfOk result (λ held. held ≡ true → IsLookedAfter D.seen D.faults T.state (end_behind self.old (length key.now + 1)) self.old self.new) }
         ensures told { IfErr result (IsLookedAfterError D.faults self.old self.new) }
         ensures cause { IfErr result (IsEraseCause D.faults self.old self.new (length key.now + 1)) }
         ensures err { IfErr result (LeavesStore T.state self.old self.new (after_erase (T.state self.old.words) key.now)) }
@@ -503,7 +504,7 @@ impl<T: Words, A: Allocator + Copy, D: ReplaceDevice> Store<T, A, D> {
         ensures rule { self.new.compaction ≡ self.old.compaction }
         ensures counted { KeepsCount D.seen self.old self.new }
         ensures recorded { OnOk result ((changes.now ≡ [] → ⊥) → IsRecordedIn D.seen T.state self.old self.new (changes_told changes.now)) }
-        ensures looked_after { OnOk result ((changes.now ≡ [] → ⊥) → IsLookedAfter D.seen D.faults T.state self.old self.new) }
+        ensures looked_after { OnOk result ((changes.now ≡ [] → ⊥) → IsLookedAfter D.seen D.faults T.state (end_behind self.old (batch_length (changes_told changes.now))) self.old self.new) }
         ensures told { IfErr result (IsLookedAfterError D.faults self.old self.new) }
 
         //= A batch in which a pair has a fault is refused with the first such pair's index and fault, whatever memory there is, if the
@@ -543,6 +544,7 @@ impl<T: Words, A: Allocator + Copy, D: ReplaceDevice> Store<T, A, D> {
         requires settled { IsSettled D.seen D.may_leave self.old.journal.device self.old.journal.format self.old.journal.end }
         requires room { self.old.journal.end < 2 ^ 60 }
         ensures settled { OnOk result (IsSettled D.seen D.may_leave self.new.journal.device self.new.journal.format self.new.journal.end) }
+        ensures longer { OnOk result (self.new.journal.end ≡ end_behind self.old (length (payload_of frame.now))) }
         ensures acknowledged { OnOk result (file_payloads (D.seen self.new.journal.device) ≡ with_payload (payload_of frame.now) (file_payloads (D.seen self.old.journal.device))) }
         ensures failed { OnOk result (self.new.failed ≡ self.old.failed) }
         ensures faults { D.faults self.old.journal.device ≤ D.faults self.new.journal.device }

@@ -8,6 +8,7 @@ use Rattle.cedar_store.specs.Batches.{all_erased_late}
 use Rattle.cedar_store.specs.Changes.{after_payloads}
 use Rattle.cedar_store.specs.declared.error.DurableError.TheVariants as error
 use Rattle.cedar_store.specs.Files.{state_of, IsEither, StandsFor}
+use Rattle.cedar_store.specs.Shortening.{IsLookedAfter}
 use Rattle.cedar_store.specs.Told.{changes_told}
 use Rattle.cedar_store.proofs.Compacted.{change_of_one, on_err, on_err_too, state_more, still_more}
 use Rattle.cedar_store.proofs.Shortened.{looked_since}
@@ -143,8 +144,14 @@ returns-else-not-self-clause-counted g c = λ was. c.append.ensures.counted was
 pub returns-in-Ok-clause-looked_after : goal.returns-in-Ok-clause-looked_after
 returns-in-Ok-clause-looked_after g c =
     let d = g.D.Device in
+    let old = c.args.self.now in
+    let between = c.append.new.self in
+    let new = c.compact_if_due.new.self in
     on_ok_weaker c.compact_if_due.result
-    (looked_since d.seen d.faults g.T.Words.state c.args.self.now c.append.new.self c.compact_if_due.new.self c.append.ensures.unlooked c.append.ensures.rule c.append.ensures.faults) c.compact_if_due.ensures.looked_after
+    (λ after.
+    subst (λ end. IsLookedAfter d.seen d.faults g.T.Words.state end old new) c.in-Ok.ensures.longer
+    (looked_since d.seen d.faults g.T.Words.state old between new between.journal.end c.append.ensures.unlooked c.append.ensures.rule c.append.ensures.faults after))
+    c.compact_if_due.ensures.looked_after
 
 pub returns-in-Ok-clause-told : goal.returns-in-Ok-clause-told
 returns-in-Ok-clause-told g c =

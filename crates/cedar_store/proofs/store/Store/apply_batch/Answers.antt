@@ -7,6 +7,7 @@ use Rattle.cedar_journal.specs.Frames.{payload_of}
 use Rattle.cedar_store.specs.Batches.{AreHeld, IsFaultless, all_erased_late, first_refused}
 use Rattle.cedar_store.specs.Changes.{after, all_changed}
 use Rattle.cedar_store.specs.Files.{IsEither}
+use Rattle.cedar_store.specs.Shortening.{end_behind, IsLookedAfter}
 use Rattle.cedar_store.specs.Told.{changes_told}
 use Rattle.cedar_store.proofs.Compacted.{failed_ready, on_each_err, recorded_in}
 use Rattle.cedar_store.proofs.FirstFaults.{first_handed, none_refused, nothing_told_of}
@@ -244,7 +245,8 @@ pub returns-clause-counted : goal.returns-clause-counted
 returns-clause-counted g c = λ was. c.acknowledge.ensures.counted was
 
 pub returns-in-Ok-clause-looked_after : goal.returns-in-Ok-clause-looked_after
-returns-in-Ok-clause-looked_after g c = λ _. c.in-Ok.ensures.looked_after
+returns-in-Ok-clause-looked_after g c = λ _.
+    subst (λ n. IsLookedAfter g.D.Device.seen g.D.Device.faults g.T.Words.state (end_behind c.args.self.now n) c.args.self.now c.acknowledge.new.self) c.in_ok-batch.ensures.length c.in-Ok.ensures.looked_after
 
 pub returns-then-is_empty-clause-looked_after : goal.returns-then-is_empty-clause-looked_after
 returns-then-is_empty-clause-looked_after g c = λ some. absurd (some (no_changes c.args.changes.now (sym c.if-is_empty.ensures)))

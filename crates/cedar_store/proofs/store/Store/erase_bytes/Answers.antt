@@ -1,8 +1,9 @@
 use Rattle.std.specs.Prelude.{option_and_then, option_map}
-use Rattle.std.proofs.Common.{◌≡◌, [], ◌∷◌, false, length, ◌+◌, ◌∙◌, ap, inl, refl, rules}
+use Rattle.std.proofs.Common.{◌≡◌, [], ◌∷◌, false, length, ◌+◌, ◌∙◌, ap, inl, refl, rules, subst}
 use Rattle.cedar_journal.specs.Frames.{payload_of}
 use Rattle.cedarwood.specs.State.{after_erase}
 use Rattle.cedar_store.specs.Changes.{after, all_changed, erase_at}
+use Rattle.cedar_store.specs.Shortening.{end_behind, IsLookedAfter}
 use Rattle.cedar_store.proofs.Compacted.{on_each_err, recorded_in}
 use Rattle.cedar_store.proofs.Payloads.{handed_on}
 use Rattle.cedar_store.proofs.Unwritten.{erase_unwritten, leaves_so, ready_unwritten}
@@ -74,4 +75,5 @@ pub returns-clause-counted : goal.returns-clause-counted
 returns-clause-counted g c = λ was. c.acknowledge.ensures.counted was
 
 pub returns-clause-looked_after : goal.returns-clause-looked_after
-returns-clause-looked_after g c = λ _. c.in_ok-acknowledge.ensures.looked_after
+returns-clause-looked_after g c = λ _.
+    subst (λ n. IsLookedAfter g.D.Device.seen g.D.Device.faults g.T.Words.state (end_behind c.args.self.now n) c.args.self.now c.acknowledge.new.self) c.in_ok-erasure.ensures.length c.in_ok-acknowledge.ensures.looked_after

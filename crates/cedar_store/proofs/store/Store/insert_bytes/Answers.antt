@@ -8,6 +8,7 @@ use Rattle.cedar_journal.specs.Frames.{payload_of}
 use Rattle.cedarwood.specs.State.{after_put}
 use Rattle.cedar_store.specs.Changes.{after, all_changed, put_at}
 use Rattle.cedar_store.specs.Files.{IsEither}
+use Rattle.cedar_store.specs.Shortening.{end_behind, IsLookedAfter}
 use Rattle.cedar_store.specs.Undo.{IsPutOf}
 use Rattle.cedarwood.specs.Fault.{fault}
 use Rattle.cedar_store.proofs.Compacted.{failed_ready, on_each_err, recorded_in}
@@ -191,4 +192,5 @@ pub returns-in_err-held-clause-told : goal.returns-in_err-held-clause-told
 returns-in_err-held-clause-told g c = on_each_err c.from_residual.result (λ e. inl (refl, refl))
 
 pub returns-in-Ok-acknowledge-clause-looked_after : goal.returns-in-Ok-acknowledge-clause-looked_after
-returns-in-Ok-acknowledge-clause-looked_after g c = c.in-Ok-acknowledge.ensures.looked_after
+returns-in-Ok-acknowledge-clause-looked_after g c =
+    subst (λ n. IsLookedAfter g.D.Device.seen g.D.Device.faults g.T.Words.state (end_behind c.args.self.now n) c.args.self.now c.acknowledge.new.self) c.in-Ok.ensures.length c.in-Ok-acknowledge.ensures.looked_after
