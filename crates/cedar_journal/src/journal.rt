@@ -219,8 +219,8 @@ impl<D: Device> Journal<D> {
     pub fn append<A: Allocator>(&mut self, frame: &Frame<A>) -> Result<(), JournalError>
         requires { IsSettled D.seen D.may_leave self.old.device self.old.format self.old.end }
 
-        //= Once a record is appended, the file is at rest and on the disk, and represents one more payload, this one. The records end as many
-        //  bytes further back as the record has. [with settled, longer]
+        //= Once a record is appended, the file is at rest and on the disk, and represents one more payload, this one. The records end as
+        //  many bytes further back as the record has. [with settled, longer]
         ensures acknowledged { OnOk result (file_payloads (D.seen self.new.device) ≡ with_payload (payload_of frame.now) (file_payloads (D.seen self.old.device))) }
         ensures settled { OnOk result (IsSettled D.seen D.may_leave self.new.device self.new.format self.new.end) }
         ensures longer { OnOk result (self.new.end ≡ self.old.end + (overhead self.old.format + length (payload_of frame.now))) }

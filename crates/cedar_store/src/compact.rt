@@ -59,8 +59,9 @@ impl<T: Words, A: Allocator + Copy, D: ReplaceDevice> Store<T, A, D> {
         ensures any_moment { self.old.failed ≡ false → CrashLeavesState D.moment D.left_since T.state self.old self.new }
         ensures any_moment_failed { CrashLeavesStateOrOld D.moment D.left_since D.may_leave T.state self.old self.new }
 
-        //= A compaction fails only for lack of memory, if the record of an entry would be too long, or if the device failed or kept the
-        //  file.
+        //= A compaction fails only for lack of memory, if the record of an entry would be too long, or if the device kept the file or
+        //  failed. It returns `Failed`, its own or of a device that kept the file, only if the disk has failed or a write has found no
+        //  room.
         ensures cause { IfErr result (λ e. CompactCause (D.faults self.old.journal.device) (D.faults self.new.journal.device) e) }
 
         //= After `Failed` the store has failed. After `Kept` the file is as it was, byte for byte, and so is what a crash may leave. After

@@ -129,8 +129,8 @@ impl<T: Made<A>, A: Allocator + Copy, D: Device> Store<T, A, D> {
             (λ c. state_of c ≡ state_of (D.seen device))) }
 
         //= A file is refused as foreign only if it is of another kind, as damaged if a record is damaged, at the position of the first such
-        //  one, as corrupt if one of its records is no change, and otherwise only for lack of memory or slots, or if the device failed,
-        //  which reported `Failed` only if the disk has failed.
+        //  one, as corrupt if one of its records is no change, and otherwise only for lack of memory or slots, or by the device, whose
+        //  `Failed` is returned only if the disk has failed or a write has found no room.
         ensures cause { IfErr result (λ e. OpenCause (D.seen device) (D.faults device) (D.faults e.1) e.0) }
 
         //= A file that is refused for any other reason than the device stays byte for byte as it was, whenever a crash comes. [with seen]
@@ -283,8 +283,8 @@ impl<T: Words, A: Allocator + Copy, D: ReplaceDevice> Store<T, A, D> {
         //  reason. [by IsLookedAfter; also insert, update_bytes, update, erase_bytes, erase, apply_batch]
         ensures looked_after { OnOk result (IsLookedAfter D.seen D.faults T.state (end_behind self.old (length key.now + 5)) self.old self.new) }
 
-        //= A change that fails has looked at nothing and reports no compaction, unless it fails by the device: then it may report one in which
-        //  that failed. [by IsLookedAfterError; also insert, update_bytes, update, erase_bytes, erase, apply_batch]
+        //= A change that fails has looked at nothing and reports no compaction, unless it fails by the device: then it may report one in
+        //  which that failed. [by IsLookedAfterError; also insert, update_bytes, update, erase_bytes, erase, apply_batch]
         ensures told { IfErr result (IsLookedAfterError D.faults self.old self.new) }
 
         //= The count of a store stays that of its file's records, in each change and each compaction, as long as the store hasn't failed.
@@ -295,8 +295,8 @@ impl<T: Words, A: Allocator + Copy, D: ReplaceDevice> Store<T, A, D> {
         ensures faulty { self.old.failed ≡ false → IfSome (fault key.now value) (λ e. result ≡ Err (DurableError.Refused e)) }
 
         //= Otherwise it fails only if the store has failed before, for lack of memory or slots, if the record is too long or the records
-        //  end too far back, or if the device failed. It returns `NoRoom` only if a write of the device found no room. [also insert,
-        //  update_bytes, update]
+        //  end too far back, or by the device. It returns `NoRoom`, and `Failed` of the device, only if the disk has failed or a write has
+        //  found no room. [also insert, update_bytes, update]
         ensures cause { IfErr result (IsChangeCause D.faults self.old self.new (fault key.now value) (length key.now + 5)) }
 
         //= After an error of the device the store has failed. After `NoRoom` it hasn't: the dictionary is as it was, and so is where the
@@ -431,7 +431,8 @@ impl<T: Words, A: Allocator + Copy, D: ReplaceDevice> Store<T, A, D> {
         ensures told { IfErr result (IsLookedAfterError D.faults self.old self.new) }
 
         //= An erasure fails only if the store has failed before, for lack of memory, if the record is too long or the records end too far
-        //  back, or if the device failed. [also erase]
+        //  back, or by the device. It returns `NoRoom`, and `Failed` of the device, only if the disk has failed or a write has found no
+        //  room. [also erase]
         ensures cause { IfErr result (IsEraseCause D.faults self.old self.new (length key.now + 1)) }
 
         //= After an error of the device the store has failed. After `NoRoom` it hasn't: the dictionary is as it was, and the file
@@ -512,7 +513,8 @@ impl<T: Words, A: Allocator + Copy, D: ReplaceDevice> Store<T, A, D> {
         ensures first { self.old.failed ≡ false → IfSome (first_refused 0 (changes_told changes.now)) (λ e. result ≡ Err e) }
 
         //= A batch in which one pair has a fault is refused. Otherwise it fails only if the store has failed before, for lack of memory or
-        //  slots, if the record is too long or the records end too far back, or if the device failed. [with cause]
+        //  slots, if the record is too long or the records end too far back, or by the device. It returns `NoRoom`, and `Failed` of the
+        //  device, only if the disk has failed or a write has found no room. [with cause]
         ensures faulty { IsOk result → AllByRecursion IsFaultless (changes_told changes.now) }
         ensures cause { IfErr result (IsBatchCause D.faults self.old self.new (changes_told changes.now)) }
 
