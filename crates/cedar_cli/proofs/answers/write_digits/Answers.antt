@@ -1,4 +1,4 @@
-use Rattle.std.proofs.Common.{[], refl, ◌∙◌}
+use Rattle.std.proofs.Common.{rules, [], refl, ◌∙◌}
 use Rattle.cedarwood.specs.WatchedDevice.{device_of}
 use Rattle.text_lines.proofs.Bytes.{on_err}
 use Rattle.cedar_cli.proofs.EntryLines.{digits_none, digits_stopped, digits_more}
@@ -7,12 +7,16 @@ use Rattle.cedar_cli.proofs.answers.write_digits.Goals as goal
 pub loop-rest-init : goal.loop-rest-init
 loop-rest-init g c = ([], refl, digits_none (g.W.Write.contents (device_of c.args.writer.now)), refl)
 
-pub returns-in_err-write_piece-clause-err : goal.returns-in_err-write_piece-clause-err
-returns-in_err-write_piece-clause-err g c =
-    let i = c.loop-rest.invariant in
-    on_err c.from_residual.result
-    (digits_stopped (g.W.Write.contents (device_of c.args.writer.now)) (g.W.Write.contents (device_of c.loop-rest.writer)) (g.W.Write.contents (device_of c.write_piece.new.writer))
-    c.args.bytes.now i.0 c.loop-rest.rest.now c.min-count.result i.1 i.2 c.in_err-write_piece.ensures.err)
+pub returns-in_err-write_piece : goal.returns-in_err-write_piece
+returns-in_err-write_piece g c = record {
+  ok = search rules;
+  err =
+      let i = c.loop-rest.invariant in
+      on_err c.from_residual.result
+      (digits_stopped (g.W.Write.contents (device_of c.args.writer.now)) (g.W.Write.contents (device_of c.loop-rest.writer)) (g.W.Write.contents (device_of c.write_piece.new.writer))
+      c.args.bytes.now i.0 c.loop-rest.rest.now c.min-count.result i.1 i.2 c.in_err-write_piece.ensures.err);
+  faults = search rules;
+}
 
 pub loop-rest-preserved : goal.loop-rest-preserved
 loop-rest-preserved g c =

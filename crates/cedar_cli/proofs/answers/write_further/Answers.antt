@@ -1,4 +1,4 @@
-use Rattle.std.proofs.Common.{◌++◌, ◌∷◌, ◌∙◌, [], ℕ, ℤ, ap, append_assoc, refl, subst, sym}
+use Rattle.std.proofs.Common.{rules, ◌++◌, ◌∷◌, ◌∙◌, [], ℕ, ℤ, ap, append_assoc, refl, subst, sym}
 use Rattle.std.specs.Prelude.{codes}
 use Rattle.std.specs.Io.KnownBytes.{Appends}
 use Rattle.cedarwood.specs.WatchedDevice.{device_of}
@@ -24,11 +24,15 @@ loop-pair-preserved g c =
       c.in_ok-write_after_space.ensures.faults.unfailed ∙ i.3,
     )
 
-pub returns-in_err-write_after_space-clause-err : goal.returns-in_err-write_after_space-clause-err
-returns-in_err-write_after_space-clause-err g c =
-    let i = c.loop-pair.invariant in
-    let held = g.W.Write.contents (device_of c.args.writer.now) in
-    let begun = g.W.Write.contents (device_of c.loop-pair.writer) in
-    let holds = g.W.Write.contents (device_of c.write_after_space.new.writer) in
-    on_err c.from_residual.result
-    (spaced_stopped pair_text held begun holds (g.P.Pairs.left c.args.pairs.now) i.0 (g.P.Pairs.left c.next_pair.new.self) c.in-Some.pair (i.1 ∙ ap (λ l. i.0 ++ l) c.in-Some.ensures) i.2 c.in_err-write_after_space.ensures.err)
+pub returns-in_err-write_after_space : goal.returns-in_err-write_after_space
+returns-in_err-write_after_space g c = record {
+  ok = search rules;
+  err =
+      let i = c.loop-pair.invariant in
+      let held = g.W.Write.contents (device_of c.args.writer.now) in
+      let begun = g.W.Write.contents (device_of c.loop-pair.writer) in
+      let holds = g.W.Write.contents (device_of c.write_after_space.new.writer) in
+      on_err c.from_residual.result
+      (spaced_stopped pair_text held begun holds (g.P.Pairs.left c.args.pairs.now) i.0 (g.P.Pairs.left c.next_pair.new.self) c.in-Some.pair (i.1 ∙ ap (λ l. i.0 ++ l) c.in-Some.ensures) i.2 c.in_err-write_after_space.ensures.err);
+  faults = search rules;
+}

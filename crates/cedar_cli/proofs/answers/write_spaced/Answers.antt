@@ -1,4 +1,4 @@
-use Rattle.std.proofs.Common.{◌++◌, ◌∷◌, ◌∙◌, [], ap, append_assoc, subst, sym}
+use Rattle.std.proofs.Common.{rules, ◌++◌, ◌∷◌, ◌∙◌, [], ap, append_assoc, subst, sym}
 use Rattle.std.specs.Prelude.{codes}
 use Rattle.std.specs.Io.KnownBytes.{Appends}
 use Rattle.cedarwood.specs.WatchedDevice.{device_of}
@@ -22,12 +22,16 @@ loop-token-preserved g c =
       unfailed = c.in_ok-write_next.ensures.faults.unfailed ∙ i.unfailed;
     }
 
-pub returns-in_err-write_next-clause-err : goal.returns-in_err-write_next-clause-err
-returns-in_err-write_next-clause-err g c =
-    let i = c.loop-token.invariant in
-    let came = c.loop-token.yielded in
-    let held = g.W.Write.contents (device_of c.args.writer.now) in
-    let begun = g.W.Write.contents (device_of c.loop-token.writer) in
-    let holds = g.W.Write.contents (device_of c.write_next.new.writer) in
-    on_err c.from_residual.result
-    (spaced_stopped token_text held begun holds c.args.tokens came c.next.new.self c.in-Some.token (i.came ∙ ap (λ l. came ++ l) c.in-Some.ensures.steps) i.written c.in_err-write_next.ensures.err)
+pub returns-in_err-write_next : goal.returns-in_err-write_next
+returns-in_err-write_next g c = record {
+  ok = search rules;
+  err =
+      let i = c.loop-token.invariant in
+      let came = c.loop-token.yielded in
+      let held = g.W.Write.contents (device_of c.args.writer.now) in
+      let begun = g.W.Write.contents (device_of c.loop-token.writer) in
+      let holds = g.W.Write.contents (device_of c.write_next.new.writer) in
+      on_err c.from_residual.result
+      (spaced_stopped token_text held begun holds c.args.tokens came c.next.new.self c.in-Some.token (i.came ∙ ap (λ l. came ++ l) c.in-Some.ensures.steps) i.written c.in_err-write_next.ensures.err);
+  faults = search rules;
+}

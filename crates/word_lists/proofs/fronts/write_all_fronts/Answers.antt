@@ -1,4 +1,4 @@
-use Rattle.std.proofs.Common.{◌≡◌, ◌++◌, ◌∷◌, ◌∙◌, ℕ, ℤ, List, [], ap, append_assoc, length, map, refl, subst, sym}
+use Rattle.std.proofs.Common.{rules, ◌≡◌, ◌++◌, ◌∷◌, ◌∙◌, ℕ, ℤ, List, [], ap, append_assoc, length, map, refl, subst, sym}
 use Rattle.std.proofs.lemmas.List.{map-append}
 use Rattle.std.specs.Prelude.{ltb}
 use Rattle.std.specs.Io.KnownBytes.{Appends}
@@ -33,15 +33,19 @@ loop-front-preserved g c =
       some_more told e ∙ ap (λ (l : List Entry). ltb 0 (length l)) (sym push),
     )
 
-pub returns-in_err-write_front-clause-err : goal.returns-in_err-write_front-clause-err
-returns-in_err-write_front-clause-err g c =
-    let i = c.loop-front.invariant in
-    let held = g.W.Write.contents (device_of c.args.writer.now) in
-    let begun = g.W.Write.contents (device_of c.loop-front.writer) in
-    let holds = g.W.Write.contents (device_of c.write_front.new.writer) in
-    let later = g.F.NextFront.left c.next_front.new.self in
-    on_err c.from_residual.result
-    (lines_stopped held begun holds (map (front_entry c.args.text.now) (g.F.NextFront.left c.args.fronts.now)) (map (front_entry c.args.text.now) i.0) (map (front_entry c.args.text.now) later)
-    (front_entry c.args.text.now c.in-Some.front)
-    (ap (map (front_entry c.args.text.now)) (i.1 ∙ ap (λ l. i.0 ++ l) c.in-Some.ensures) ∙ map-append (front_entry c.args.text.now) i.0 (c.in-Some.front ∷ later))
-    i.2 c.in_err-write_front.ensures.err)
+pub returns-in_err-write_front-clause-writes : goal.returns-in_err-write_front-clause-writes
+returns-in_err-write_front-clause-writes g c = record {
+  ok = search rules;
+  err =
+      let i = c.loop-front.invariant in
+      let held = g.W.Write.contents (device_of c.args.writer.now) in
+      let begun = g.W.Write.contents (device_of c.loop-front.writer) in
+      let holds = g.W.Write.contents (device_of c.write_front.new.writer) in
+      let later = g.F.NextFront.left c.next_front.new.self in
+      on_err c.from_residual.result
+      (lines_stopped held begun holds (map (front_entry c.args.text.now) (g.F.NextFront.left c.args.fronts.now)) (map (front_entry c.args.text.now) i.0) (map (front_entry c.args.text.now) later)
+      (front_entry c.args.text.now c.in-Some.front)
+      (ap (map (front_entry c.args.text.now)) (i.1 ∙ ap (λ l. i.0 ++ l) c.in-Some.ensures) ∙ map-append (front_entry c.args.text.now) i.0 (c.in-Some.front ∷ later))
+      i.2 c.in_err-write_front.ensures.err);
+  faults = search rules;
+}
