@@ -3,8 +3,18 @@ use Rattle.std.proofs.lemmas.Int.{to_z-of_z}
 use Rattle.std.specs.Prelude.{OnOk}
 use Rattle.std.specs.Io.KnownBytes.{Appends}
 use Rattle.cedarwood.specs.WatchedDevice.{device_of}
-use Rattle.cedar_cli.proofs.Orders.{nul_line, value_line}
+use Rattle.cedar_cli.proofs.Orders.{empty_line, nul_line, value_line}
 use Rattle.cedar_cli.proofs.verbs.write_refusal.Goals as goal
+
+pub returns-in-EmptyKey : goal.returns-in-EmptyKey
+returns-in-EmptyKey g c = record {
+  ok =
+      let held = g.W.Write.contents (device_of c.args.writer.now) in
+      let holds = g.W.Write.contents (device_of c.write_whole.new.writer) in
+      subst (λ (line : List ℕ). OnOk c.write_whole.result (Appends held holds line)) (empty_line c.args.error c.in-EmptyKey.is) c.write_whole.ensures.ok;
+  err = search rules;
+  faults = search rules;
+}
 
 pub returns-in-NulByte : goal.returns-in-NulByte
 returns-in-NulByte g c = record {
