@@ -1,4 +1,4 @@
--- What the calls of a writer say together.
+-- What calls say that write bytes one after another.
 use Rattle.std.proofs.Common.{◌≡◌, ℕ, List, [], ◌++◌, Option, ap, ◌∙◌, refl, subst}
 use Rattle.std.specs.Prelude.{Result, Ok, Err}
 use Rattle.std.specs.Result.{IsErrAnd}
@@ -8,7 +8,7 @@ use Rattle.text_lines.specs.Written.{BreaksOff, WritesBytes}
 use Rattle.text_lines.proofs.Bytes.{Appends-append, Appends-none, front_after, front_more}
 
 module _ {X Y E D : Type 0} {contents : D → Option (List ℕ)} {fault : E} where
-  -- the fault of a call is passed on, by which a front of some bytes is written
+  -- a call failed, and its fault is passed on: a front of these bytes was written
   pub breaks_off : {a b c : Watched D} {part bytes : List ℕ} {e : E} {r : Result X E}
       → IsErrAnd r (λ y. y ≡ e) → WritesBytes {X = Y} contents fault b c part (Err e) → BreaksOff contents a c bytes → WritesBytes contents fault a c bytes r
   breaks_off {r = Ok x} is w front = absurd is
@@ -18,17 +18,17 @@ module _ {X Y E D : Type 0} {contents : D → Option (List ℕ)} {fault : E} whe
     faults = record { unfailed = tt; cause = (let same : e ≡ fault = let told = w.faults.cause.0 in cc in ap Err (is ∙ same), w.faults.cause.1) };
   }
 
-  -- the fault of the call that writes them all is
+  -- the same where the call was to write all of them
   pub breaks_all : {a c : Watched D} {bytes : List ℕ} {e : E} {r : Result X E}
       → IsErrAnd r (λ y. y ≡ e) → WritesBytes {X = Y} contents fault a c bytes (Err e) → WritesBytes contents fault a c bytes r
   breaks_all is w = breaks_off is w w.err
 
-  -- that of the call that writes the first part of them is
+  -- and where it was to write the first part of them
   pub breaks_first : {a c : Watched D} {part : List ℕ} {e : E} {r : Result X E} (more : List ℕ)
       → IsErrAnd r (λ y. y ≡ e) → WritesBytes {X = Y} contents fault a c part (Err e) → WritesBytes contents fault a c (part ++ more) r
   breaks_first {a = a} {c = c} {part = part} more is w = breaks_off is w (front_more (contents (device_of a)) (contents (device_of c)) part more w.err)
 
-  -- a part was written, and a call writes the rest, or fails
+  -- a part was written, and then a call writes the rest, or fails
   pub then_writes : {a b c : Watched D} {done bytes : List ℕ} {x : Y} {r : Result X E}
       → WritesBytes {X = Y} contents fault a b done (Ok x) → WritesBytes contents fault b c bytes r → WritesBytes contents fault a c (done ++ bytes) r
   then_writes {a = a} {b = b} {c = c} {done = done} {bytes = bytes} {r = Ok y} p w = record {
@@ -42,7 +42,7 @@ module _ {X Y E D : Type 0} {contents : D → Option (List ℕ)} {fault : E} whe
     faults = record { unfailed = tt; cause = w.faults.cause };
   }
 
-  -- all was written, and something else is returned
+  -- all was written, and another value is returned
   pub writes_all : {a c : Watched D} {bytes : List ℕ} {x : Y} {y : X}
       → WritesBytes {X = Y} contents fault a c bytes (Ok x) → WritesBytes {X = X} contents fault a c bytes (Ok y)
   writes_all w = record { ok = w.ok; err = tt; faults = record { unfailed = w.faults.unfailed; cause = tt } }
