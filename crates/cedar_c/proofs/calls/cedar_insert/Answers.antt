@@ -2,7 +2,7 @@ use Rattle.std.proofs.Common.{rules}
 use Rattle.cedar_c.proofs.calls.cedar_insert.Goals as goal
 
 pub returns-in-Err-clause-stores : goal.returns-in-Err-clause-stores
-returns-in-Err-clause-stores g c = record {
+returns-in-Err-clause-stores c = record {
   closed = search rules;
   ok = search rules;
   err = search rules;

@@ -2,7 +2,7 @@ use Rattle.std.proofs.Common.{rules}
 use Rattle.cedar_c.proofs.calls.cedar_update.Goals as goal
 
 pub returns-in-Err : goal.returns-in-Err
-returns-in-Err g c = record {
+returns-in-Err c = record {
   stores = record {
     closed = search rules;
     ok = search rules;
