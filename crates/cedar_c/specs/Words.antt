@@ -29,6 +29,7 @@ pub use Rattle.cedar_c.specs.Shrinks.{Shrinks}
 pub use Rattle.cedar_c.specs.Status.{LacksOnlyNew, position_of, status_of, status_text}
 pub use Rattle.cedar_c.specs.Status.{TellsFault, TellsPosition}
 pub use Rattle.cedar_c.specs.Stores.{HoldsFront, HoldsPart, RefusesAll}
+pub use Rattle.cedar_c.specs.Updates.{KeepsSlots, StoresValue}
 pub use Rattle.cedar_c.specs.declared.any.AnyCedar.{AnyCedar}
 pub use Rattle.cedarwood.specs.Format.{header_answer}
 pub use Rattle.cedarwood.specs.Refusal.{refusal_of}

@@ -30,5 +30,5 @@ pub use Rattle.std.specs.Io.KnownBytes.{Appends, Consumes}
 pub use Rattle.std.specs.List.{after_first, before_first}
 pub use Rattle.std.specs.Mem.{FitsInMemory}
 pub use Rattle.std.specs.Prelude.{IsTrue}
-pub use Rattle.text_lines.specs.Written.{AppendsFront, BreaksOff, Writes, WritesFront}
-pub use Rattle.text_lines.specs.Written.{WritesOrFails, WritesUpTo}
+pub use Rattle.text_lines.specs.Written.{AppendsFront, BreaksOff, Writes, WritesBytes}
+pub use Rattle.text_lines.specs.Written.{WritesFront, WritesOrFails, WritesUpTo}

@@ -2,7 +2,7 @@
 use Rattle.std.proofs.Common.{◌≡◌, ℕ, List, [], ◌++◌, Option, Some, None, refl, sym, ap, ◌∙◌, append_assoc, append-nil, take, drop, length, ◌-◌, arith, take-append-drop, length-drop, length-append, Bool, true, false, ◌||◌, ◌&&◌, ◌==◌}
 use Rattle.std.proofs.lemmas.List.{take_all}
 use Rattle.std.proofs.lemmas.Bool.{eqb-true}
-use Rattle.std.specs.Prelude.{Result, Ok, Err, OnOk, OnErr}
+use Rattle.std.specs.Prelude.{Result, Ok, Err, OnErr}
 use Rattle.std.specs.Io.KnownBytes.{Appends}
 use Rattle.text_lines.specs.Written.{WritesFront}
 
@@ -39,15 +39,7 @@ pub front_after : (a b c : Option (List ℕ)) (done bytes : List ℕ) → Append
 front_after a b c done bytes p h =
     (done ++ h.0, h.1, h.2, ap (λ l. done ++ l) h.3 ∙ sym (append_assoc done h.0 h.1), Appends-append a b c done h.0 p h.4)
 
--- the same of a call's result
-pub then_ok : {T E : Type 0} (r : Result T E) (a b c : Option (List ℕ)) (done bytes : List ℕ) → Appends a b done → OnOk r (Appends b c bytes) → OnOk r (Appends a c (done ++ bytes))
-then_ok (Ok x) a b c done bytes p h = Appends-append a b c done bytes p h
-then_ok (Err e) a b c done bytes p h = tt
-
-pub then_err : {T E : Type 0} (r : Result T E) (a b c : Option (List ℕ)) (done bytes : List ℕ) → Appends a b done → OnErr r (WritesFront b c bytes) → OnErr r (WritesFront a c (done ++ bytes))
-then_err (Ok x) a b c done bytes p h = tt
-then_err (Err e) a b c done bytes p h = front_after a b c done bytes p h
-
+-- what is so of a call that failed
 pub on_err : {T E P : Type 0} (r : Result T E) → P → OnErr r P
 on_err (Ok x) p = tt
 on_err (Err e) p = p

@@ -9,7 +9,8 @@ pub use Rattle.std.specs.Io.BufRead.{drop_through, take_through}
 pub use Rattle.std.specs.Fmt.{signed_decimal}
 pub use Rattle.std.specs.List.{before_first, position}
 pub use Rattle.std.specs.Str.{is_utf8}
-pub use Rattle.text_lines.specs.Written.{BreaksOff, Writes, WritesFront, WritesOrFails, WritesUpTo}
+pub use Rattle.text_lines.specs.Written.{BreaksOff, Writes, WritesBytes, WritesFront}
+pub use Rattle.text_lines.specs.Written.{WritesOrFails, WritesUpTo}
 pub use Rattle.word_lists.specs.declared.lines.StoreError.TheVariants.{Memory}
 pub use Rattle.word_lists.specs.Devices.{LinesOrFails}
 pub use Rattle.word_lists.specs.Lines.{byte_text, entries_missing, entry_line, entry_lines}

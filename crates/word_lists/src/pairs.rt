@@ -5,7 +5,7 @@ ghost use Rattle.std.specs.Prelude.{MatchOption, OnErr, OnOk};
 ghost use Rattle.word_lists.specs.Words.{after_put, all_stored, BreaksOff, entries_missing};
 ghost use Rattle.word_lists.specs.Words.{has_failed, holds_entry, IsWant, LinesOrFails};
 ghost use Rattle.word_lists.specs.Words.{signed_line, signed_lines, StoresFirst, Writes};
-ghost use Rattle.word_lists.specs.Words.{WritesOrFails, WritesUpTo};
+ghost use Rattle.word_lists.specs.Words.{WritesBytes, WritesUpTo};
 
 use crate::lines::{StoreError, store_error};
 use crate::lists::next_entry;
@@ -150,10 +150,8 @@ fn write_unless_held<L: Layout, const SLOTS: usize, A: Allocator + Copy, W: Writ
     value: i32,
     other: &Trie<L, SLOTS, A>,
 ) -> Result<bool, ListError>
-    ensures ok { OnOk result (Writes W.contents writer.old writer.new (signed_lines sign.now (entries_missing other.now.state.tree ((key.now, value) ∷ [])))) }
+    ensures writes { WritesBytes W.contents ListError.Write writer.old writer.new (signed_lines sign.now (entries_missing other.now.state.tree ((key.now, value) ∷ []))) result }
     ensures any { IfOk result (λ any. any ≡ ltb 0 (length (entries_missing other.now.state.tree ((key.now, value) ∷ [])))) }
-    ensures err { OnErr result (BreaksOff W.contents writer.old writer.new (signed_lines sign.now (entries_missing other.now.state.tree ((key.now, value) ∷ [])))) }
-    ensures faults { WritesOrFails ListError.Write (has_failed writer.old) (has_failed writer.new) result }
 {
     if holds(other, key, value) {
         return Ok(false);
@@ -183,9 +181,7 @@ fn write_signed<W: Write>(
     key: &[u8],
     value: i32,
 ) -> Result<(), ListError>
-    ensures ok { OnOk result (Writes W.contents writer.old writer.new (signed_line sign.now (key.now, value))) }
-    ensures err { OnErr result (BreaksOff W.contents writer.old writer.new (signed_line sign.now (key.now, value))) }
-    ensures faults { WritesOrFails ListError.Write (has_failed writer.old) (has_failed writer.new) result }
+    ensures { WritesBytes W.contents ListError.Write writer.old writer.new (signed_line sign.now (key.now, value)) result }
 {
     write_whole(writer, sign)?;
     write_entry(writer, key, value)
