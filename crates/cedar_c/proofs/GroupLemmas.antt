@@ -21,7 +21,8 @@ use Rattle.cedar_store.proofs.Payloads.{of_batch}
 use Rattle.cedar_store.proofs.Recorded.{each_more, its_payloads, longer_records}
 use Rattle.cedar_c.specs.Changes.{IsRecord}
 use Rattle.cedar_c.specs.Groups.{AddsChange, IsGroup, group_head}
-use Rattle.cedar_c.proofs.PlanLemmas.{PlansAppend, is_change}
+use Rattle.cedar_c.specs.Plans.{PlansAppend}
+use Rattle.cedar_c.proofs.PlanLemmas.{is_change}
 use Rattle.std.proofs.lemmas.Option.{none-some}
 
 -- ---- records that take all their bytes: what follows them is read as if it were alone

@@ -11,7 +11,7 @@ ghost use Rattle.cedar_c.specs.Words.{shown_in, shown_tree, state_in, StoresValu
 use crate::any::AnyCedar;
 use crate::handle::Handle;
 use crate::reading::Reading;
-use crate::status::{CLOSED, INVALID_MAX_TRIAL, MEMORY, OK, SLOT_LIMIT, tell};
+use crate::status::{CLOSED, INVALID_MAX_TRIAL, MEMORY, OK, tell};
 use crate::walks::Match;
 use cedarwood::{CedarBuilder, Layout, Trie};
 use std::alloc::Global;

@@ -18,16 +18,18 @@ pub Appends-none : (a : Option (List ℕ)) → Appends a a []
 Appends-none None = tt
 Appends-none (Some xs) = sym (append-nil xs)
 
+-- as many bytes as are left behind the first n are all that are left there
+pub whole_rest : (n : ℕ) (rest : List ℕ) → take (length rest - n) (drop n rest) ≡ drop n rest
+whole_rest n rest = take_all (length rest - n) (drop n rest) (omega (arith, length-drop n rest))
+
 -- the next n bytes of the rest were taken
 pub Appends-more : (a b c : Option (List ℕ)) (all x rest : List ℕ) (n : ℕ) → all ≡ x ++ rest → Appends a b x → Appends b c (take n rest)
     → (y : List ℕ) × (all ≡ y ++ take (length rest - n) (drop n rest)) × Appends a c y
 Appends-more a b c all x rest n e p q = (
   x ++ take n rest,
-  e ∙ ap (λ l. x ++ l) (sym (take-append-drop n rest)) ∙ sym (append_assoc x (take n rest) (drop n rest)) ∙ ap (λ l. (x ++ take n rest) ++ l) (sym whole),
+  e ∙ ap (λ l. x ++ l) (sym (take-append-drop n rest)) ∙ sym (append_assoc x (take n rest) (drop n rest)) ∙ ap (λ l. (x ++ take n rest) ++ l) (sym (whole_rest n rest)),
   Appends-append a b c x (take n rest) p q,
-) where
-  whole : take (length rest - n) (drop n rest) ≡ drop n rest
-  whole = take_all (length rest - n) (drop n rest) (omega (arith, length-drop n rest))
+)
 
 -- a front of some bytes is one of more bytes
 pub front_more : (a b : Option (List ℕ)) (bytes more : List ℕ) → WritesFront a b bytes → WritesFront a b (bytes ++ more)

@@ -14,8 +14,8 @@ pub use Rattle.text_lines.specs.Written.{WritesOrFails, WritesUpTo}
 pub use Rattle.word_lists.specs.declared.lines.StoreError.TheVariants.{Memory}
 pub use Rattle.word_lists.specs.Devices.{LinesOrFails}
 pub use Rattle.word_lists.specs.Lines.{byte_text, entries_missing, entry_line, entry_lines}
-pub use Rattle.word_lists.specs.Lines.{escape, found_line, holds_entry, is_plain, signed_line}
-pub use Rattle.word_lists.specs.Lines.{signed_lines, word_text}
+pub use Rattle.word_lists.specs.Lines.{escape, found_line, holds_entry, is_plain, missing_lines}
+pub use Rattle.word_lists.specs.Lines.{signed_line, word_text}
 pub use Rattle.word_lists.specs.Reading.{first_read, named_of, read_as}
 pub use Rattle.word_lists.specs.Stored.{absent_of, Adds, AddsLine, ErasesFirstLines, figures_number}
 pub use Rattle.word_lists.specs.Stored.{figures_of, is_tab, IsWant, line_absent, line_erased}
@@ -30,4 +30,5 @@ pub use Rattle.word_lists.specs.Texts.{is_parted, IsCheapestCut, keyword_lines, 
 pub use Rattle.word_lists.specs.Texts.{marked_line, marked_token, match_lines, OnCheapestLine}
 pub use Rattle.word_lists.specs.Texts.{parted_token, parting, replaced_by, replaced_line}
 pub use Rattle.word_lists.specs.Texts.{replaced_token, replacement, spot_line, spot_lines}
-pub use Rattle.word_lists.specs.Texts.{style_text, styled_text, tab_field, text_part, without_last}
+pub use Rattle.word_lists.specs.Texts.{style_text, styled_line, styled_text, tab_field, text_part}
+pub use Rattle.word_lists.specs.Texts.{without_last}

@@ -1,9 +1,9 @@
 //! A text cut into tokens, with a sign between them.
 
-ghost use Rattle.std.specs.Prelude.{◌++◌, ◌∷◌, ◌≡◌, [], Err, List, MatchOption, OnOk};
-ghost use Rattle.word_lists.specs.Words.{body_of, BreaksOff, ending_of, greedy_line, has_failed};
-ghost use Rattle.word_lists.specs.Words.{is_parted, LinesOrFails, OnCheapestLine, parted_token};
-ghost use Rattle.word_lists.specs.Words.{parting, style_text, styled_text, Token, Writes};
+ghost use Rattle.std.specs.Prelude.{◌∷◌, ◌≡◌, [], Err, List, MatchOption, OnOk};
+ghost use Rattle.word_lists.specs.Words.{BreaksOff, greedy_line, has_failed, is_parted};
+ghost use Rattle.word_lists.specs.Words.{LinesOrFails, OnCheapestLine, parted_token, parting};
+ghost use Rattle.word_lists.specs.Words.{style_text, styled_line, styled_text, Token, Writes};
 ghost use Rattle.word_lists.specs.Words.{WritesBytes};
 
 use crate::marked::{write_marked_token, write_replaced_token};
@@ -63,7 +63,7 @@ pub(crate) fn write_line_tokens<T: Tokens, W: Write>(
     style: Style<'_>,
     tokens: &mut T,
 ) -> Result<(), ListError>
-    ensures { WritesBytes W.contents ListError.Write writer.old writer.new (styled_text style.entry (body_of line.now) (T.left tokens.old) ++ ending_of line.now) result }
+    ensures { WritesBytes W.contents ListError.Write writer.old writer.new (styled_line style.entry line.now (T.left tokens.old)) result }
 {
     write_tokens(writer, body(line), style, tokens)?;
     write_whole(writer, ending(line))
