@@ -8,7 +8,7 @@ use Rattle.cedar_journal.specs.Formats.{overhead}
 use Rattle.cedar_journal.specs.Journal.{IsBeforeOrAfter}
 use Rattle.cedar_journal.proofs.Moments as moments
 use Rattle.cedar_plan.specs.Calls.{LeftSince, open_call, seen_after}
-use Rattle.cedar_plan.specs.Plans.{works_of}
+use Rattle.cedar_plan.specs.Plans.{PlansAppend, works_of}
 use Rattle.cedar_plan.specs.Works.{Work, append_works, end_of, format_in, opening_works}
 use Rattle.cedar_plan.specs.declared.plan.Plan.{Plan}
 use Rattle.cedar_plan.proofs.Appending.{append_is_safe}
@@ -16,7 +16,6 @@ use Rattle.cedar_plan.proofs.Opening.{opening_is_safe}
 use Rattle.cedar_store.specs.Changes.{Change, after, all_changed, change_of, after_change, put_at, after_payloads}
 use Rattle.cedar_store.specs.Files.{IsEither, state_of}
 use Rattle.cedar_store.proofs.Counted.{counted_more}
-use Rattle.cedar_c.specs.Plans.{PlansAppend}
 use Rattle.cedar_store.proofs.Payloads.{one_change}
 use Rattle.cedar_store.proofs.States.{either, state_added}
 use Rattle.cedarwood.specs.State.{State, new_state, after_put}

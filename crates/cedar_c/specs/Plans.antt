@@ -1,16 +1,14 @@
 -- The dictionary of a store whose file C keeps: what the plans say that the calls write.
 use Rattle.std.specs.Prelude.{◌≡◌, ◌⊎◌, ℕ, ℤ, ◌+◌, ◌<◌, ◌≤◌, ◌^◌, Bool, true}
-use Rattle.std.specs.Prelude.{false, List, [], ◌∷◌, ◌++◌, length, Some}
+use Rattle.std.specs.Prelude.{false, List, [], ◌∷◌, Some}
 use Rattle.cedar_journal.specs.declared.format.Format.{Format}
 use Rattle.cedar_journal.specs.declared.format.Format.TheVariants.{Plain, Summed}
 use Rattle.cedar_journal.specs.declared.records.Extent.{Extent}
 use Rattle.cedar_journal.specs.Files.{HasExtent}
-use Rattle.cedar_journal.specs.Formats.{frame_of, opening, overhead}
+use Rattle.cedar_journal.specs.Formats.{overhead}
 use Rattle.cedar_plan.specs.Calls.{Call, open_call, seen_after}
-use Rattle.cedar_plan.specs.Plans.{works_of}
 use Rattle.cedar_plan.specs.Safety.{CrashLeaves, IsAtRest}
-use Rattle.cedar_plan.specs.Works.{AreCarriedOut, Work, all_done, append_works}
-use Rattle.cedar_plan.specs.declared.plan.Plan.{Plan}
+use Rattle.cedar_plan.specs.Works.{AreCarriedOut, Work, all_done}
 use Rattle.cedar_salvage.specs.Whole.{cuts_records, TakesLong}
 use Rattle.cedar_store.specs.Causes.{LoadCause}
 use Rattle.cedar_store.specs.Files.{IsEither, record_count, state_of}
@@ -40,11 +38,6 @@ pub record IsChangePlan (works : List Work) (format : Format) (from to : ℕ) (b
   pub counted : (calls : List Call) (n : ℕ) → IsKept calls format from before → record_count (seen_after calls) ≡ Some n
       → record_count (seen_after (all_done works calls)) ≡ Some (n + 1)
   pub any_moment : (calls later : List Call) → IsKept calls format from before → AreCarriedOut works calls later → CrashLeaves calls later (IsEither before after)
-
--- a plan appends whatever record of this size the bytes of a buffer begin with, behind records that end at `end`
-abbrev pub PlansAppend : Plan → ℕ → ℕ → Type 0
-PlansAppend plan size end =
-    (f : Format) (payload rest : List ℕ) → size ≡ 1 + overhead f + length payload → works_of ((opening f ∷ frame_of f payload) ++ rest) plan ≡ append_works f end payload
 
 -- works that put a pair (`IsChangePlan`)
 abbrev pub IsPutPlan : List Work → Format → ℕ → ℕ → State → List ℕ → ℤ → Type 0

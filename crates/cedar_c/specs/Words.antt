@@ -20,7 +20,7 @@ pub use Rattle.cedar_c.specs.Opens.{OpensBuilt, OpensLoaded, OpensNew}
 pub use Rattle.cedar_c.specs.Pairs.{build_fault, entries_in, keys_in, MayWantSlots, named_keys}
 pub use Rattle.cedar_c.specs.Pairs.{StoresFront, StoresPart, taken_pair}
 pub use Rattle.cedar_c.specs.Plans.{damage_of, format_if, IsErasurePlan, IsOpening, IsPutPlan}
-pub use Rattle.cedar_c.specs.Plans.{LacksChange, LacksRecord, MayCut, PlansAppend}
+pub use Rattle.cedar_c.specs.Plans.{LacksChange, LacksRecord, MayCut}
 pub use Rattle.cedar_c.specs.Plans.{TellsWhy, store_status}
 pub use Rattle.cedar_c.specs.Readings.{shown_figure, shown_in, shown_layout, shown_tree}
 pub use Rattle.cedar_c.specs.Scans.{found_keywords, found_spot, found_spots, found_token}
@@ -40,7 +40,7 @@ pub use Rattle.cedar_journal.specs.Records.{length_bytes}
 pub use Rattle.cedar_journal.specs.declared.format.Format.TheVariants.{Plain, Summed}
 pub use Rattle.cedarwood.specs.WellFormed.{IsWellFormed, tree_of}
 pub use Rattle.cedarwood.specs.Layouts.{default_layout, layout_byte, reduced_layout}
-pub use Rattle.cedar_plan.specs.Plans.{works_of}
+pub use Rattle.cedar_plan.specs.Plans.{PlansAppend, works_of}
 pub use Rattle.cedar_plan.specs.Works.{end_of, format_in}
 pub use Rattle.cedar_salvage.specs.Whole.{CutsNone}
 pub use Rattle.cedar_store.specs.Causes.{LoadCause}
