@@ -1,7 +1,8 @@
 -- Changes of a store that go to the disk together. Their records are in a buffer, one behind another, each without
 -- the closed gate behind it. They are of version 1 in files of either version, since the group's own record has the
 -- sum.
-use Rattle.std.specs.Prelude.{◌≡◌, ◌⊎◌, ℕ, ◌+◌, ◌<◌, ◌≤◌, ◌^◌, List, [], ◌∷◌, ◌++◌, Some, take, drop}
+use Rattle.std.specs.Prelude.{◌≡◌, ◌⊎◌, ℕ, ◌+◌, ◌<◌, ◌≤◌, ◌^◌, List, [], ◌∷◌, ◌++◌, Some}
+use Rattle.std.specs.Prelude.{take, drop}
 use Rattle.cedar_journal.specs.declared.format.Format.{Format}
 use Rattle.cedar_journal.specs.Formats.{overhead}
 use Rattle.cedar_plan.specs.Works.{Work}
