@@ -26,7 +26,7 @@ pub use Rattle.cedar_c.specs.Readings.{shown_figure, shown_in, shown_layout, sho
 pub use Rattle.cedar_c.specs.Scans.{found_keywords, found_spot, found_spots, found_token}
 pub use Rattle.cedar_c.specs.Scans.{found_tokens, WritesOn, WritesPiece}
 pub use Rattle.cedar_c.specs.Shrinks.{Shrinks}
-pub use Rattle.cedar_c.specs.Status.{LacksOnlyNew, position_of, status_of, status_text}
+pub use Rattle.cedar_c.specs.Status.{position_of, status_of, status_text}
 pub use Rattle.cedar_c.specs.Status.{TellsFault, TellsPosition}
 pub use Rattle.cedar_c.specs.Stores.{HoldsFront, HoldsPart, RefusesAll}
 pub use Rattle.cedar_c.specs.Updates.{KeepsSlots, StoresValue}
