@@ -1,10 +1,10 @@
 //! Plans: the steps by which a file is opened, and by which a record is appended; and records as they are written.
 
-ghost use Rattle.std.specs.Prelude.{◌≡◌, ◌+◌, ◌<◌, ◌^◌, ◌++◌, ◌∷◌, ℕ, ◌≤◌, IfOk};
-ghost use Rattle.std.specs.Prelude.{IsErrOf, length, List, [], true};
-ghost use Rattle.cedar_plan.specs.Words.{append_works, cut_to, ends_closed, frame_of, header};
-ghost use Rattle.cedar_plan.specs.Words.{opening, opening_works, overhead, works_of, Format};
-ghost use Rattle.cedar_plan.specs.Words.{HasExtent, is_at_rest, Plain, Summed, write_to};
+ghost use Rattle.std.specs.Prelude.{◌≡◌, ◌+◌, ◌<◌, ◌^◌, ◌++◌, ◌∷◌, ℕ, ◌≤◌, IfOk, IsErrOf, length};
+ghost use Rattle.std.specs.Prelude.{List, [], true};
+ghost use Rattle.cedar_plan.specs.Words.{cut_to, ends_closed, frame_of, header, opening};
+ghost use Rattle.cedar_plan.specs.Words.{opening_works, PlansAppend, works_of, HasExtent};
+ghost use Rattle.cedar_plan.specs.Words.{is_at_rest, Plain, Summed, write_to};
 
 use cedar_journal::{Extent, Format, FrameError, MAX_PAYLOAD, push_frame};
 use std::alloc::Allocator;
@@ -152,8 +152,7 @@ pub fn plan_append(end: usize, size: usize) -> Plan
     requires room { end < 2 ^ 60 }
     requires some { 0 < size }
     //= The plan of a record of either format writes it after the closed gate, and then opens that.
-    ensures { (format : Format) (payload : List ℕ) (rest : List ℕ) → size ≡ 1 + overhead format + length payload
-        → works_of ((opening format ∷ frame_of format payload) ++ rest) result ≡ append_works format end payload }
+    ensures { PlansAppend result size end }
 {
     Plan {
         count: 2,
