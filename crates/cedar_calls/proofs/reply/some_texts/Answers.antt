@@ -16,7 +16,7 @@ loop-entry-preserved g c =
     elim c.match-entry.branch [
       | in-Ok w ↦ let t = rw w.in-Ok.is at s in rw w.text-is (text_given rest next (string_bytes w.in-Ok.text.0, w.in-Ok.text.1) t)
       | in-Err-Utf8 w ↦
-          let t : IsEntryError rest (Utf8 w.in-Err-Utf8.value) next = search rules in
+          let t : IsEntryError rest (Utf8 w.in-Err-Utf8.field-0-0) next = search rules in
           rw w.text-is (text_missing rest next (t.0, t.1, t.3))
     ] in
     let p = c.push_reserved.ensures in
