@@ -28,7 +28,6 @@ pub use Rattle.cedarwood.specs.WatchedDevice.{device_of, has_failed}
 pub use Rattle.hex.specs.Hex.{encode_lower}
 pub use Rattle.std.specs.Io.KnownBytes.{Appends, Consumes}
 pub use Rattle.std.specs.List.{after_first, before_first}
-pub use Rattle.std.specs.Mem.{FitsInMemory}
 pub use Rattle.std.specs.Prelude.{IsTrue}
 pub use Rattle.text_lines.specs.Written.{AppendsFront, BreaksOff, Writes, WritesFront}
 pub use Rattle.text_lines.specs.Written.{WritesOrFails, WritesUpTo}
