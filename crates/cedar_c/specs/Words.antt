@@ -64,6 +64,5 @@ pub use Rattle.cedarwood.specs.Tree.{number_at}
 pub use Rattle.cedarwood.specs.Updates.{IsUpdate}
 pub use Rattle.cedarwood.specs.Words.{IsCleared, IsEmpty, IsErasedUnder, IsSlotLimit}
 pub use Rattle.cedarwood.specs.Words.{IsSorted, most_slots}
-pub use Rattle.cedarwood.specs.Words.{key_fault, value_fault}
 pub use Rattle.std.specs.Borrow.{sem}
 pub use Rattle.std.specs.List.{starts_with}

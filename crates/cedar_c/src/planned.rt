@@ -14,7 +14,7 @@ ghost use Rattle.cedar_c.specs.Words.{status_of, store_status, TellsWhy, tree_in
 
 use crate::any::AnyCedar;
 use crate::handle::Handle;
-use crate::records::{check_pair, format_if, place, write_erasure, write_put};
+use crate::records::{format_if, place, write_erasure, write_put};
 use crate::status::{
     CLOSED, NO_ROOM, OK, OTHER, STORE_CORRUPT, STORE_DAMAGED, STORE_FOREIGN, tell,
 };
@@ -22,7 +22,7 @@ use cedar_journal::{Extent, Format, HEADER_LEN, extent_of};
 use cedar_plan::{HEADER, Plan, plan_append, plan_opening};
 use cedar_salvage::may_cut_records;
 use cedar_store::{DurableError, count_records, words_of};
-use cedarwood::CedarError;
+use cedarwood::{CedarError, check_pair};
 use std::alloc::Global;
 
 /// Opens a handle with the dictionary that a file's bytes represent. If the handle is open, the new one replaces the old one. The file was

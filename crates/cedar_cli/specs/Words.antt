@@ -25,6 +25,5 @@ pub use Rattle.cedarwood.specs.Dictionary.{Grows}
 pub use Rattle.cedarwood.specs.WatchedDevice.{has_failed}
 pub use Rattle.hex.specs.Hex.{encode_lower}
 pub use Rattle.std.specs.List.{after_first, before_first}
-pub use Rattle.std.specs.Mem.{FitsInMemory}
 pub use Rattle.text_lines.specs.Written.{BreaksOff, Writes, WritesBytes}
 pub use Rattle.text_lines.specs.Written.{WritesOrFails}

@@ -43,7 +43,7 @@ pub use Rattle.cedar_store.specs.declared.error.DurableError.TheVariants.{NoRoom
 pub use Rattle.cedarwood.specs.State.{State, new_state}
 pub use Rattle.cedarwood.specs.Tree.{IsAscending}
 pub use Rattle.cedarwood.specs.Words.{IsLimit, IsShortage, IsSound, all_stored, after_erase}
-pub use Rattle.cedarwood.specs.Words.{fault, key_fault, number_at, outcome, after_put}
+pub use Rattle.cedarwood.specs.Words.{fault, number_at, outcome, after_put}
 pub use Rattle.cedarwood.specs.Words.{value_fault, walk}
 pub use Rattle.cedarwood.specs.declared.error.CedarError.TheVariants.{Memory}
 pub use Rattle.std.specs.List.{AllByRecursion}
