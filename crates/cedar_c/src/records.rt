@@ -1,16 +1,15 @@
 //! The records of changes, written into a buffer of the caller's.
 
-ghost use Rattle.std.specs.Prelude.{◌==◌, ◌≡◌, ◌+◌, ◌<◌, ◌^◌, ◌++◌, ◌∷◌, ℕ, IfErr, IfOk, IfSome};
-ghost use Rattle.std.specs.Prelude.{IsOk, List, None, OnOk, length, position};
-ghost use Rattle.cedar_c.specs.Words.{erase_at, fault, format_if, frame_of, IsRecord, key_fault};
-ghost use Rattle.cedar_c.specs.Words.{LacksRecord, opening, overhead, put_at, value_fault};
+ghost use Rattle.std.specs.Prelude.{◌≡◌, ◌+◌, ◌<◌, ◌^◌, ◌++◌, ◌∷◌, ℕ, IfErr, IfOk};
+ghost use Rattle.std.specs.Prelude.{List, None, OnOk, length};
+ghost use Rattle.cedar_c.specs.Words.{erase_at, fault, format_if, frame_of, IsRecord};
+ghost use Rattle.cedar_c.specs.Words.{LacksRecord, opening, overhead, put_at};
 
 use crate::save::copy_whole;
 use crate::status::{MEMORY, NO_ROOM, OK, STORE_FULL, STORE_TOO_LONG};
 use cedar_journal::{Format, FrameError, MAX_END};
 use cedar_plan::record_of;
 use cedar_store::{erase_payload, put_payload};
-use cedarwood::{CedarError, MAX_VALUE, MIN_VALUE};
 use std::alloc::Global;
 
 /// Writes the record of a put into the first elements of a buffer, for a file with records of this format that end here, and returns how
@@ -110,47 +109,5 @@ pub(crate) fn place(bytes: &[u8], buffer: &mut [u8]) -> Result<(), u32>
     match copy_whole(bytes, buffer, &mut needed) {
         OK => Ok(()),
         _ => Err(NO_ROOM),
-    }
-}
-
-/// Tests a pair: its key, and then its value.
-pub(crate) fn check_pair(key: &[u8], value: i32) -> Result<(), CedarError>
-    ensures faulty { IfSome (fault key.now value) (λ e. result ≡ Err e) }
-    ensures sound { fault key.now value ≡ None → IsOk result }
-{
-    check_key(key)?;
-    check_value(value)
-}
-
-/// Tests that a key has a byte or more, and no byte 0.
-fn check_key(key: &[u8]) -> Result<(), CedarError>
-    ensures faulty { IfSome (key_fault key.now) (λ e. result ≡ Err e) }
-    ensures sound { key_fault key.now ≡ None → IsOk result }
-{
-    if key.is_empty() {
-        return Err(CedarError::EmptyKey);
-    }
-    match nul_position(key) {
-        Some(position) => Err(CedarError::NulByte { position }),
-        None => Ok(()),
-    }
-}
-
-/// The position of a key's first byte 0.
-fn nul_position(key: &[u8]) -> Option<usize>
-    ensures { result ≡ position (λ byte. byte == 0) key.now }
-{
-    key.iter().position(|byte| *byte == 0)
-}
-
-/// Tests that a value can be stored.
-fn check_value(value: i32) -> Result<(), CedarError>
-    ensures faulty { IfSome (value_fault value) (λ e. result ≡ Err e) }
-    ensures sound { value_fault value ≡ None → IsOk result }
-{
-    if (MIN_VALUE..=MAX_VALUE).contains(&value) {
-        Ok(())
-    } else {
-        Err(CedarError::InvalidValue { value })
     }
 }

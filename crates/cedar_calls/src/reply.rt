@@ -174,7 +174,7 @@ fn some_texts<L: Layout, const SLOTS: usize, A: Allocator + Copy>(
     for entry in trie.entries_str()? {
         let text = match entry {
             Ok(text) => Some(text),
-            Err(EntryError::Utf8) => None,
+            Err(EntryError::Utf8 { value: _ }) => None,
             Err(EntryError::Memory) => return Err(CedarError::Memory),
         };
         found.push_reserved(text);

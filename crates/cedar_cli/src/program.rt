@@ -1,9 +1,9 @@
 //! The program: arguments, files and three streams in, a status out.
 
 ghost use Rattle.std.specs.Prelude.{◌<◌, ◌↔◌, ◌≡◌, ◌≤◌, Bool, IfErr, IfOk, IfSome};
-ghost use Rattle.std.specs.Prelude.{is_some, IsTrue, None, OnOk, true};
+ghost use Rattle.std.specs.Prelude.{is_some, None, OnOk, true};
 ghost use Rattle.cedar_cli.specs.Words.{AnswersAll, AnswersUpTo, asked_limit, AsksForFile};
-ghost use Rattle.cedar_cli.specs.Words.{BeginsWith, EndsBy, fault_text, FitsInMemory, has_failed};
+ghost use Rattle.cedar_cli.specs.Words.{BeginsWith, EndsBy, fault_text, has_failed};
 ghost use Rattle.cedar_cli.specs.Words.{IsReported, IsSlotLimit, LacksWithin, layout_byte, OnAsked};
 ghost use Rattle.cedar_cli.specs.Words.{OnBegun, Request, request_in, request_of, ShowsCause};
 ghost use Rattle.cedar_cli.specs.Words.{TellsCause, view_of, WritesOrFailed};
@@ -12,11 +12,10 @@ use crate::options::{Options, limit_or_default, options_of};
 use crate::script::{ScriptError, run_script};
 use cedarwood::{
     CedarBuilder, CedarPersistenceError, DefaultLayout, Layout, MOST_SLOTS, ReducedLayout, Trie,
-    Watched,
+    Watched, fits,
 };
 use std::alloc::Allocator;
 use std::io::{Read, Write};
-use std::mem;
 use std::rt::Files;
 
 /// The status of a run that did all that the arguments name.
@@ -306,12 +305,4 @@ fn fault_line(fault: ScriptError) -> &'static str
         ScriptError::Memory => "cedar: out of memory\n",
         ScriptError::SlotLimit => "cedar: slot limit\n",
     }
-}
-
-/// Whether a value that may come to `place` fits in memory. It always does, and that is known at compile time. The function says this to a
-/// proof if the type names a type parameter of the function.
-fn fits<T>(place: &Option<T>) -> bool
-    ensures { IsTrue result → FitsInMemory T.row }
-{
-    mem::size_of_val(place) <= isize::MAX as usize
 }

@@ -93,6 +93,13 @@ GoesToNode T n s next =
     (start : List ℕ) → IsBelow (cells_in T) start n s
     → MatchOption next (left_at T start n s ≡ []) (ComesTo T start (left_at T start n s) (path_to T n s))
 
+-- a walk that has been at slot s, n labels below the node where it began, leaves out all below s and goes to the next
+-- node, unless none is left
+abbrev pub SkipsToNode : Fields → ℕ → ℕ → Option Visited → Type 0
+SkipsToNode T n s next =
+    (start : List ℕ) → IsBelow (cells_in T) start n s
+    → MatchOption next (left_after T start n s ≡ []) (ComesTo T start (left_after T start n s) (path_to T n s))
+
 -- a walk goes to the place of the first node of those that it has left, unless none is left
 abbrev pub GoesToPlace : (Fields → List ℕ → ℕ → ℕ → List Visit) → Fields → ℕ → ℕ → Option Place → Type 0
 GoesToPlace left T n s next =

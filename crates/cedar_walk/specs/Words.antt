@@ -17,4 +17,4 @@ pub use Rattle.cedar_walk.specs.Ranges.{entries_since}
 pub use Rattle.cedar_walk.specs.Visits.{ComesToFirst, FindsNumber, first_sibling_label, GoesToNode}
 pub use Rattle.cedar_walk.specs.Visits.{GoesToNumber, GoesToPlace, IsBelow}
 pub use Rattle.cedar_walk.specs.Visits.{IsNumberedBelow, label_after, left_after}
-pub use Rattle.cedar_walk.specs.Visits.{left_at, owner_of, path_to}
+pub use Rattle.cedar_walk.specs.Visits.{left_at, owner_of, path_to, SkipsToNode}

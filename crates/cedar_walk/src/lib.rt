@@ -5,6 +5,7 @@ mod batch;
 mod ends;
 mod fronts;
 mod keys;
+mod past;
 mod pending;
 mod ranges;
 mod visits;
@@ -13,6 +14,7 @@ pub use batch::exact_match_search_batch;
 pub use ends::last_numbered;
 pub use fronts::{Front, next_held_front};
 pub use keys::numbered_after_with_key;
+pub use past::node_past;
 pub use pending::{
     PendingSibling, PendingSiblings, first_with_pending, numbered_after_with_pending,
 };

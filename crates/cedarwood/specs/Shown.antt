@@ -35,5 +35,5 @@ refused_pair_text refusal = codes "pair at input index " ++ (decimal refusal.ind
 
 -- the bytes of the text of a text entry's error
 abbrev pub entry_error_text : EntryError → List ℕ
-entry_error_text entry.Utf8 = codes "entry key is not UTF-8"
+entry_error_text (entry.Utf8 value) = codes "entry key is not UTF-8 (its value is " ++ (signed_decimal value ++ codes ")")
 entry_error_text entry.Memory = codes "out of memory"

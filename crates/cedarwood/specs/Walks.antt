@@ -35,8 +35,8 @@ counted_walk_code =
     (λ p. record { rest = p.0; ticks = p.1.0; query = p.1.1 })
     (λ _. refl)
 
--- a text entry couldn't be given: its key isn't UTF-8, and the walk goes on behind it; or there was no memory for it, and nothing is
--- left
+-- a text entry couldn't be given: its key isn't UTF-8, the error has its number, and the walk goes on behind it; or there was no memory
+-- for it, and nothing is left
 abbrev pub IsEntryError : List Entry → EntryError → List Entry → Type 0
-IsEntryError rest Utf8 later = (entry : Entry) × (rest ≡ entry ∷ later) × (IsUtf8 entry.0 → ⊥)
+IsEntryError rest (Utf8 value) later = (entry : Entry) × (rest ≡ entry ∷ later) × (value ≡ entry.1) × (IsUtf8 entry.0 → ⊥)
 IsEntryError rest Memory later = (later ≡ []) × (0 < length rest)

@@ -31,6 +31,7 @@ pub use Rattle.cedar_walk.specs.Pending.{IsPending}
 pub use Rattle.cedar_walk.specs.Ranges.{entries_since, entries_with, longest_front}
 pub use Rattle.cedar_walk.specs.Visits.{ComesTo, ComesToFirst, ComesToNumber, GoesToNode}
 pub use Rattle.cedar_walk.specs.Visits.{GoesToNumber, IsBelow, IsNumberedBelow, left_at, path_to}
+pub use Rattle.cedar_walk.specs.Visits.{SkipsToNode}
 pub use Rattle.cedar_walk.specs.declared.visits.Numbered.{Numbered}
 pub use Rattle.cedarwood.specs.Batches.{held_in_turn, IsErasure, IsErasures, IsFound, IsUpdates}
 pub use Rattle.cedarwood.specs.Batches.{keys_erased, pair_at, StopsAt}

@@ -3,7 +3,7 @@
 ghost use Rattle.std.specs.Prelude.{◌↔◌, ◌≡◌, ◌≤ℤ◌, IfErr, IfOk, IsOk, pos, true};
 
 use crate::CedarError;
-use crate::fits::fits;
+use crate::memory::fits;
 use crate::sorted::check_sorted;
 use crate::trie::{Cedar, ReducedCedar, Trie};
 use std::alloc::Allocator;

@@ -24,10 +24,10 @@ mod counted;
 mod erasing;
 mod error;
 mod figures;
-mod fits;
 mod heads;
 mod insert;
 mod laws;
+mod memory;
 mod pair;
 pub mod persistence;
 mod queries;
@@ -59,6 +59,8 @@ pub use laws::{
     loaded_files_save_again, prefixed_are_of_all_entries, saved_tables_load_again,
     sorted_is_stored_in_turn,
 };
+pub use memory::fits;
+pub use pair::check_pair;
 pub use persistence::{SaveFailed, Saved};
 pub use queries::counted::CountedPrefixIter;
 pub use queries::cursor::EntryCursor;

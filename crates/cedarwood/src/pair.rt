@@ -5,8 +5,17 @@ ghost use Rattle.cedarwood.specs.Words.{fault, key_fault, value_fault};
 
 use crate::{CedarError, MAX_VALUE, MIN_VALUE};
 
-/// Tests a pair: its key, and then its value.
-pub(crate) fn check_pair(key: &[u8], value: i32) -> Result<(), CedarError>
+/// Tests a pair, as each call does that stores one: its key, and then its value.
+///
+/// ```
+/// assert_eq!(rt; check_pair(b"net", 7), Ok(()));
+/// assert_eq!(rt; check_pair(b"", 7), Err(CedarError::EmptyKey));
+/// ```
+///
+/// # Errors
+/// The pair's first fault of `EmptyKey`, `NulByte` and `InvalidValue`, in this order.
+pub fn check_pair(key: &[u8], value: i32) -> Result<(), CedarError>
+    //= `check_pair` returns the pair's first fault, and `Ok` if it has none. The bytes of a key are numbers below 256. [with sound, bytes]
     ensures faulty { IfSome (fault key.now value) (λ e. result ≡ Err e) }
     ensures sound { fault key.now value ≡ None → IsOk result }
     ensures bytes { (i : ℕ) → get_or key.now i 0 < 256 }

@@ -56,8 +56,10 @@ impl fmt::Display for EntryError {
     ghost output = { λ error. Some (entry_error_text error) };
 
     fn fmt<W: fmt::Write>(&self, f: &mut fmt::Formatter<W>) -> fmt::Result {
-        match self {
-            EntryError::Utf8 => f.write_str("entry key is not UTF-8"),
+        match *self {
+            EntryError::Utf8 { value } => {
+                write!(f, "entry key is not UTF-8 (its value is {value})")
+            }
             EntryError::Memory => f.write_str("out of memory"),
         }
     }

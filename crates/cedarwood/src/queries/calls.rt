@@ -223,8 +223,8 @@ impl<L: Layout, const SLOTS: usize, A: Allocator + Copy> Trie<L, SLOTS, A> {
     /// # Errors
     /// None: it is always `Ok`.
     pub fn entries_str(&self) -> Result<Utf8Entries<'_, Self, A>, CedarError>
-        //= `entries_str` gives the same as text. A key that isn't UTF-8 gives an error instead of its item, and the iteration goes on after
-        //  it. [with refused; also Utf8Entries.next_gives]
+        //= `entries_str` gives the same as text. A key that isn't UTF-8 gives an error with its value instead of its item, and the iteration
+        //  goes on after it. [with refused; also Utf8Entries.next_gives]
         ensures entries { IfOk result (λ entries. entries ≡ walk self.now.state.tree) }
 
         ensures refused { IfErr result (λ e. e ≡ CedarError.Memory) }

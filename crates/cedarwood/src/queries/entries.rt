@@ -185,14 +185,16 @@ fn next_copied<T: Walked, A: Allocator + Copy>(
 /// Why a text entry can't be given.
 #[derive(Clone, Copy, Debug, PartialEq, Eq)]
 pub enum EntryError {
-    /// The key isn't UTF-8. It has neither the key nor its value nor its index: [`Trie::entries`](crate::Trie::entries) gives each key as
-    /// bytes.
-    Utf8,
+    /// The key isn't UTF-8. [`Trie::entries`](crate::Trie::entries) gives each key as bytes.
+    Utf8 {
+        /// What the key holds.
+        value: i32,
+    },
     /// An allocation was refused.
     Memory,
 }
 
-/// `Entries` with keys as text. A key that isn't UTF-8 gives an error instead of its item, and the iteration goes on.
+/// `Entries` with keys as text. A key that isn't UTF-8 gives an error with its value instead of its item, and the iteration goes on.
 ///
 /// A contract sees the entries that are left.
 #[derive(Drop)]
@@ -227,7 +229,7 @@ impl<'a, T: Walked, A: Allocator + Copy> Iterator for Utf8Entries<'a, T, A> {
         match self.entries.next()? {
             Ok((key, number)) => match String::from_utf8(key) {
                 Ok(text) => Some(Ok((text, number))),
-                Err(_) => Some(Err(EntryError::Utf8)),
+                Err(_) => Some(Err(EntryError::Utf8 { value: number })),
             },
             Err(_) => Some(Err(EntryError::Memory)),
         }

@@ -88,8 +88,8 @@ impl<'a, T: Walked> PrefixIter<'a, T> {
 }
 
 impl<'a, T: Walked> Clone for PrefixIter<'a, T> {
-    //= A clone of a prefix walk or a prediction goes on from the same place and can't fail. What has ended stays ended. [with
-    //  is_infallible; also PrefixPredictIter; by FusedIterator]
+    //= A clone of a prefix walk, of a prediction or of the entries of a range goes on from the same place and can't fail. What has ended
+    //  stays ended. [with is_infallible; also PrefixPredictIter, RangeEntries; by FusedIterator]
     ghost is_clone = { λ it copy. copy ≡ it };
 
     ghost is_infallible = { λ _. ⊤ };

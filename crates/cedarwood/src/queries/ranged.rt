@@ -2,7 +2,7 @@
 
 ghost use Rattle.std.specs.Prelude.{◌++◌, ◌+◌, ◌<◌, ◌↔◌, ◌∷◌, ◌≡◌, ◌≤◌, [], false, IfErr, IfOk};
 ghost use Rattle.std.specs.Prelude.{IfSome, IsTrue, length, List, MatchOption, MatchResult, OnErr};
-ghost use Rattle.std.specs.Prelude.{option_map, Some, true, vec_capacity};
+ghost use Rattle.std.specs.Prelude.{option_map, Some, true, vec_capacity, ⊤};
 ghost use Rattle.cedarwood.specs.Words.{entries_between, entries_left_before, entries_since};
 ghost use Rattle.cedarwood.specs.Words.{entries_with, Entry, GivesBetween, GivesRange, is_lt};
 ghost use Rattle.cedarwood.specs.Words.{IsEnd, IsNumberedBelow, IsRangePlace, IsWellFormed};
@@ -18,7 +18,8 @@ use std::iter::FusedIterator;
 use std::marker::Model;
 
 /// The entries at the keys of a range, each key before its extensions and in iteration order. Each key is written for its item by climbing
-/// from its node: so the iteration itself needs no memory. If an allocation is refused, the error is the last item.
+/// from its node: so the iteration itself needs no memory. If an allocation is refused, the error is the last item. A clone goes on from the
+/// same place, and allocates nothing.
 ///
 /// A contract sees the entries that are left.
 #[derive(Drop)]
@@ -117,14 +118,14 @@ impl<'a, T: Walked, A: Allocator + Copy> RangeEntries<'a, T, A> {
     }
 
     // The entries at a key and after it.
-    pub(crate) fn since(trie: &'a T, key: &'a [u8], alloc: A) -> Self
+    pub(crate) fn since(trie: &'a T, key: &[u8], alloc: A) -> Self
         requires well_formed { IsWellFormed T.slots (T.shown trie.now) }
         requires ordered { (T.shown trie.now).ordered ≡ true }
         ensures { result ≡ entries_since (tree_of (T.shown trie.now)) key.now }
     {
         RangeEntries {
             trie,
-            start: &key[..0],
+            start: &[],
             next: trie.first_since(key),
             end: None,
             to: None,
@@ -209,6 +210,23 @@ impl<'a, T: Walked, A: Allocator + Copy> RangeEntries<'a, T, A> {
     }
 }
 
+impl<'a, T: Walked, A: Allocator + Copy> Clone for RangeEntries<'a, T, A> {
+    ghost is_clone = { λ it copy. copy ≡ it };
+
+    ghost is_infallible = { λ _. ⊤ };
+
+    fn clone(&self) -> Result<Self, AllocError> {
+        Ok(RangeEntries {
+            trie: self.trie,
+            start: self.start,
+            next: self.next,
+            end: self.end,
+            to: self.to,
+            alloc: self.alloc,
+        })
+    }
+}
+
 impl<'a, T: Walked, A: Allocator + Copy> Iterator for RangeEntries<'a, T, A> {
     type Item = Result<(Vec<u8, A>, i32), CedarError>;
 
@@ -284,7 +302,7 @@ impl<L: Layout, const SLOTS: usize, A: Allocator + Copy> Trie<L, SLOTS, A> {
     /// let (key, value) = entries.next().ok_or("an entry")??;
     /// assert_eq!(rt; (key.as_slice(), value), (b"ten".as_slice(), 2));
     /// ```
-    pub fn entries_from_bytes<'a>(&'a self, key: &'a [u8]) -> Option<RangeEntries<'a, Self, A>>
+    pub fn entries_from_bytes<'a>(&'a self, key: &[u8]) -> Option<RangeEntries<'a, Self, A>>
         //= `entries_from` gives the entries at the key and after it by bytes in the same way, and returns None exactly if the order isn't
         //  ascending. [also entries_from, RangeEntries.next_gives; by entries_since]
         ensures { GivesRange self.now.state (entries_since self.now.state.tree key.now) result }
@@ -302,7 +320,7 @@ impl<L: Layout, const SLOTS: usize, A: Allocator + Copy> Trie<L, SLOTS, A> {
     /// let entries = cedar.entries_from("net").ok_or("ascending labels")?;
     /// assert_eq!(rt; entries.count(), 2);
     /// ```
-    pub fn entries_from<'a>(&'a self, key: &'a str) -> Option<RangeEntries<'a, Self, A>>
+    pub fn entries_from<'a>(&'a self, key: &str) -> Option<RangeEntries<'a, Self, A>>
         ensures { GivesRange self.now.state (entries_since self.now.state.tree key.now) result }
     {
         self.entries_from_bytes(key.as_bytes())

@@ -6,12 +6,12 @@ ghost use Rattle.cedarwood.specs.Words.{cells_in, ComesToFirst, entries_since, F
 ghost use Rattle.cedarwood.specs.Words.{front_length, GoesToNode, GoesToNumber, IsBelow};
 ghost use Rattle.cedarwood.specs.Words.{IsNextFront, IsNumberedBelow, IsOnQuery, IsPending};
 ghost use Rattle.cedarwood.specs.Words.{IsWellFormed, KeyGoesOn, NextKeyOutgrows, node_at, path_to};
-ghost use Rattle.cedarwood.specs.Words.{tree_of, walk};
+ghost use Rattle.cedarwood.specs.Words.{SkipsToNode, tree_of, walk};
 
 use crate::{Layout, Ticks, Trie};
 use cedar_walk::{
     Front, Numbered, PendingSiblings, Visited, first_numbered, first_since, first_with_pending,
-    next_held_front, node_after, numbered_after, numbered_after_with_key,
+    next_held_front, node_after, node_past, numbered_after, numbered_after_with_key,
     numbered_after_with_pending, write_path,
 };
 use std::alloc::{AllocError, Allocator};
@@ -38,7 +38,7 @@ pub trait Walked {
         requires on { IsOnQuery (shown self.now) query.now place node }
 
         //= What a walk reads of a dictionary comes from its table. [with on, cost; also first_numbered, first_since, next_numbered,
-        //  next_node, write_path]
+        //  next_node, next_past, write_path]
         ensures answer { IsNextFront (tree_of (shown self.now)) query.now place result }
         ensures on { MatchOption result (place ≤ length query.now) (λ front. (place < front.len) × IsOnQuery (shown self.now) query.now front.len front.slot) }
         ensures cost { ticks.new ≤ ticks.old + 2 * (front_length query.now result - place) };
@@ -103,6 +103,12 @@ pub trait Walked {
         requires well_formed { IsWellFormed slots (shown self.now) }
         requires below { (start : List ℕ) × IsBelow (cells_in (shown self.now)) start depth node }
         ensures { GoesToNode (shown self.now) depth node result };
+
+    /// The next node of a walk that leaves out all below a node.
+    fn next_past(&self, node: usize, depth: usize) -> Option<Visited>
+        requires well_formed { IsWellFormed slots (shown self.now) }
+        requires below { (start : List ℕ) × IsBelow (cells_in (shown self.now)) start depth node }
+        ensures { SkipsToNode (shown self.now) depth node result };
 
     /// The first node with a number at a key or after it by bytes, of a dictionary whose labels ascend.
     fn first_since(&self, key: &[u8]) -> Option<Numbered>
@@ -171,6 +177,11 @@ impl<L: Layout, const SLOTS: usize, A: Allocator + Copy> Walked for Trie<L, SLOT
     #[inline(always)]
     fn next_node(&self, node: usize, depth: usize) -> Option<Visited> {
         node_after(&self.table, node, depth)
+    }
+
+    #[inline(always)]
+    fn next_past(&self, node: usize, depth: usize) -> Option<Visited> {
+        node_past(&self.table, node, depth)
     }
 
     fn first_since(&self, key: &[u8]) -> Option<Numbered> {

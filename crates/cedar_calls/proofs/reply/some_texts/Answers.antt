@@ -15,7 +15,9 @@ loop-entry-preserved g c =
     let step : IsTextStep rest next (option_map (λ e. (string_bytes e.0, e.1)) c.match-entry.text) =
     elim c.match-entry.branch [
       | in-Ok w ↦ let t = rw w.in-Ok.is at s in rw w.text-is (text_given rest next (string_bytes w.in-Ok.text.0, w.in-Ok.text.1) t)
-      | in-Err-Utf8 w ↦ let t : IsEntryError rest Utf8 next = search rules in rw w.text-is (text_missing rest next t)
+      | in-Err-Utf8 w ↦
+          let t : IsEntryError rest (Utf8 w.in-Err-Utf8.field-0-0) next = search rules in
+          rw w.text-is (text_missing rest next (t.0, t.1, t.3))
     ] in
     let p = c.push_reserved.ensures in
     let inv = c.loop-entry.invariant in
