@@ -66,6 +66,8 @@ pub fn plan_opening(extent: Extent, bytes: &[u8]) -> Plan
     ensures works { (rest : List ℕ) → works_of (header ++ rest) result ≡ opening_works bytes.now extent }
     //= A file that is at rest is opened by a plan of no steps.
     ensures at_rest { is_at_rest bytes.now extent ≡ true → result.count ≡ 0 }
+    //= The plan of an opening has no more steps than a plan has room for.
+    ensures steps { result.count ≤ 4 }
 {
     match extent {
         Extent::New => plan_header(),
@@ -88,7 +90,8 @@ fn ends_closed(bytes: &[u8], end: usize) -> bool
 
 /// The plan by which a new file gets its header.
 fn plan_header() -> Plan
-    ensures { (file : List ℕ) (rest : List ℕ) → works_of (header ++ rest) result ≡ opening_works file Extent.New }
+    ensures works { (file : List ℕ) (rest : List ℕ) → works_of (header ++ rest) result ≡ opening_works file Extent.New }
+    ensures steps { result.count ≤ 4 }
 {
     Plan {
         count: 4,
@@ -121,7 +124,8 @@ fn plan_header() -> Plan
 
 /// The plan by which a file gets a closed gate after its whole records.
 fn plan_end(end: usize) -> Plan
-    ensures { (rest : List ℕ) → works_of (header ++ rest) result ≡ cut_to end ∷ write_to end (0 ∷ []) ∷ [] }
+    ensures works { (rest : List ℕ) → works_of (header ++ rest) result ≡ cut_to end ∷ write_to end (0 ∷ []) ∷ [] }
+    ensures steps { result.count ≤ 4 }
 {
     Plan {
         count: 2,
