@@ -5,7 +5,7 @@
 //! are private, so that no other module notes a call, or takes one that failed for one that was made.
 
 ghost use Rattle.std.specs.Prelude.{◌≡◌, ◌≤◌, ◌<◌, ◌^◌, ◌∷◌, [], false, IfOk, IfSome};
-ghost use Rattle.std.specs.Prelude.{is_ok, length, OnErr, OnOk, true, ℕ};
+ghost use Rattle.std.specs.Prelude.{is_ok, length, OnErr, OnOk, true};
 ghost use Rattle.cedar_disk.specs.NotedFiles.{is_beside, noted_calls};
 ghost use Rattle.cedar_disk.specs.Words.{call_with, compaction_path, folder_sync_call};
 ghost use Rattle.cedar_disk.specs.Words.{is_locked_after, LiesBeside, lock_call, MayLeave, Only};
@@ -464,7 +464,9 @@ fn write_on<T: Write>(file: &mut T, at: usize, bytes: &[u8]) -> Wrote
     wrote_of(at, bytes, file.write(bytes))
 }
 
-// What a call did, by its result. A call that takes none of some bytes has failed.
+// What a call did, by its result. A call that takes none of some bytes has failed. One that a signal came before has written nothing. Nor
+// has one that found no room: on the disk, in what the owner may have of it, or in what the process may write. If there is room for a part,
+// the system takes that, and says how much.
 fn wrote_of(at: usize, _bytes: &[u8], answer: io::Result<usize>) -> Wrote
     requires offset { at < 2 ^ 63 }
     requires bound { IfOk answer (λ count. count ≤ length _bytes.now) }
@@ -473,21 +475,12 @@ fn wrote_of(at: usize, _bytes: &[u8], answer: io::Result<usize>) -> Wrote
     match answer {
         Ok(0) => Wrote::Failed(io::ErrorKind::WriteZero.into()),
         Ok(count) => Wrote::Bytes(count),
-        Err(error) => wrote_with(error),
-    }
-}
-
-// What a call did that returned an error. A call that a signal came before has written nothing. Nor has one that found no room: on the
-// disk, in what the owner may have of it, or in what the process may write. If there is room for a part, the system takes that, and says
-// how much.
-fn wrote_with(error: io::Error) -> Wrote
-    ensures { (at n : ℕ) → TookSome at n result }
-{
-    match error.kind() {
-        io::ErrorKind::Interrupted => Wrote::Nothing,
-        io::ErrorKind::StorageFull => Wrote::Full(error),
-        io::ErrorKind::QuotaExceeded => Wrote::Full(error),
-        io::ErrorKind::FileTooLarge => Wrote::Full(error),
-        _ => Wrote::Failed(error),
+        Err(error) => match error.kind() {
+            io::ErrorKind::Interrupted => Wrote::Nothing,
+            io::ErrorKind::StorageFull => Wrote::Full(error),
+            io::ErrorKind::QuotaExceeded => Wrote::Full(error),
+            io::ErrorKind::FileTooLarge => Wrote::Full(error),
+            _ => Wrote::Failed(error),
+        },
     }
 }
