@@ -25,7 +25,6 @@ pub extern "C" fn cedar_save(
 ) -> u32
     //= Both return `CLOSED` exactly if the handle is closed, `OK` only if all fits, and `NO_ROOM` only if it doesn't. After any error the
     //  buffer is as it was. [with room, refused; also cedar_keys]
-    //= `cedar_save` fails in no other way. [by refused]
     ensures closed { (result ≡ CLOSED) ↔ (shown_in handle.old ≡ None) }
 
     //= A save writes the bytes of the dictionary's table, in 1.1 or in 1.0, into the first elements of a buffer, and doesn't change the
@@ -33,6 +32,8 @@ pub extern "C" fn cedar_save(
     ensures saved { result ≡ OK → IfSome (shown_in handle.old) (λ a. buffer.new ≡ file_in is_full a ++ drop needed.new buffer.old) }
     ensures needed { (result ≡ OK) ⊎ (result ≡ NO_ROOM) → IfSome (shown_in handle.old) (λ a. needed.new ≡ length (file_in is_full a)) }
     ensures room { (result ≡ OK → needed.new ≤ length buffer.old) × (result ≡ NO_ROOM → length buffer.old < needed.new) }
+
+    //= `cedar_save` fails in no other way than these two.
     ensures refused { (result ≡ OK) ⊎ (((result ≡ CLOSED) ⊎ (result ≡ NO_ROOM)) × (buffer.new ≡ buffer.old)) }
     ensures kept { handle.new ≡ handle.old }
 {

@@ -9,7 +9,7 @@ use cedar_format::{FULL_MINOR, MINOR};
 use std::alloc::Allocator;
 
 impl<L: Layout, const SLOTS: usize, A: Allocator + Copy> Trie<L, SLOTS, A> {
-    /// How many bytes the dictionary's file has in format 1.1. It is told from the slots in use: none is looked at.
+    /// How many bytes the dictionary's file has in format 1.1. This follows from how many slots are in use: no slot is looked at.
     ///
     /// ```
     /// assert_eq!(rt; cedar.saved_len(), 3182);
@@ -22,7 +22,7 @@ impl<L: Layout, const SLOTS: usize, A: Allocator + Copy> Trie<L, SLOTS, A> {
         table_len(&self.table, MINOR)
     }
 
-    /// How many bytes the dictionary's file has in format 1.0. It is told from the slots that there are: none is looked at.
+    /// How many bytes the dictionary's file has in format 1.0. This follows from how many slots there are: no slot is looked at.
     ///
     /// ```
     /// assert_eq!(rt; cedar.saved_v1_0_len(), 3182);
@@ -39,6 +39,7 @@ impl<L: Layout, const SLOTS: usize, A: Allocator + Copy> Trie<L, SLOTS, A> {
     ///
     /// ```
     /// let mut room = [0u8; 4096];
+    /// assert!(rt; cedar.saved_len() <= room.len());
     /// assert_eq!(rt; cedar.save_to_slice(&mut room), 3182);
     /// ```
     pub fn save_to_slice(&self, bytes: &mut [u8]) -> usize
@@ -57,6 +58,7 @@ impl<L: Layout, const SLOTS: usize, A: Allocator + Copy> Trie<L, SLOTS, A> {
     ///
     /// ```
     /// let mut room = [0u8; 4096];
+    /// assert!(rt; cedar.saved_v1_0_len() <= room.len());
     /// assert_eq!(rt; cedar.save_v1_0_to_slice(&mut room), 3182);
     /// ```
     pub fn save_v1_0_to_slice(&self, bytes: &mut [u8]) -> usize
