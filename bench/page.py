@@ -5,6 +5,7 @@ give, or where rows don't belong together."""
 
 import re
 import sys
+from datetime import datetime
 from pathlib import Path
 
 import pictures
@@ -27,6 +28,9 @@ COUNTED = "words_small"
 README_HEAD = "| | here | cedarwood 0.6.1 | Judy | hash map |"
 README_COLUMNS = ("cedarwood", "judy", "unordered_map")
 README_CALLED = re.compile(r"Called from (Rattle|C), with")
+# What the pages say of their rows: the commit, and the day.
+OF_COMMIT = re.compile(r"(of commit )[0-9a-f]+\b", re.IGNORECASE)
+OF_DAY = re.compile(r"(of commit [0-9a-f]+, of )\d+ \w+ \d+")
 README_ROWS = {
     "look up a held key, in no order": "hit",
     "look up an absent key": "miss",
@@ -170,10 +174,20 @@ def refreshed(text, head, rows_of, cells_of):
     return "\n".join(lines) + "\n"
 
 
+def of_rows(text):
+    """A page whose sentences name the commit and the day of the rows."""
+    notes, given = rows.read_all()
+    if not given:
+        return text
+    day = datetime.strptime(notes["date"], "%Y-%m-%d %H:%M")
+    text = OF_COMMIT.sub(rf"\g<1>{given[0].commit}", text)
+    return OF_DAY.sub(rf"\g<1>{day.day} {day:%B %Y}", text)
+
+
 def first_page(text, table):
     subject, called = table.called(COUNTED)
     columns = (subject, *README_COLUMNS)
-    text = README_CALLED.sub(f"Called from {called}, with", text)
+    text = README_CALLED.sub(f"Called from {called}, with", of_rows(text))
     return refreshed(text, README_HEAD, README_ROWS, lambda measure: [table.instructions(measure, COUNTED, name) for name in columns])
 
 
@@ -181,7 +195,7 @@ def costs_page(text, table):
     def cells(measure):
         return [figure(measure, COUNTED, name) for name in ("here", "here_c") for figure in (table.instructions, table.misses)]
 
-    return refreshed(text, COSTS_HEAD, COSTS_ROWS, cells)
+    return refreshed(of_rows(text), COSTS_HEAD, COSTS_ROWS, cells)
 
 
 PAGES = {PAGE: made_page, TOP / "README.md": first_page, TOP / "docs" / "PERFORMANCE.md": costs_page}

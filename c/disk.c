@@ -73,7 +73,9 @@ bool disk_write(const disk_file *file, size_t at, const uint8_t *bytes, size_t l
     while (length > 0) {
         ssize_t count = pwrite(file->number, bytes, length, (off_t)at);
         if (count < 0 && errno == EINTR) continue;
-        if (count < 0) {
+        if (count <= 0) {
+            /* A call that takes none of some bytes has failed: they would be tried for ever. */
+            if (count == 0) errno = EIO;
             *is_full = is_want_of_room(errno);
             return false;
         }

@@ -99,8 +99,12 @@ uint32_t cedar_load_file(cedar_dictionary *d, const char *path, size_t memory_li
 static bool write_bytes(int file, const uint8_t *bytes, size_t length) {
     while (length > 0) {
         ssize_t count = write(file, bytes, length);
-        if (count < 0 && errno != EINTR) return false;
-        if (count < 0) continue;
+        if (count < 0 && errno == EINTR) continue;
+        if (count <= 0) {
+            /* A call that takes none of some bytes has failed: they would be tried for ever. */
+            if (count == 0) errno = EIO;
+            return false;
+        }
         bytes += count;
         length -= (size_t)count;
     }

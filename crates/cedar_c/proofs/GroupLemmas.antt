@@ -11,7 +11,7 @@ use Rattle.cedar_journal.specs.Records.{AreWholeRecords, behind_record, has_reco
 use Rattle.cedar_journal.proofs.Found.{length-payload}
 use Rattle.cedar_journal.proofs.Fronts.{front_of_none}
 use Rattle.cedar_journal.proofs.Reading.{behind_and_rest, length-behind, payloads_first, payloads_none, record_is_whole, same_payload, still_there}
-use Rattle.cedar_plan.specs.Plans.{works_of}
+use Rattle.cedar_plan.specs.Plans.{PlansAppend, works_of}
 use Rattle.cedar_plan.specs.declared.plan.Plan.{Plan}
 use Rattle.crc32c.specs.Sums.{crc32c}
 use Rattle.cedar_store.specs.Batches.{record_of}
@@ -21,7 +21,7 @@ use Rattle.cedar_store.proofs.Payloads.{of_batch}
 use Rattle.cedar_store.proofs.Recorded.{each_more, its_payloads, longer_records}
 use Rattle.cedar_c.specs.Changes.{IsRecord}
 use Rattle.cedar_c.specs.Groups.{AddsChange, IsGroup, group_head}
-use Rattle.cedar_c.proofs.PlanLemmas.{PlansAppend, is_change}
+use Rattle.cedar_c.proofs.PlanLemmas.{is_change}
 use Rattle.std.proofs.lemmas.Option.{none-some}
 
 -- ---- records that take all their bytes: what follows them is read as if it were alone

@@ -1,14 +1,14 @@
 -- What a plan makes of a file that represents a dictionary.
 use Rattle.std.specs.Prelude.{ℤ, IfSome, OnOk, option_and_then, option_map, Option, Some, Result, Ok, Err}
-use Rattle.std.proofs.Common.{◌≡◌, ℕ, ◌+◌, ◌<◌, List, [], ◌∷◌, ◌++◌, length, refl, sym, ◌∙◌, ap, subst, arith}
+use Rattle.std.proofs.Common.{◌≡◌, ℕ, ◌+◌, ◌<◌, List, [], ◌∷◌, length, refl, sym, ◌∙◌, ap, subst, arith}
 use Rattle.cedar_journal.specs.declared.format.Format.{Format}
 use Rattle.cedar_journal.specs.declared.records.Extent.{Extent}
 use Rattle.cedar_journal.specs.Files.{file_payloads, HasExtent}
-use Rattle.cedar_journal.specs.Formats.{frame_of, opening, overhead}
+use Rattle.cedar_journal.specs.Formats.{overhead}
 use Rattle.cedar_journal.specs.Journal.{IsBeforeOrAfter}
 use Rattle.cedar_journal.proofs.Moments as moments
 use Rattle.cedar_plan.specs.Calls.{LeftSince, open_call, seen_after}
-use Rattle.cedar_plan.specs.Plans.{works_of}
+use Rattle.cedar_plan.specs.Plans.{PlansAppend, works_of}
 use Rattle.cedar_plan.specs.Works.{Work, append_works, end_of, format_in, opening_works}
 use Rattle.cedar_plan.specs.declared.plan.Plan.{Plan}
 use Rattle.cedar_plan.proofs.Appending.{append_is_safe}
@@ -57,11 +57,6 @@ is_opening bytes extent works s has is stands =
       any_moment = λ later out.
           moments.weakens length LeftSince (open_call bytes ∷ []) later (λ c. file_payloads c ≡ file_payloads bytes) (λ c. state_of c ≡ Some s) same (safe.any_moment later out);
     })
-
--- a plan appends whatever record of this size its bytes begin with
-abbrev pub PlansAppend : Plan → ℕ → ℕ → Type 0
-PlansAppend plan size end =
-    (f : Format) (payload rest : List ℕ) → size ≡ 1 + overhead f + length payload → works_of ((opening f ∷ frame_of f payload) ++ rest) plan ≡ append_works f end payload
 
 -- the plan of a record in a buffer
 pub planned_by : (change : Change) (f : Format) (end n size to : ℕ) (buffer : List ℕ) (plan : Plan) (s : State) → IsRecord change f end n size buffer

@@ -2,6 +2,7 @@
 -- the closed gate behind it. They are of version 1 in files of either version, since the group's own record has the
 -- sum.
 use Rattle.std.specs.Prelude.{◌≡◌, ◌⊎◌, ℕ, ◌+◌, ◌<◌, ◌≤◌, ◌^◌, List, [], ◌∷◌, ◌++◌, Some}
+use Rattle.std.specs.Prelude.{take, drop}
 use Rattle.cedar_journal.specs.declared.format.Format.{Format}
 use Rattle.cedar_journal.specs.Formats.{overhead}
 use Rattle.cedar_plan.specs.Works.{Work}
@@ -18,6 +19,10 @@ AddsChange change bytes = (records : List ℕ) (changes : List Change) → batch
 -- length and its kind
 abbrev pub group_head : Format → ℕ
 group_head format = overhead format + 1
+
+-- the records of a group of so many bytes, which are in a buffer behind room for that group's own head
+abbrev pub group_records : Format → ℕ → List ℕ → List ℕ
+group_records format size buffer = take size (drop (group_head format) buffer)
 
 -- works that make the changes of these records in a file of this format, whatever it represents, and move where its
 -- records end. A crash at any moment leaves a file that has all of them or none

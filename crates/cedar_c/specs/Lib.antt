@@ -17,4 +17,5 @@ pub mod Scans
 pub mod Shrinks
 pub mod Status
 pub mod Stores
+pub mod Updates
 pub mod Words

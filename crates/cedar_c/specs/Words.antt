@@ -11,7 +11,7 @@ pub use Rattle.cedar_c.specs.Entries.{WritesPage}
 pub use Rattle.cedar_c.specs.Files.{early_refusal, file_in, file_status, is_reduced_byte}
 pub use Rattle.cedar_c.specs.Files.{IsFileOf, LacksOrCorrupt, TellsNoTable}
 pub use Rattle.cedar_c.specs.Files.{layout_named, minor_of, TellsHeader, TellsJust}
-pub use Rattle.cedar_c.specs.Groups.{AddsChange, group_head, IsGroup, LacksGroup}
+pub use Rattle.cedar_c.specs.Groups.{AddsChange, group_head, group_records, IsGroup, LacksGroup}
 pub use Rattle.cedar_c.specs.Layouts.{dictionary_in, HasToGrow, layout_if, layout_of}
 pub use Rattle.cedar_c.specs.Lending.{as_shown, LendsCedar, LendsSeen}
 pub use Rattle.cedar_c.specs.Matches.{all_longer, filled_from, filled_matches, Fit, front_keys}
@@ -19,16 +19,17 @@ pub use Rattle.cedar_c.specs.Matches.{longer, match_of, predicted_keys}
 pub use Rattle.cedar_c.specs.Opens.{OpensBuilt, OpensLoaded, OpensNew}
 pub use Rattle.cedar_c.specs.Pairs.{build_fault, entries_in, keys_in, MayWantSlots, named_keys}
 pub use Rattle.cedar_c.specs.Pairs.{StoresFront, StoresPart, taken_pair}
-pub use Rattle.cedar_c.specs.Plans.{damage_of, format_if, IsChangePlan, IsErasurePlan}
-pub use Rattle.cedar_c.specs.Plans.{IsOpening, IsPutPlan, LacksChange, LacksRecord, MayCut}
+pub use Rattle.cedar_c.specs.Plans.{damage_of, format_if, IsErasurePlan, IsOpening, IsPutPlan}
+pub use Rattle.cedar_c.specs.Plans.{LacksChange, LacksRecord, MayCut}
 pub use Rattle.cedar_c.specs.Plans.{TellsWhy, store_status}
 pub use Rattle.cedar_c.specs.Readings.{shown_figure, shown_in, shown_layout, shown_tree}
 pub use Rattle.cedar_c.specs.Scans.{found_keywords, found_spot, found_spots, found_token}
 pub use Rattle.cedar_c.specs.Scans.{found_tokens, WritesOn, WritesPiece}
 pub use Rattle.cedar_c.specs.Shrinks.{Shrinks}
-pub use Rattle.cedar_c.specs.Status.{LacksOnlyNew, position_of, status_of, status_text}
+pub use Rattle.cedar_c.specs.Status.{position_of, status_of, status_text}
 pub use Rattle.cedar_c.specs.Status.{TellsFault, TellsPosition}
 pub use Rattle.cedar_c.specs.Stores.{HoldsFront, HoldsPart, RefusesAll}
+pub use Rattle.cedar_c.specs.Updates.{KeepsSlots, StoresValue}
 pub use Rattle.cedar_c.specs.declared.any.AnyCedar.{AnyCedar}
 pub use Rattle.cedarwood.specs.Format.{header_answer}
 pub use Rattle.cedarwood.specs.Refusal.{refusal_of}
@@ -36,12 +37,11 @@ pub use Rattle.cedarwood.specs.Tables.{IsTableFile, table_bytes}
 pub use Rattle.cedar_journal.specs.Files.{HasExtent}
 pub use Rattle.cedar_journal.specs.Formats.{frame_of, opening, overhead}
 pub use Rattle.cedar_journal.specs.Records.{length_bytes}
-pub use Rattle.cedar_journal.specs.declared.format.Format.{Format}
 pub use Rattle.cedar_journal.specs.declared.format.Format.TheVariants.{Plain, Summed}
 pub use Rattle.cedarwood.specs.WellFormed.{IsWellFormed, tree_of}
 pub use Rattle.cedarwood.specs.Layouts.{default_layout, layout_byte, reduced_layout}
-pub use Rattle.cedar_plan.specs.Plans.{works_of}
-pub use Rattle.cedar_plan.specs.Works.{append_works, end_of, format_in}
+pub use Rattle.cedar_plan.specs.Plans.{PlansAppend, works_of}
+pub use Rattle.cedar_plan.specs.Works.{end_of, format_in}
 pub use Rattle.cedar_salvage.specs.Whole.{CutsNone}
 pub use Rattle.cedar_store.specs.Causes.{LoadCause}
 pub use Rattle.cedar_store.specs.Changes.{erase_at, put_at}

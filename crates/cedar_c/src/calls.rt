@@ -1,19 +1,17 @@
 //! The calls that make, copy, change and query a dictionary.
 
-ghost use Rattle.std.specs.Prelude.{◌*◌, ◌-◌, ◌<◌, ◌↔◌, ◌≡◌, ◌≤◌, ◌⊎◌, IfSome, IsSome, IsTrue};
-ghost use Rattle.std.specs.Prelude.{length, None, option_map, pos, Some, true};
-ghost use Rattle.cedar_c.specs.Words.{after_erase, after_put, AnyCedar, capacity_in, ChangesBy};
-ghost use Rattle.cedar_c.specs.Words.{content, default_layout, dictionary_in, ErasesUnder, fault};
-ghost use Rattle.cedar_c.specs.Words.{IsCleared, IsEmpty, IsErasedUnder, LacksOnlyNew, layout_if};
-ghost use Rattle.cedar_c.specs.Words.{layout_in, layout_of, longest_front, match_of, most_slots};
-ghost use Rattle.cedar_c.specs.Words.{number_at, OpensNew, position_of, reduced_layout};
-ghost use Rattle.cedar_c.specs.Words.{search_limit_in, shown_in, shown_tree, size_in, state_in};
-ghost use Rattle.cedar_c.specs.Words.{status_of, TellsPosition, tree_in, trials_in};
+ghost use Rattle.std.specs.Prelude.{◌↔◌, ◌≡◌, ◌⊎◌, IfSome, IsSome, IsTrue};
+ghost use Rattle.std.specs.Prelude.{None, option_map, pos, Some, true};
+ghost use Rattle.cedar_c.specs.Words.{after_erase, AnyCedar, ChangesBy, content, default_layout};
+ghost use Rattle.cedar_c.specs.Words.{dictionary_in, ErasesUnder, IsCleared, IsEmpty};
+ghost use Rattle.cedar_c.specs.Words.{IsErasedUnder, KeepsSlots, layout_if, layout_in, layout_of};
+ghost use Rattle.cedar_c.specs.Words.{longest_front, match_of, number_at, OpensNew, reduced_layout};
+ghost use Rattle.cedar_c.specs.Words.{shown_in, shown_tree, state_in, StoresValue, tree_in};
 
 use crate::any::AnyCedar;
 use crate::handle::Handle;
 use crate::reading::Reading;
-use crate::status::{CLOSED, INVALID_MAX_TRIAL, MEMORY, OK, SLOT_LIMIT, tell};
+use crate::status::{CLOSED, INVALID_MAX_TRIAL, MEMORY, OK, tell};
 use crate::walks::Match;
 use cedarwood::{CedarBuilder, Layout, Trie};
 use std::alloc::Global;
@@ -130,39 +128,20 @@ pub extern "C" fn cedar_update(
     value: i32,
     position: &mut usize,
 ) -> u32
-    //= An update returns `CLOSED` exactly if the handle is closed. [also cedar_insert]
-    ensures closed { (result ≡ CLOSED) ↔ (content handle.old ≡ None) }
-
-    //= It returns the number of the pair's first fault, with the position of a byte 0, or stores the value. [with faulty; also
-    //  cedar_insert]
-    ensures ok { result ≡ OK → state_in handle.new ≡ option_map (λ s. after_put s key.now value) (state_in handle.old) }
-
-    //= After any error the tree is as it was, and after a pair's fault the whole dictionary. [with unchanged; also cedar_insert]
-    ensures err { (result ≡ OK) ⊎ (state_in handle.new ≡ state_in handle.old) }
-    ensures unchanged { IsSome (fault key.now value) → content handle.new ≡ content handle.old }
-
-    //= Updates, inserts and erasures don't change the layout, whatever they return. [also cedar_insert, cedar_update_all, cedar_erase,
-    //  cedar_erase_all]
-    ensures layout { layout_in handle.new ≡ layout_in handle.old }
-    ensures faulty { IsSome (content handle.old) → IfSome (fault key.now value) (λ e. (result ≡ status_of e) × (position.new ≡ position_of position.old e)) }
-
+    //= An update returns `CLOSED` exactly if the handle is closed. [also cedar_insert; by closed]
+    //= It returns the number of the pair's first fault, with the position of a byte 0, or stores the value. [also cedar_insert; by ok,
+    //  faulty]
+    //= After any error the tree is as it was, and after a pair's fault the whole dictionary. [also cedar_insert; by err, unchanged]
+    //= Updates, inserts and erasures don't change the layout, whatever they return. [also cedar_insert, cedar_update_all.layout,
+    //  cedar_erase.kept, cedar_erase_all.kept; by layout]
     //= Without a fault it fails only for lack of memory or slots, only if the key isn't held, and not while a block is spare for each byte.
-    //  [with limit, spare, refused; also cedar_insert]
-    ensures memory { result ≡ MEMORY → (size_in handle.new ≡ capacity_in handle.new) × (capacity_in handle.new < most_slots) }
-    ensures limit { result ≡ SLOT_LIMIT → size_in handle.new ≡ most_slots }
-    ensures spare { IsSome (content handle.old) → fault key.now value ≡ None
-        → 256 * length key.now ≤ capacity_in handle.old - size_in handle.old → result ≡ OK }
-
+    //  [also cedar_insert; by memory, limit, spare, refused]
     //= Only an error that has a position writes it (`TellsPosition`). After an error an insert reports neither whether the key was held nor
-    //  its value. [also cedar_insert.stays.untold, cedar_update_all, cedar_build.opens, cedar_build_reduced.opens,
+    //  its value. [also cedar_insert.stores.untold, cedar_update_all.stays, cedar_build.opens, cedar_build_reduced.opens,
     //  cedar_build_unsorted.opens, cedar_build_unsorted_reduced.opens; by stays]
-    ensures stays { TellsPosition result ⊎ (position.new ≡ position.old) }
-
-    //= `max_trial` and the search limit don't change. [with search_limit; also cedar_insert, cedar_update_all, cedar_erase,
-    //  cedar_erase_all]
-    ensures trials { trials_in handle.new ≡ trials_in handle.old }
-    ensures search_limit { search_limit_in handle.new ≡ search_limit_in handle.old }
-    ensures refused { IsSome (content handle.old) → fault key.now value ≡ None → LacksOnlyNew (tree_in handle.old) key.now result }
+    //= `max_trial` and the search limit don't change. [also cedar_insert, cedar_update_all.trials.search_limit,
+    //  cedar_erase.kept, cedar_erase_all.kept; by trials, search_limit]
+    ensures stores { StoresValue key.now value handle.old handle.new position.old position.new result }
 {
     if !handle.is_open() {
         return CLOSED;
@@ -187,25 +166,12 @@ pub extern "C" fn cedar_insert(
     before: &mut i32,
     position: &mut usize,
 ) -> u32
-    ensures closed { (result ≡ CLOSED) ↔ (content handle.old ≡ None) }
-    ensures ok { result ≡ OK → state_in handle.new ≡ option_map (λ s. after_put s key.now value) (state_in handle.old) }
-    ensures err { (result ≡ OK) ⊎ (state_in handle.new ≡ state_in handle.old) }
-    ensures unchanged { IsSome (fault key.now value) → content handle.new ≡ content handle.old }
-    ensures layout { layout_in handle.new ≡ layout_in handle.old }
+    ensures stores { StoresValue key.now value handle.old handle.new position.old position.new result }
 
     //= An insert writes whether the key was held, and with which value. [with before]
     ensures held { result ≡ OK → IsTrue held.new ↔ IsSome (number_at (tree_in handle.old) key.now) }
     ensures before { result ≡ OK → IfSome (number_at (tree_in handle.old) key.now) (λ v. before.new ≡ v) }
-    ensures faulty { IsSome (content handle.old) → IfSome (fault key.now value) (λ e. (result ≡ status_of e) × (position.new ≡ position_of position.old e)) }
-    ensures memory { result ≡ MEMORY → (size_in handle.new ≡ capacity_in handle.new) × (capacity_in handle.new < most_slots) }
-    ensures limit { result ≡ SLOT_LIMIT → size_in handle.new ≡ most_slots }
-    ensures spare { IsSome (content handle.old) → fault key.now value ≡ None
-        → 256 * length key.now ≤ capacity_in handle.old - size_in handle.old → result ≡ OK }
-    ensures stays { TellsPosition result ⊎ (position.new ≡ position.old) }
-    ensures trials { trials_in handle.new ≡ trials_in handle.old }
-    ensures search_limit { search_limit_in handle.new ≡ search_limit_in handle.old }
     ensures untold { (result ≡ OK) ⊎ ((held.new ≡ held.old) × (before.new ≡ before.old)) }
-    ensures refused { IsSome (content handle.old) → fault key.now value ≡ None → LacksOnlyNew (tree_in handle.old) key.now result }
 {
     if !handle.is_open() {
         return CLOSED;
@@ -226,13 +192,10 @@ pub extern "C" fn cedar_insert(
 /// Removes a key, and returns whether it was held.
 #[unsafe(no_mangle)]
 pub extern "C" fn cedar_erase(handle: &mut Handle, key: &[u8]) -> bool
-    //= An erasure returns whether the key was held. The tree is then `cut`, and there are as many slots as before. [with after, size]
+    //= An erasure returns whether the key was held. The tree is then `cut`, and there are as many slots as before. [with after, kept]
     ensures answer { IsTrue result ↔ IsSome (number_at (tree_in handle.old) key.now) }
     ensures after { state_in handle.new ≡ option_map (λ s. after_erase s key.now) (state_in handle.old) }
-    ensures size { (size_in handle.new ≡ size_in handle.old) × (capacity_in handle.new ≡ capacity_in handle.old) }
-    ensures layout { layout_in handle.new ≡ layout_in handle.old }
-    ensures trials { trials_in handle.new ≡ trials_in handle.old }
-    ensures search_limit { search_limit_in handle.new ≡ search_limit_in handle.old }
+    ensures kept { KeepsSlots handle.old handle.new }
 {
     if !handle.is_open() {
         return false;

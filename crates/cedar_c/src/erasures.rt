@@ -2,9 +2,8 @@
 
 ghost use Rattle.std.specs.Prelude.{◌++◌, ◌+◌, ◌≡◌, drop, IfSome, length, None};
 ghost use Rattle.std.specs.Prelude.{option_map, set, take};
-ghost use Rattle.cedar_c.specs.Words.{capacity_in, content, dictionary_in, held_in_turn};
-ghost use Rattle.cedar_c.specs.Words.{keys_erased, layout_in, layout_of, named_keys};
-ghost use Rattle.cedar_c.specs.Words.{search_limit_in, size_in, state_in, tree_in, trials_in, walk};
+ghost use Rattle.cedar_c.specs.Words.{content, dictionary_in, held_in_turn, KeepsSlots};
+ghost use Rattle.cedar_c.specs.Words.{keys_erased, layout_of, named_keys, state_in, tree_in, walk};
 
 use crate::any::AnyCedar;
 use crate::handle::Handle;
@@ -91,7 +90,7 @@ impl AnyCedar {
 #[unsafe(no_mangle)]
 pub extern "C" fn cedar_erase_all(handle: &mut Handle, keys: &[Key<'_>], held: &mut [bool]) -> usize
     //= `cedar_erase_all` removes all of some keys, as erasures one after another do, and returns how many keys fewer are held. There are as
-    //  many slots as before. [with after, size]
+    //  many slots as before. [with after, kept]
     ensures count { result + length (walk (tree_in handle.new)) ≡ length (walk (tree_in handle.old)) }
 
     //= For as many keys as there is room for it writes whether each was held once those before it were removed. Places after the last key
@@ -99,10 +98,7 @@ pub extern "C" fn cedar_erase_all(handle: &mut Handle, keys: &[Key<'_>], held: &
     ensures held { IfSome (state_in handle.old) (λ s. held.new ≡ take (length held.old) (held_in_turn s (named_keys keys.now)) ++ drop (length keys.now) held.old) }
     ensures closed { content handle.old ≡ None → held.new ≡ held.old }
     ensures after { state_in handle.new ≡ option_map (λ s. keys_erased s (named_keys keys.now)) (state_in handle.old) }
-    ensures size { (size_in handle.new ≡ size_in handle.old) × (capacity_in handle.new ≡ capacity_in handle.old) }
-    ensures layout { layout_in handle.new ≡ layout_in handle.old }
-    ensures trials { trials_in handle.new ≡ trials_in handle.old }
-    ensures search_limit { search_limit_in handle.new ≡ search_limit_in handle.old }
+    ensures kept { KeepsSlots handle.old handle.new }
 {
     if !handle.is_open() {
         return 0;

@@ -2,8 +2,8 @@
 
 ghost use Rattle.std.specs.Prelude.{◌≡◌, ◌⊎◌, ◌+◌, ◌<◌, ◌≤◌, ◌^◌, ◌++◌, ◌∷◌, ℕ, List, []};
 ghost use Rattle.std.specs.Prelude.{IfErr, OnOk, drop, length, take};
-ghost use Rattle.cedar_c.specs.Words.{format_if, frame_of, group_head, IsGroup, LacksGroup};
-ghost use Rattle.cedar_c.specs.Words.{length_bytes, opening, works_of, Plain, Summed};
+ghost use Rattle.cedar_c.specs.Words.{format_if, frame_of, group_head, group_records, IsGroup};
+ghost use Rattle.cedar_c.specs.Words.{LacksGroup, length_bytes, opening, works_of, Plain, Summed};
 
 use crate::planned::go_on;
 use crate::records::format_if;
@@ -33,7 +33,7 @@ pub extern "C" fn cedar_plan_group(
     //  in their order, on the disk, and has one record more. A crash at any moment, even if a step fails, leaves the one or the other. [by
     //  IsGroup, IsChangePlan]
     ensures planned { result ≡ OK → IsGroup (works_of buffer.new plan.new) (format_if is_summed) end.old end.new
-        (take size (drop (group_head (format_if is_summed)) buffer.old)) }
+        (group_records (format_if is_summed) size buffer.old) }
 
     //= A group is refused exactly if the records end too far back, its record would be too long, or the buffer has too few elements. Then
     //  nothing changes. [with untold]

@@ -1,15 +1,14 @@
 //! The dictionary of a store, whose file C keeps (`c/store.c`): each call writes down a plan, and C carries it out before it acknowledges
 //! the change. These exports are the library's own, and no program sees them.
 
-ghost use Rattle.std.specs.Prelude.{◌≡◌, ◌≢◌, ◌⊎◌, ◌↔◌, ◌+◌, ◌<◌, ◌≤◌, ◌^◌, ◌++◌, ◌∷◌, ℕ, List};
-ghost use Rattle.std.specs.Prelude.{false, IfErr, IfOk, IfSome, IsFalse, IsSome, IsTrue, None};
-ghost use Rattle.std.specs.Prelude.{Some, length, option_map, take, true};
-ghost use Rattle.cedar_c.specs.Words.{AddsChange, after_erase, after_put, append_works, content};
-ghost use Rattle.cedar_c.specs.Words.{CutsNone, damage_of, dictionary_in, end_of, erase_at, fault};
-ghost use Rattle.cedar_c.specs.Words.{Format, format_if, format_in, frame_of, HasExtent};
-ghost use Rattle.cedar_c.specs.Words.{IsChangePlan, IsErasurePlan, IsOpening, IsPutPlan};
+ghost use Rattle.std.specs.Prelude.{◌≡◌, ◌≢◌, ◌⊎◌, ◌↔◌, ◌+◌, ◌<◌, ◌^◌, false, IfErr, IfOk, IfSome};
+ghost use Rattle.std.specs.Prelude.{IsFalse, IsSome, IsTrue, None, Some, length, option_map, take};
+ghost use Rattle.std.specs.Prelude.{true};
+ghost use Rattle.cedar_c.specs.Words.{AddsChange, after_erase, after_put, content, CutsNone};
+ghost use Rattle.cedar_c.specs.Words.{damage_of, dictionary_in, end_of, erase_at, fault, format_if};
+ghost use Rattle.cedar_c.specs.Words.{format_in, HasExtent, IsErasurePlan, IsOpening, IsPutPlan};
 ghost use Rattle.cedar_c.specs.Words.{LacksChange, LacksRecord, layout_if, layout_in, layout_of};
-ghost use Rattle.cedar_c.specs.Words.{LoadCause, MayCut, number_at, opening, overhead, Plain};
+ghost use Rattle.cedar_c.specs.Words.{LoadCause, MayCut, number_at, Plain, PlansAppend};
 ghost use Rattle.cedar_c.specs.Words.{position_of, put_at, record_count, state_in, state_of};
 ghost use Rattle.cedar_c.specs.Words.{status_of, store_status, TellsWhy, tree_in, works_of};
 
@@ -133,7 +132,7 @@ pub extern "C" fn cedar_plan_put(
 
     //= Once the plan of a put is carried out, a file that represented the dictionary from before it represents the one with it, on the
     //  disk, and has one record more. A crash at any moment, even if a step fails, leaves the one or the other. [by IsChangePlan]
-    ensures planned { result ≡ OK → IfSome (state_in handle.old) (λ s. IsChangePlan (works_of buffer.new plan.new) (format_if is_summed) end.old end.new s (after_put s key.now value)) }
+    ensures planned { result ≡ OK → IfSome (state_in handle.old) (λ s. IsPutPlan (works_of buffer.new plan.new) (format_if is_summed) end.old end.new s key.now value) }
 
     //= What a put without a sum that returns `OK` has written is the record of its change, which may follow those of a group without its
     //  last byte. The same holds of an erasure of a key that was held. [also cedar_plan_erase]
@@ -193,7 +192,7 @@ pub extern "C" fn cedar_plan_erase(
     //  key, on the disk, and has one record more. A crash at any moment, even if a step fails, leaves the one or the other. [by
     //  IsChangePlan]
     ensures planned { result ≡ OK → IsTrue held.new
-        → IfSome (state_in handle.old) (λ s. IsChangePlan (works_of buffer.new plan.new) (format_if is_summed) end.old end.new s (after_erase s key.now)) }
+        → IfSome (state_in handle.old) (λ s. IsErasurePlan (works_of buffer.new plan.new) (format_if is_summed) end.old end.new s key.now) }
 
     ensures recorded { result ≡ OK → IsTrue held.new → IsFalse is_summed → AddsChange (erase_at key.now) (take (length key.now + 6) buffer.new) }
 
@@ -385,8 +384,7 @@ pub(crate) fn go_on(size: usize, end: &mut usize, plan: &mut Plan)
     requires room { end.old < 2 ^ 60 }
     requires record { 0 < size }
     requires short { size < 2 ^ 33 }
-    ensures planned { (format : Format) (payload : List ℕ) (rest : List ℕ) → size ≡ 1 + overhead format + length payload
-        → works_of ((opening format ∷ frame_of format payload) ++ rest) plan.new ≡ append_works format end.old payload }
+    ensures planned { PlansAppend plan.new size end.old }
     ensures end { end.new + 1 ≡ end.old + size }
 {
     *plan = plan_append(*end, size);

@@ -1,13 +1,12 @@
 -- The lines of entries in parts.
-use Rattle.std.proofs.Common.{◌≡◌, ℕ, List, [], ◌∷◌, ◌++◌, Option, refl, sym, ap, subst, ◌∙◌, append_assoc, append-nil, take, drop, length, ◌-◌, arith, take-append-drop, length-drop, length-append}
-use Rattle.std.proofs.lemmas.List.{take_all}
+use Rattle.std.proofs.Common.{◌≡◌, ℕ, List, [], ◌∷◌, ◌++◌, Option, refl, sym, ap, subst, ◌∙◌, append_assoc, append-nil, take, drop, length, ◌-◌, arith, take-append-drop, length-append}
 use Rattle.std.specs.Prelude.{codes, Result, Ok, Err, OnOk, OnErr}
 use Rattle.std.specs.Io.KnownBytes.{Appends}
 use Rattle.hex.specs.Hex.{encode_with, encode_lower, lower_digits}
 use Rattle.cedarwood.specs.Queries.{Entry}
 use Rattle.cedar_cli.specs.Script.{hex_entry_line, hex_entry_lines}
 use Rattle.text_lines.specs.Written.{WritesFront}
-use Rattle.text_lines.proofs.Bytes.{Appends-append, Appends-none, front_after, front_more}
+use Rattle.text_lines.proofs.Bytes.{Appends-append, Appends-none, front_after, front_more, whole_rest}
 
 hex_entry_lines-append : (a b : List Entry) → hex_entry_lines (a ++ b) ≡ hex_entry_lines a ++ hex_entry_lines b
 hex_entry_lines-append [] b = refl
@@ -64,11 +63,9 @@ pub digits_more : (a b d : Option (List ℕ)) (bytes done rest : List ℕ) (n : 
     → Appends b d (encode_lower (take n rest)) → (y : List ℕ) × (bytes ≡ y ++ take (length rest - n) (drop n rest)) × Appends a d (encode_lower y)
 digits_more a b d bytes done rest n e written more = (
   done ++ take n rest,
-  e ∙ ap (λ l. done ++ l) (sym (take-append-drop n rest)) ∙ sym (append_assoc done (take n rest) (drop n rest)) ∙ ap (λ l. (done ++ take n rest) ++ l) (sym whole),
+  e ∙ ap (λ l. done ++ l) (sym (take-append-drop n rest)) ∙ sym (append_assoc done (take n rest) (drop n rest)) ∙ ap (λ l. (done ++ take n rest) ++ l) (sym (whole_rest n rest)),
   subst (Appends a d) (sym (encode-append lower_digits done (take n rest))) (Appends-append a b d (encode_lower done) (encode_lower (take n rest)) written more),
-) where
-  whole : take (length rest - n) (drop n rest) ≡ drop n rest
-  whole = take_all (length rest - n) (drop n rest) (omega (arith, length-drop n rest))
+)
 
 -- some lines were written, and nothing of the others
 pub lines_begun : (a b : Option (List ℕ)) (entries came later : List Entry) → entries ≡ came ++ later → Appends a b (hex_entry_lines came)

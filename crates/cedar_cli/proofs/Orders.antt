@@ -48,7 +48,10 @@ erased_reply s key v h = rw h refl
 pub absent_reply : (s : View) (key : List ℕ) → number_at s.state.tree key ≡ None → codes "absent" ≡ reply s (Some (Erase, key))
 absent_reply s key h = rw h refl
 
--- the line of a fault that has a number in it
+-- the line of a fault, and of one that has a number in it
+pub empty_line : (e : CedarError) → e ≡ EmptyKey → codes "refused EmptyKey\n" ≡ put_text (Some e) ++ 10 ∷ []
+empty_line e is = rw is refl
+
 pub nul_line : (e : CedarError) (at : ℕ) (figures : List ℕ) → e ≡ NulByte at → figures ≡ decimal at
     → codes "refused NulByte " ++ (figures ++ 10 ∷ []) ≡ put_text (Some e) ++ 10 ∷ []
 nul_line e at figures is text = rw (is, text) (sym (append_assoc (codes "refused NulByte ") (decimal at) (10 ∷ [])))

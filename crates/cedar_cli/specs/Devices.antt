@@ -2,7 +2,7 @@
 use Rattle.std.specs.Prelude.{◌≡◌, ℕ, ◌<◌, ◌^◌, Bool, ◌||◌, List, length, Option, IfSome}
 use Rattle.std.specs.Io.KnownBytes.{Consumes}
 use Rattle.cedarwood.specs.Words.{Watched}
-use Rattle.cedarwood.specs.WatchedDevice.{device_of}
+use Rattle.cedarwood.specs.WatchedDevice.{device_of, has_failed}
 use Rattle.cedar_cli.specs.Lines.{HasNoNewline}
 
 -- what a writer holds, or what is left in a reader, if its device reports that
@@ -12,6 +12,10 @@ held_by contents watched = contents (device_of watched)
 -- P holds of what a writer held before and holds afterwards, if its device reports that
 abbrev pub OnWriter : {D : Type 0} → (D → Option (List ℕ)) → Watched D → Watched D → (Option (List ℕ) → Option (List ℕ) → Type 0) → Type 0
 OnWriter contents before after P = P (held_by contents before) (held_by contents after)
+
+-- a reader has failed exactly if it had before, and a writer if it had, or if a flush has failed
+abbrev pub OnlyFlushFails : {D E : Type 0} → Bool → Watched D → Watched D → Watched E → Watched E → Type 0
+OnlyFlushFails flush reader reader_after writer writer_after = (has_failed reader_after ≡ has_failed reader) × (has_failed writer_after ≡ (flush || has_failed writer))
 
 -- P holds of the input that a reader has, if that is known and shorter than 2^63 bytes
 abbrev pub OnInput : {D : Type 0} → (D → Option (List ℕ)) → Watched D → (List ℕ → Type 0) → Type 0

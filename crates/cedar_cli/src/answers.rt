@@ -5,7 +5,7 @@ ghost use Rattle.std.specs.Prelude.{MatchOption, OnErr, OnOk};
 ghost use Rattle.cedar_cli.specs.Words.{AnswersOrFails, BreaksOff, colon_field, encode_lower};
 ghost use Rattle.cedar_cli.specs.Words.{has_failed, hex_entry_line, hex_entry_lines, number_text};
 ghost use Rattle.cedar_cli.specs.Words.{pair_text, pairs_text, spaced_texts, token_text};
-ghost use Rattle.cedar_cli.specs.Words.{tokens_text, Writes, WritesOrFails};
+ghost use Rattle.cedar_cli.specs.Words.{tokens_text, Writes, WritesBytes};
 
 use crate::script::ScriptError;
 use crate::write::{write_both, write_line, write_whole};
@@ -40,9 +40,7 @@ pub(crate) fn write_entries<T: Walked, A: Allocator + Copy, W: Write>(
 
 /// Writes the line of an entry.
 fn write_entry<W: Write>(writer: &mut Watched<W>, key: &[u8], value: i32) -> Result<(), ScriptError>
-    ensures ok { OnOk result (Writes W.contents writer.old writer.new (hex_entry_line (key.now, value))) }
-    ensures err { OnErr result (BreaksOff W.contents writer.old writer.new (hex_entry_line (key.now, value))) }
-    ensures faults { WritesOrFails ScriptError.Write (has_failed writer.old) (has_failed writer.new) result }
+    ensures { WritesBytes W.contents ScriptError.Write writer.old writer.new (hex_entry_line (key.now, value)) result }
 {
     write_digits(writer, key)?;
     let mut figures = Buffer::new();
@@ -51,9 +49,7 @@ fn write_entry<W: Write>(writer: &mut Watched<W>, key: &[u8], value: i32) -> Res
 
 /// Writes some bytes in hexadecimal.
 fn write_digits<W: Write>(writer: &mut Watched<W>, bytes: &[u8]) -> Result<(), ScriptError>
-    ensures ok { OnOk result (Writes W.contents writer.old writer.new (encode_lower bytes.now)) }
-    ensures err { OnErr result (BreaksOff W.contents writer.old writer.new (encode_lower bytes.now)) }
-    ensures faults { WritesOrFails ScriptError.Write (has_failed writer.old) (has_failed writer.new) result }
+    ensures { WritesBytes W.contents ScriptError.Write writer.old writer.new (encode_lower bytes.now) result }
 {
     let mut digits = [0u8; 2 * PIECE];
     let mut rest = bytes;
@@ -72,9 +68,7 @@ fn write_piece<W: Write>(
     digits: &mut [u8],
 ) -> Result<(), ScriptError>
     requires room { length digits.old ≡ 2 * length bytes.now }
-    ensures ok { OnOk result (Writes W.contents writer.old writer.new (encode_lower bytes.now)) }
-    ensures err { OnErr result (BreaksOff W.contents writer.old writer.new (encode_lower bytes.now)) }
-    ensures faults { WritesOrFails ScriptError.Write (has_failed writer.old) (has_failed writer.new) result }
+    ensures { WritesBytes W.contents ScriptError.Write writer.old writer.new (encode_lower bytes.now) result }
 {
     encode_into(bytes, digits);
     write_whole(writer, digits)
@@ -111,9 +105,7 @@ pub(crate) fn write_pairs<P: Pairs, W: Write>(
     writer: &mut Watched<W>,
     pairs: &mut P,
 ) -> Result<(), ScriptError>
-    ensures ok { OnOk result (Writes W.contents writer.old writer.new (pairs_text (P.left pairs.old) ++ 10 ∷ [])) }
-    ensures err { OnErr result (BreaksOff W.contents writer.old writer.new (pairs_text (P.left pairs.old) ++ 10 ∷ [])) }
-    ensures faults { WritesOrFails ScriptError.Write (has_failed writer.old) (has_failed writer.new) result }
+    ensures { WritesBytes W.contents ScriptError.Write writer.old writer.new (pairs_text (P.left pairs.old) ++ 10 ∷ []) result }
 {
     let Some(first) = pairs.next_pair() else {
         return write_whole(writer, b"none\n");
@@ -127,9 +119,7 @@ fn write_further<P: Pairs, W: Write>(
     writer: &mut Watched<W>,
     pairs: &mut P,
 ) -> Result<(), ScriptError>
-    ensures ok { OnOk result (Writes W.contents writer.old writer.new (spaced_texts pair_text (P.left pairs.old) ++ 10 ∷ [])) }
-    ensures err { OnErr result (BreaksOff W.contents writer.old writer.new (spaced_texts pair_text (P.left pairs.old) ++ 10 ∷ [])) }
-    ensures faults { WritesOrFails ScriptError.Write (has_failed writer.old) (has_failed writer.new) result }
+    ensures { WritesBytes W.contents ScriptError.Write writer.old writer.new (spaced_texts pair_text (P.left pairs.old) ++ 10 ∷ []) result }
 {
     while let Some(pair) = pairs.next_pair() {
         write_after_space(writer, pair)?;
@@ -142,9 +132,7 @@ fn write_after_space<W: Write>(
     writer: &mut Watched<W>,
     pair: (i32, usize),
 ) -> Result<(), ScriptError>
-    ensures ok { OnOk result (Writes W.contents writer.old writer.new (codes " " ++ pair_text pair)) }
-    ensures err { OnErr result (BreaksOff W.contents writer.old writer.new (codes " " ++ pair_text pair)) }
-    ensures faults { WritesOrFails ScriptError.Write (has_failed writer.old) (has_failed writer.new) result }
+    ensures { WritesBytes W.contents ScriptError.Write writer.old writer.new (codes " " ++ pair_text pair) result }
 {
     write_whole(writer, b" ")?;
     write_pair(writer, pair)
@@ -152,9 +140,7 @@ fn write_after_space<W: Write>(
 
 /// Writes a pair.
 fn write_pair<W: Write>(writer: &mut Watched<W>, pair: (i32, usize)) -> Result<(), ScriptError>
-    ensures ok { OnOk result (Writes W.contents writer.old writer.new (pair_text pair)) }
-    ensures err { OnErr result (BreaksOff W.contents writer.old writer.new (pair_text pair)) }
-    ensures faults { WritesOrFails ScriptError.Write (has_failed writer.old) (has_failed writer.new) result }
+    ensures { WritesBytes W.contents ScriptError.Write writer.old writer.new (pair_text pair) result }
 {
     let (value, count) = pair;
     let mut figures = Buffer::new();
@@ -167,9 +153,7 @@ pub(crate) fn write_tokens<T: LongestPrefix, W: Write>(
     writer: &mut Watched<W>,
     mut tokens: Segments<'_, T>,
 ) -> Result<(), ScriptError>
-    ensures ok { OnOk result (Writes W.contents writer.old writer.new (tokens_text tokens.entry ++ 10 ∷ [])) }
-    ensures err { OnErr result (BreaksOff W.contents writer.old writer.new (tokens_text tokens.entry ++ 10 ∷ [])) }
-    ensures faults { WritesOrFails ScriptError.Write (has_failed writer.old) (has_failed writer.new) result }
+    ensures { WritesBytes W.contents ScriptError.Write writer.old writer.new (tokens_text tokens.entry ++ 10 ∷ []) result }
 {
     let Some(first) = tokens.next() else {
         return write_whole(writer, b"none\n");
@@ -183,9 +167,7 @@ fn write_spaced<T: LongestPrefix, W: Write>(
     writer: &mut Watched<W>,
     mut tokens: Segments<'_, T>,
 ) -> Result<(), ScriptError>
-    ensures ok { OnOk result (Writes W.contents writer.old writer.new (spaced_texts token_text tokens.entry ++ 10 ∷ [])) }
-    ensures err { OnErr result (BreaksOff W.contents writer.old writer.new (spaced_texts token_text tokens.entry ++ 10 ∷ [])) }
-    ensures faults { WritesOrFails ScriptError.Write (has_failed writer.old) (has_failed writer.new) result }
+    ensures { WritesBytes W.contents ScriptError.Write writer.old writer.new (spaced_texts token_text tokens.entry ++ 10 ∷ []) result }
 {
     while let Some(token) = tokens.next() {
         write_next(writer, token)?;
@@ -198,9 +180,7 @@ fn write_next<W: Write>(
     writer: &mut Watched<W>,
     token: (usize, usize, Option<i32>),
 ) -> Result<(), ScriptError>
-    ensures ok { OnOk result (Writes W.contents writer.old writer.new (codes " " ++ token_text token)) }
-    ensures err { OnErr result (BreaksOff W.contents writer.old writer.new (codes " " ++ token_text token)) }
-    ensures faults { WritesOrFails ScriptError.Write (has_failed writer.old) (has_failed writer.new) result }
+    ensures { WritesBytes W.contents ScriptError.Write writer.old writer.new (codes " " ++ token_text token) result }
 {
     write_whole(writer, b" ")?;
     write_token(writer, token)
@@ -211,9 +191,7 @@ fn write_token<W: Write>(
     writer: &mut Watched<W>,
     token: (usize, usize, Option<i32>),
 ) -> Result<(), ScriptError>
-    ensures ok { OnOk result (Writes W.contents writer.old writer.new (token_text token)) }
-    ensures err { OnErr result (BreaksOff W.contents writer.old writer.new (token_text token)) }
-    ensures faults { WritesOrFails ScriptError.Write (has_failed writer.old) (has_failed writer.new) result }
+    ensures { WritesBytes W.contents ScriptError.Write writer.old writer.new (token_text token) result }
 {
     let (start, len, value) = token;
     write_field(writer, start)?;
@@ -223,9 +201,7 @@ fn write_token<W: Write>(
 
 /// Writes a number and a colon.
 fn write_field<W: Write>(writer: &mut Watched<W>, number: usize) -> Result<(), ScriptError>
-    ensures ok { OnOk result (Writes W.contents writer.old writer.new (colon_field number)) }
-    ensures err { OnErr result (BreaksOff W.contents writer.old writer.new (colon_field number)) }
-    ensures faults { WritesOrFails ScriptError.Write (has_failed writer.old) (has_failed writer.new) result }
+    ensures { WritesBytes W.contents ScriptError.Write writer.old writer.new (colon_field number) result }
 {
     let mut figures = Buffer::new();
     write_whole(writer, figures.format(number).as_bytes())?;
@@ -234,9 +210,7 @@ fn write_field<W: Write>(writer: &mut Watched<W>, number: usize) -> Result<(), S
 
 /// Writes a token's value, or `-`.
 fn write_value<W: Write>(writer: &mut Watched<W>, value: Option<i32>) -> Result<(), ScriptError>
-    ensures ok { OnOk result (Writes W.contents writer.old writer.new (number_text value)) }
-    ensures err { OnErr result (BreaksOff W.contents writer.old writer.new (number_text value)) }
-    ensures faults { WritesOrFails ScriptError.Write (has_failed writer.old) (has_failed writer.new) result }
+    ensures { WritesBytes W.contents ScriptError.Write writer.old writer.new (number_text value) result }
 {
     match value {
         Some(value) => {

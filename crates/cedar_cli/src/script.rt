@@ -1,11 +1,12 @@
 //! A run of a script: lines in, answers out.
 
-ghost use Rattle.std.specs.Prelude.{◌||◌, ◌++◌, ◌+◌, ◌<◌, ◌∷◌, ◌≡◌, ◌≤◌, [], false, IfErr, IfOk};
+ghost use Rattle.std.specs.Prelude.{◌++◌, ◌+◌, ◌<◌, ◌∷◌, ◌≡◌, ◌≤◌, [], false, IfErr, IfOk};
 ghost use Rattle.std.specs.Prelude.{IfSome, length, OnErr, OnOk, position, true, vec_capacity};
 ghost use Rattle.cedar_cli.specs.Words.{AdvancesBy, Answers, AnswersOrFails, EndsInput};
 ghost use Rattle.cedar_cli.specs.Words.{FinishesAll, FinishesComing, GrowsBefore, GrowsWithin};
 ghost use Rattle.cedar_cli.specs.Words.{has_failed, HasLineRoom, HasNoNewline, held_by, is_newline};
-ghost use Rattle.cedar_cli.specs.Words.{LineMayLackMemory, OnWriter, order_of, StopsOn};
+ghost use Rattle.cedar_cli.specs.Words.{LineMayLackMemory, OnlyFlushFails, OnWriter, order_of};
+ghost use Rattle.cedar_cli.specs.Words.{StopsOn};
 
 use crate::flushes::{Flushes, flush_answers};
 use crate::verbs::answer_line;
@@ -124,11 +125,11 @@ fn answer_input<L: Layout, const SLOTS: usize, A: Allocator + Copy, R: Read, W: 
     ensures read_cause { result ≡ Err ScriptError.Read → has_failed reader.new ≡ true }
     ensures write_cause { result ≡ Err ScriptError.Write → has_failed writer.new ≡ true }
     ensures flush_cause { flushes.new.failed ≡ true → has_failed writer.new ≡ true }
-    ensures unfailed { OnOk result ((has_failed reader.new ≡ has_failed reader.old) × (has_failed writer.new ≡ (flushes.new.failed || has_failed writer.old))) }
+    ensures unfailed { OnOk result (OnlyFlushFails flushes.new.failed reader.old reader.new writer.old writer.new) }
     ensures limit { result ≡ Err ScriptError.SlotLimit → trie.new.size ≡ SLOTS }
     ensures blocks { IfSome (held_by R.remaining reader.old) (λ input. GrowsWithin (length input) trie.old trie.new) }
-    ensures starved { result ≡ Err ScriptError.Memory → (has_failed reader.new ≡ has_failed reader.old) × (has_failed writer.new ≡ (flushes.new.failed || has_failed writer.old)) }
-    ensures full { result ≡ Err ScriptError.SlotLimit → (has_failed reader.new ≡ has_failed reader.old) × (has_failed writer.new ≡ (flushes.new.failed || has_failed writer.old)) }
+    ensures starved { result ≡ Err ScriptError.Memory → OnlyFlushFails flushes.new.failed reader.old reader.new writer.old writer.new }
+    ensures full { result ≡ Err ScriptError.SlotLimit → OnlyFlushFails flushes.new.failed reader.old reader.new writer.old writer.new }
     ensures max_trial { trie.new.max_trial ≡ trie.old.max_trial }
 {
     let Ok((mut line, mut key)) = line_room(alloc) else {

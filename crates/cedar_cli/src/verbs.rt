@@ -1,11 +1,11 @@
 //! The answer to one line. A line whose answer isn't written whole changes no key and no value.
 
-ghost use Rattle.std.specs.Prelude.{◌*◌, ◌++◌, ◌<◌, ◌∷◌, ◌≡◌, ◌≤◌, [], IsSome, length};
-ghost use Rattle.std.specs.Prelude.{MatchOption, OnErr, OnOk, Some};
-ghost use Rattle.cedar_cli.specs.Words.{Answers, AnswersOrFails, BreaksOff, figures_text};
-ghost use Rattle.cedar_cli.specs.Words.{found_text, Grows, GrowsWithin, has_failed, held_by};
-ghost use Rattle.cedar_cli.specs.Words.{IsPairFault, IsTakenBack, MayLackMemory, number_at};
-ghost use Rattle.cedar_cli.specs.Words.{order_of, put_text, Writes, WritesOrFails};
+ghost use Rattle.std.specs.Prelude.{◌*◌, ◌++◌, ◌<◌, ◌∷◌, ◌≡◌, ◌≤◌, [], IsSome};
+ghost use Rattle.std.specs.Prelude.{length, MatchOption, Some};
+ghost use Rattle.cedar_cli.specs.Words.{Answers, AnswersOrFails, figures_text, found_text, Grows};
+ghost use Rattle.cedar_cli.specs.Words.{GrowsWithin, has_failed, held_by, IsPairFault, IsTakenBack};
+ghost use Rattle.cedar_cli.specs.Words.{MayLackMemory, number_at, order_of, put_text, WritesBytes};
+ghost use Rattle.cedar_cli.specs.Words.{WritesOrFails};
 
 use crate::answers::{write_entries, write_pairs, write_tokens};
 use crate::command::{Verb, parse_line};
@@ -226,9 +226,7 @@ fn take_back<L: Layout, const SLOTS: usize, A: Allocator + Copy>(
 /// Writes the line of a pair's fault. It allocates nothing.
 fn write_refusal<W: Write>(writer: &mut Watched<W>, error: CedarError) -> Result<(), ScriptError>
     requires { IsPairFault error }
-    ensures ok { OnOk result (Writes W.contents writer.old writer.new (put_text (Some error) ++ 10 ∷ [])) }
-    ensures err { OnErr result (BreaksOff W.contents writer.old writer.new (put_text (Some error) ++ 10 ∷ [])) }
-    ensures faults { WritesOrFails ScriptError.Write (has_failed writer.old) (has_failed writer.new) result }
+    ensures { WritesBytes W.contents ScriptError.Write writer.old writer.new (put_text (Some error) ++ 10 ∷ []) result }
 {
     let mut figures = Buffer::new();
     match error {
@@ -251,9 +249,7 @@ fn write_found<W: Write>(
     value: i32,
     length: usize,
 ) -> Result<(), ScriptError>
-    ensures ok { OnOk result (Writes W.contents writer.old writer.new (found_text (Some value) length ++ 10 ∷ [])) }
-    ensures err { OnErr result (BreaksOff W.contents writer.old writer.new (found_text (Some value) length ++ 10 ∷ [])) }
-    ensures faults { WritesOrFails ScriptError.Write (has_failed writer.old) (has_failed writer.new) result }
+    ensures { WritesBytes W.contents ScriptError.Write writer.old writer.new (found_text (Some value) length ++ 10 ∷ []) result }
 {
     let mut figures = Buffer::new();
     write_whole(writer, figures.format(value).as_bytes())?;
@@ -266,9 +262,7 @@ fn write_figures<W: Write>(
     keys: usize,
     slots: usize,
 ) -> Result<(), ScriptError>
-    ensures ok { OnOk result (Writes W.contents writer.old writer.new (figures_text keys slots ++ 10 ∷ [])) }
-    ensures err { OnErr result (BreaksOff W.contents writer.old writer.new (figures_text keys slots ++ 10 ∷ [])) }
-    ensures faults { WritesOrFails ScriptError.Write (has_failed writer.old) (has_failed writer.new) result }
+    ensures { WritesBytes W.contents ScriptError.Write writer.old writer.new (figures_text keys slots ++ 10 ∷ []) result }
 {
     let mut figures = Buffer::new();
     write_whole(writer, figures.format(keys).as_bytes())?;

@@ -1,7 +1,7 @@
 //! Bytes written whole, or a first part of them and a fault. No other writer calls the device.
 
-ghost use Rattle.std.specs.Prelude.{◌++◌, ◌∷◌, [], OnErr, OnOk};
-ghost use Rattle.cedar_cli.specs.Words.{BreaksOff, has_failed, Writes, WritesOrFails};
+ghost use Rattle.std.specs.Prelude.{◌++◌, ◌∷◌, []};
+ghost use Rattle.cedar_cli.specs.Words.{WritesBytes};
 
 use crate::script::ScriptError;
 use cedarwood::Watched;
@@ -13,9 +13,7 @@ pub(crate) fn write_both<W: Write>(
     first: &[u8],
     second: &[u8],
 ) -> Result<(), ScriptError>
-    ensures ok { OnOk result (Writes W.contents writer.old writer.new (first.now ++ second.now)) }
-    ensures err { OnErr result (BreaksOff W.contents writer.old writer.new (first.now ++ second.now)) }
-    ensures faults { WritesOrFails ScriptError.Write (has_failed writer.old) (has_failed writer.new) result }
+    ensures { WritesBytes W.contents ScriptError.Write writer.old writer.new (first.now ++ second.now) result }
 {
     write_whole(writer, first)?;
     write_whole(writer, second)
@@ -27,9 +25,7 @@ pub(crate) fn write_line<W: Write>(
     first: &[u8],
     second: &[u8],
 ) -> Result<(), ScriptError>
-    ensures ok { OnOk result (Writes W.contents writer.old writer.new (first.now ++ (second.now ++ 10 ∷ []))) }
-    ensures err { OnErr result (BreaksOff W.contents writer.old writer.new (first.now ++ (second.now ++ 10 ∷ []))) }
-    ensures faults { WritesOrFails ScriptError.Write (has_failed writer.old) (has_failed writer.new) result }
+    ensures { WritesBytes W.contents ScriptError.Write writer.old writer.new (first.now ++ (second.now ++ 10 ∷ [])) result }
 {
     write_whole(writer, first)?;
     write_whole(writer, second)?;
@@ -42,9 +38,7 @@ pub(crate) fn write_whole<W: Write>(
     writer: &mut Watched<W>,
     bytes: &[u8],
 ) -> Result<(), ScriptError>
-    ensures ok { OnOk result (Writes W.contents writer.old writer.new bytes.now) }
-    ensures err { OnErr result (BreaksOff W.contents writer.old writer.new bytes.now) }
-    ensures faults { WritesOrFails ScriptError.Write (has_failed writer.old) (has_failed writer.new) result }
+    ensures { WritesBytes W.contents ScriptError.Write writer.old writer.new bytes.now result }
 {
     let mut rest = bytes;
     while !rest.is_empty() {

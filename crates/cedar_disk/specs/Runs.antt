@@ -1,7 +1,11 @@
 -- What calls on a file do one behind another: time goes on, bytes are written in as many calls as the system takes, and a file takes the
 -- name of another one.
-use Rattle.std.specs.Prelude.{◌≡◌, ◌⊎◌, ◌<◌, ◌≤◌, ◌^◌, ℕ, true, false, List}
+use Rattle.std.specs.Prelude.{◌≡◌, ◌≢◌, ◌⊎◌, ◌<◌, ◌≤◌, ◌^◌, ℕ, true, false, List}
 use Rattle.std.specs.Prelude.{◌∷◌, length, take, IsTrue}
+use Rattle.std_io.specs.declared.io.kind.ErrorKind.{ErrorKind}
+use Rattle.std_io.specs.declared.io.kind.ErrorKind.TheVariants.{FileTooLarge, Interrupted}
+use Rattle.std_io.specs.declared.io.kind.ErrorKind.TheVariants.{QuotaExceeded, StorageFull}
+use Rattle.std_io.specs.IoError.{error_kind}
 use Rattle.cedar_journal.specs.Device.{Elapses, Follows, Torn}
 use Rattle.cedar_disk.specs.Calls.{Call, LeftSince, MayLeave, all_within, faults_in, is_named_after}
 use Rattle.cedar_disk.specs.Calls.{is_usable_after, folder_sync_call, overlay, refused_call}
@@ -17,12 +21,24 @@ write_by_outcome at bytes Nothing = refused_call
 write_by_outcome at bytes (Full e) = refused_call
 write_by_outcome at bytes (Failed e) = write_call at bytes false
 
--- if the system took some of n bytes at this offset, these are at most n, and the offset is below 2^63
+-- an error of this kind says that there was no room
+abbrev pub IsWantOfRoom : ErrorKind → Type 0
+IsWantOfRoom kind = (kind ≡ StorageFull) ⊎ (kind ≡ QuotaExceeded) ⊎ (kind ≡ FileTooLarge)
+
+-- a call that returned an error of this kind may have written a part: no signal came first, and there was room
+pub record IsFailure (kind : ErrorKind) : Type 0 where
+  pub uninterrupted : kind ≢ Interrupted
+  pub disk : kind ≢ StorageFull
+  pub owner : kind ≢ QuotaExceeded
+  pub process : kind ≢ FileTooLarge
+
+-- if the system took some of n bytes at this offset, these are at most n, and the offset is below 2^63. If it found no
+-- room, the error says so; if it failed, the error says nothing that leaves the file as it was
 abbrev pub TookSome : ℕ → ℕ → Wrote → Type 0
 TookSome at n (Bytes count) = (0 < count) × (count ≤ n) × (at < 2 ^ 63)
 TookSome at n Nothing = Unit {0}
-TookSome at n (Full e) = Unit {0}
-TookSome at n (Failed e) = Unit {0}
+TookSome at n (Full e) = IsWantOfRoom (error_kind e)
+TookSome at n (Failed e) = IsFailure (error_kind e)
 
 -- time goes on from the one list of calls to the other: what a crash may leave now, or might have left before, and
 -- nothing else

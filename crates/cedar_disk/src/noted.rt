@@ -5,7 +5,7 @@
 //! are private, so that no other module notes a call, or takes one that failed for one that was made.
 
 ghost use Rattle.std.specs.Prelude.{◌≡◌, ◌≤◌, ◌<◌, ◌^◌, ◌∷◌, [], false, IfOk, IfSome};
-ghost use Rattle.std.specs.Prelude.{is_ok, length, OnErr, OnOk, true};
+ghost use Rattle.std.specs.Prelude.{is_ok, length, OnErr, OnOk, true, ℕ};
 ghost use Rattle.cedar_disk.specs.NotedFiles.{is_beside, noted_calls};
 ghost use Rattle.cedar_disk.specs.Words.{call_with, compaction_path, folder_sync_call};
 ghost use Rattle.cedar_disk.specs.Words.{is_locked_after, LiesBeside, lock_call, MayLeave, Only};
@@ -442,7 +442,7 @@ fn write_some<T: Write + Seek>(file: &mut T, at: usize, bytes: &[u8]) -> Wrote
     ensures { TookSome at (length bytes.now) result }
 {
     if at > MAX_OFFSET {
-        return Wrote::Failed(io::ErrorKind::FileTooLarge.into());
+        return Wrote::Full(io::ErrorKind::FileTooLarge.into());
     }
     wrote_of(at, bytes, write_once(file, at, bytes))
 }
@@ -459,13 +459,12 @@ fn write_on<T: Write>(file: &mut T, at: usize, bytes: &[u8]) -> Wrote
     ensures { TookSome at (length bytes.now) result }
 {
     if at > MAX_OFFSET {
-        return Wrote::Failed(io::ErrorKind::FileTooLarge.into());
+        return Wrote::Full(io::ErrorKind::FileTooLarge.into());
     }
     wrote_of(at, bytes, file.write(bytes))
 }
 
-// What a call did, by its result. A call that takes none of some bytes has failed. One that found no room has written nothing: if there is
-// room for a part, the system takes that, and says how much.
+// What a call did, by its result. A call that takes none of some bytes has failed.
 fn wrote_of(at: usize, _bytes: &[u8], answer: io::Result<usize>) -> Wrote
     requires offset { at < 2 ^ 63 }
     requires bound { IfOk answer (λ count. count ≤ length _bytes.now) }
@@ -474,15 +473,21 @@ fn wrote_of(at: usize, _bytes: &[u8], answer: io::Result<usize>) -> Wrote
     match answer {
         Ok(0) => Wrote::Failed(io::ErrorKind::WriteZero.into()),
         Ok(count) => Wrote::Bytes(count),
-        Err(error) if is_want_of_room(error.kind()) => Wrote::Full(error),
-        Err(error) => Wrote::Failed(error),
+        Err(error) => wrote_with(error),
     }
 }
 
-// Whether an error says that there was no room: on the disk, in what the owner may have of it, or in what the process may write.
-fn is_want_of_room(kind: io::ErrorKind) -> bool {
-    matches!(
-        kind,
-        io::ErrorKind::StorageFull | io::ErrorKind::QuotaExceeded | io::ErrorKind::FileTooLarge
-    )
+// What a call did that returned an error. A call that a signal came before has written nothing. Nor has one that found no room: on the
+// disk, in what the owner may have of it, or in what the process may write. If there is room for a part, the system takes that, and says
+// how much.
+fn wrote_with(error: io::Error) -> Wrote
+    ensures { (at n : ℕ) → TookSome at n result }
+{
+    match error.kind() {
+        io::ErrorKind::Interrupted => Wrote::Nothing,
+        io::ErrorKind::StorageFull => Wrote::Full(error),
+        io::ErrorKind::QuotaExceeded => Wrote::Full(error),
+        io::ErrorKind::FileTooLarge => Wrote::Full(error),
+        _ => Wrote::Failed(error),
+    }
 }

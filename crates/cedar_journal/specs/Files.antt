@@ -108,6 +108,11 @@ abbrev pub extent_end : Extent → ℕ
 extent_end New = 13
 extent_end (Until format end) = end
 
+-- the format of the records of a file, once a new file has its header
+abbrev pub extent_format : Extent → Format
+extent_format New = Summed
+extent_format (Until format end) = format
+
 -- whether a file is a header, whole records and a closed gate, so that nothing is to be mended
 abbrev pub is_at_rest : List ℕ → Extent → Bool
 is_at_rest file New = false

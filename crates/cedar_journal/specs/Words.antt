@@ -2,6 +2,7 @@
 pub use Rattle.cedar_journal.specs.Device.{Cut, Elapses, Follows, HasCause, HasFront, Holds}
 pub use Rattle.cedar_journal.specs.Device.{LeavesOnly, Only, Torn}
 pub use Rattle.cedar_journal.specs.Files.{with_payload, ends_closed, extent_end, file_reading}
+pub use Rattle.cedar_journal.specs.Files.{extent_format}
 pub use Rattle.cedar_journal.specs.Files.{format_of, HasExtent, HasRecords, is_at_rest, is_begun}
 pub use Rattle.cedar_journal.specs.Files.{IsFault, IsNewFile, IsFoundThere, file_payloads}
 pub use Rattle.cedar_journal.specs.Formats.{read_behind, damaged, AreUndamaged, opening}

@@ -6,9 +6,10 @@
 ghost use Rattle.std.specs.Prelude.{◌+◌, ◌<◌, ◌^◌, ◌≡◌, ◌≤◌, IfErr, IfOk, IsErrOf, IsOkAnd};
 ghost use Rattle.std.specs.Prelude.{length, OnErr, OnOk, Some, true};
 ghost use Rattle.cedar_journal.specs.Words.{with_payload, Device, HasExtent, IfKept, image_bytes};
-ghost use Rattle.cedar_journal.specs.Words.{extent_end, is_at_rest, IsBeforeOrAfter, IsSettled};
-ghost use Rattle.cedar_journal.specs.Words.{IsStaged, LeavesOnly, Only, payload_of, payloads_of};
-ghost use Rattle.cedar_journal.specs.Words.{file_payloads, StandsForEither};
+ghost use Rattle.cedar_journal.specs.Words.{extent_end, extent_format, is_at_rest};
+ghost use Rattle.cedar_journal.specs.Words.{IsBeforeOrAfter, IsSettled};
+ghost use Rattle.cedar_journal.specs.Words.{IsStaged, LeavesOnly, Only, overhead, payload_of};
+ghost use Rattle.cedar_journal.specs.Words.{file_payloads, payloads_of, StandsForEither};
 
 use crate::records::{ends_closed, open_gate};
 use crate::repair::{cut_off, make_ready};
@@ -74,8 +75,9 @@ impl<D: Device> Journal<D> {
         //= An opening returns `Failed` only if the disk has failed. [also open_read]
         ensures failed { IfErr result (λ e. e.0 ≡ DeviceError.Failed → D.faults device < D.faults e.1) }
 
-        //= Its records end where the file's did. [also open_read]
+        //= Its records end where the file's did, and are of the file's version. A new file is of version 2. [with format; also open_read]
         ensures end { IfOk result (λ journal. journal.end ≡ extent_end extent) }
+        ensures format { IfOk result (λ journal. journal.format ≡ extent_format extent) }
     {
         let mut device = device;
         match make_ready(&mut device, extent) {
@@ -109,6 +111,7 @@ impl<D: Device> Journal<D> {
             (λ c. file_payloads c ≡ file_payloads (D.seen device))) }
         ensures failed { IfErr result (λ e. e.0 ≡ DeviceError.Failed → D.faults device < D.faults e.1) }
         ensures end { IfOk result (λ journal. journal.end ≡ extent_end extent) }
+        ensures format { IfOk result (λ journal. journal.format ≡ extent_format extent) }
 
         //= Opening a file that is at rest writes nothing: the device is as it was.
         ensures at_rest { is_at_rest bytes.now extent ≡ true → IsOkAnd result (λ journal. journal.device ≡ device) }
@@ -192,7 +195,9 @@ impl<D: Device> Journal<D> {
         ensures any_moment { LeavesOnly D.moment D.left_since self.old.device self.new.device
             (IsBeforeOrAfter (file_payloads (D.seen self.old.device)) (payload_of frame.now)) }
 
-        //= An acknowledgement leaves the format, and if it fails, where the records end. [with format]
+        //= An acknowledgement leaves the format. The records end as many bytes further back as the record has; if it fails, where they did.
+        //  [with end, format]
+        ensures longer { OnOk result (self.new.end ≡ self.old.end + (overhead self.old.format + length (payload_of frame.now))) }
         ensures end { OnErr result (self.new.end ≡ self.old.end) }
         ensures format { self.new.format ≡ self.old.format }
 
@@ -214,9 +219,11 @@ impl<D: Device> Journal<D> {
     pub fn append<A: Allocator>(&mut self, frame: &Frame<A>) -> Result<(), JournalError>
         requires { IsSettled D.seen D.may_leave self.old.device self.old.format self.old.end }
 
-        //= Once a record is appended, the file is at rest and on the disk, and represents one more payload, this one. [with settled]
+        //= Once a record is appended, the file is at rest and on the disk, and represents one more payload, this one. The records end as
+        //  many bytes further back as the record has. [with settled, longer]
         ensures acknowledged { OnOk result (file_payloads (D.seen self.new.device) ≡ with_payload (payload_of frame.now) (file_payloads (D.seen self.old.device))) }
         ensures settled { OnOk result (IsSettled D.seen D.may_leave self.new.device self.new.format self.new.end) }
+        ensures longer { OnOk result (self.new.end ≡ self.old.end + (overhead self.old.format + length (payload_of frame.now))) }
 
         //= A crash at any moment of that leaves the payloads from before it, with or without the new one.
         ensures any_moment { LeavesOnly D.moment D.left_since self.old.device self.new.device

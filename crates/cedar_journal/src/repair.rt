@@ -2,8 +2,9 @@
 
 ghost use Rattle.std.specs.Prelude.{◌<◌, ◌∷◌, ◌≡◌, ◌≤◌, [], IfOk, IsErrOf, length};
 ghost use Rattle.std.specs.Prelude.{List, OnOk, Some, take, ℕ};
-ghost use Rattle.cedar_journal.specs.Words.{extent_end, file_payloads, HasExtent, HasFront};
-ghost use Rattle.cedar_journal.specs.Words.{HasRecords, IsNewFile, IsSettled, LeavesOnly, Only};
+ghost use Rattle.cedar_journal.specs.Words.{extent_end, extent_format, file_payloads, HasExtent};
+ghost use Rattle.cedar_journal.specs.Words.{HasFront, HasRecords, IsNewFile, IsSettled};
+ghost use Rattle.cedar_journal.specs.Words.{LeavesOnly, Only};
 
 use crate::records::{HEADER_FRAME, HEADER_LEN};
 use crate::{Device, DeviceError, Extent, Format};
@@ -16,6 +17,7 @@ pub(crate) fn make_ready<D: Device>(
     requires restarted { Only (D.seen device.old) (D.may_leave device.old) }
     requires extent { HasExtent (D.seen device.old) extent }
     ensures settled { IfOk result (λ at. IsSettled D.seen D.may_leave device.new at.0 at.1) }
+    ensures format { IfOk result (λ at. at.0 ≡ extent_format extent) }
     ensures end { IfOk result (λ at. at.1 ≡ extent_end extent) }
     ensures same { OnOk result (file_payloads (D.seen device.new) ≡ file_payloads (D.seen device.old)) }
     ensures any_moment { LeavesOnly D.moment D.left_since device.old device.new

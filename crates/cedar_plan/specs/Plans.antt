@@ -1,8 +1,11 @@
 -- What the steps of a plan say.
-use Rattle.std.specs.Prelude.{ℕ, ◌==◌, if◌then◌else◌, List, [], ◌∷◌, take, drop, map}
+use Rattle.std.specs.Prelude.{◌≡◌, ℕ, ◌+◌, ◌==◌, if◌then◌else◌, List, [], ◌∷◌, ◌++◌, length}
+use Rattle.std.specs.Prelude.{take, drop, map}
+use Rattle.cedar_journal.specs.declared.format.Format.{Format}
 use Rattle.cedar_journal.specs.declared.format.Format.TheVariants.{Summed}
 use Rattle.cedar_journal.specs.Files.{header_frame}
-use Rattle.cedar_plan.specs.Works.{Work, cut_to, write_to}
+use Rattle.cedar_journal.specs.Formats.{frame_of, opening, overhead}
+use Rattle.cedar_plan.specs.Works.{Work, append_works, cut_to, write_to}
 use Rattle.cedar_plan.specs.declared.plan.Plan.{Plan}
 use Rattle.cedar_plan.specs.declared.plan.Step.{Step}
 use Rattle.cedar_plan.specs.declared.plan.TheConstants.{CUT}
@@ -22,3 +25,8 @@ steps_of p = take p.count (p.first ∷ p.second ∷ p.third ∷ p.fourth ∷ [])
 -- what a plan does that has these bytes
 abbrev pub works_of : List ℕ → Plan → List Work
 works_of bytes p = map (work_of bytes) (steps_of p)
+
+-- a plan appends whatever record of this size its bytes begin with, behind records that end at `end`
+abbrev pub PlansAppend : Plan → ℕ → ℕ → Type 0
+PlansAppend plan size end =
+    (f : Format) (payload rest : List ℕ) → size ≡ 1 + overhead f + length payload → works_of ((opening f ∷ frame_of f payload) ++ rest) plan ≡ append_works f end payload

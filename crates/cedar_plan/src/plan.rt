@@ -1,10 +1,10 @@
 //! Plans: the steps by which a file is opened, and by which a record is appended; and records as they are written.
 
-ghost use Rattle.std.specs.Prelude.{◌≡◌, ◌+◌, ◌<◌, ◌^◌, ◌++◌, ◌∷◌, ℕ, ◌≤◌, IfOk};
-ghost use Rattle.std.specs.Prelude.{IsErrOf, length, List, [], true};
-ghost use Rattle.cedar_plan.specs.Words.{append_works, cut_to, ends_closed, frame_of, header};
-ghost use Rattle.cedar_plan.specs.Words.{opening, opening_works, overhead, works_of, Format};
-ghost use Rattle.cedar_plan.specs.Words.{HasExtent, is_at_rest, Plain, Summed, write_to};
+ghost use Rattle.std.specs.Prelude.{◌≡◌, ◌+◌, ◌<◌, ◌^◌, ◌++◌, ◌∷◌, ℕ, ◌≤◌, IfOk, IsErrOf, length};
+ghost use Rattle.std.specs.Prelude.{List, [], true};
+ghost use Rattle.cedar_plan.specs.Words.{cut_to, ends_closed, frame_of, header, opening};
+ghost use Rattle.cedar_plan.specs.Words.{opening_works, PlansAppend, works_of, HasExtent};
+ghost use Rattle.cedar_plan.specs.Words.{is_at_rest, Plain, Summed, write_to};
 
 use cedar_journal::{Extent, Format, FrameError, MAX_PAYLOAD, push_frame};
 use std::alloc::Allocator;
@@ -66,6 +66,8 @@ pub fn plan_opening(extent: Extent, bytes: &[u8]) -> Plan
     ensures works { (rest : List ℕ) → works_of (header ++ rest) result ≡ opening_works bytes.now extent }
     //= A file that is at rest is opened by a plan of no steps.
     ensures at_rest { is_at_rest bytes.now extent ≡ true → result.count ≡ 0 }
+    //= The plan of an opening has no more steps than a plan has room for.
+    ensures steps { result.count ≤ 4 }
 {
     match extent {
         Extent::New => plan_header(),
@@ -88,7 +90,8 @@ fn ends_closed(bytes: &[u8], end: usize) -> bool
 
 /// The plan by which a new file gets its header.
 fn plan_header() -> Plan
-    ensures { (file : List ℕ) (rest : List ℕ) → works_of (header ++ rest) result ≡ opening_works file Extent.New }
+    ensures works { (file : List ℕ) (rest : List ℕ) → works_of (header ++ rest) result ≡ opening_works file Extent.New }
+    ensures steps { result.count ≤ 4 }
 {
     Plan {
         count: 4,
@@ -121,7 +124,8 @@ fn plan_header() -> Plan
 
 /// The plan by which a file gets a closed gate after its whole records.
 fn plan_end(end: usize) -> Plan
-    ensures { (rest : List ℕ) → works_of (header ++ rest) result ≡ cut_to end ∷ write_to end (0 ∷ []) ∷ [] }
+    ensures works { (rest : List ℕ) → works_of (header ++ rest) result ≡ cut_to end ∷ write_to end (0 ∷ []) ∷ [] }
+    ensures steps { result.count ≤ 4 }
 {
     Plan {
         count: 2,
@@ -148,8 +152,7 @@ pub fn plan_append(end: usize, size: usize) -> Plan
     requires room { end < 2 ^ 60 }
     requires some { 0 < size }
     //= The plan of a record of either format writes it after the closed gate, and then opens that.
-    ensures { (format : Format) (payload : List ℕ) (rest : List ℕ) → size ≡ 1 + overhead format + length payload
-        → works_of ((opening format ∷ frame_of format payload) ++ rest) result ≡ append_works format end payload }
+    ensures { PlansAppend result size end }
 {
     Plan {
         count: 2,

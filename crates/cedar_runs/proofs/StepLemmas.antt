@@ -111,11 +111,11 @@ module _ {T A D : Type 0} (seen : D → List ℕ) (moment : D → ℕ) (left_sin
   usable_then true is held r told refused = let apart : Ok held ≡ Err error.Failed = sym told ∙ refused is in cc
 
   pub erasure_step : (after : State) (held : Bool) (r : Result Bool DurableError) → r ≡ Ok held → (old.failed ≡ true → r ≡ Err error.Failed)
-      → (new.failed ≡ false) × (state new.words ≡ (if held then after else state old.words)) → IsReadyStore seen may_leave state new → (held ≡ false → new.journal ≡ old.journal) → IsLeft after
+      → (new.failed ≡ false) × (state new.words ≡ (if held then after else state old.words)) → IsReadyStore seen may_leave state new → (held ≡ false → new ≡ old) → IsLeft after
       → IsCallStep moment left_since may_leave (point_of state old) after (outcome_of_erasure held) (point_of state new)
   erasure_step after true r told refused done ready missed left = made_step after done.0 done.1 ready left
   erasure_step after false r told refused done ready missed left =
-      nothing_step after (done.0 ∙ sym (usable_then old.failed refl false r told refused)) done.1 (λ file now. subst (λ (j : Journal D). may_leave j.device file) (missed refl) now) left
+      nothing_step after (done.0 ∙ sym (usable_then old.failed refl false r told refused)) done.1 (λ file now. subst (λ (s : Store T A D). may_leave s.journal.device file) (missed refl) now) left
 
   -- ---- a change that returned an error
 

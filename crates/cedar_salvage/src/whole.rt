@@ -34,7 +34,7 @@ pub fn salvage<A: Allocator + Copy>(alloc: A, bytes: &[u8]) -> Result<Image<A>, 
 /// Makes the file on a device one that has exactly the records of an image, and returns its journal.
 ///
 /// # Errors
-/// With the device: `Refused` if an allocation failed, `Foreign` or `Damaged` if it has something else than a journal, `Device` if it failed.
+/// With the device: `Foreign` or `Damaged` if it has something else than a journal, `Device` if it failed, also for want of memory or room.
 pub fn store_with<D: ReplaceDevice + Drop, A: Allocator + Copy>(
     alloc: A,
     device: D,

@@ -1,5 +1,5 @@
 -- A file that has one record for each entry of a dictionary.
-use Rattle.std.specs.Prelude.{◌&&◌, ◌-◌, ◌*◌, fold, int_le, max, nat_lt, pos, Bool, false, IfErr, IsErrAnd, IsErrOf, OnOk, Result, Ok, Err, option_and_then, option_map, Option, Some, None, IfSome}
+use Rattle.std.specs.Prelude.{◌&&◌, ◌-◌, ◌*◌, fold, int_le, max, nat_lt, pos, Bool, false, IfErr, IsErrAnd, IsErrOf, OnErr, OnOk, Result, Ok, Err, option_and_then, option_map, Option, Some, None, IfSome}
 use Rattle.std.proofs.Common.{◌≡◌, ◌⊎◌, inl, inr, ⊎_elim, ◌<◌, ℕ, ◌+◌, ℤ, true, List, [], ◌∷◌, ◌++◌, drop, take, refl, sym, ◌∙◌, ap, subst, arith}
 use Rattle.std.proofs.lemmas.Bool.{false≢true}
 use Rattle.std.proofs.lemmas.Bool.Decides.{nat_tests}
@@ -191,6 +191,16 @@ module _ {D : Type 0} (seen : D → List ℕ) (may_leave : D → List ℕ → Ty
 pub on_err : {X E : Type 0} {P Q : E → Type 0} (r : Result X E) → ((e : E) → P e → Q e) → IfErr r P → IfErr r Q
 on_err (Ok x) so holds = tt
 on_err (Err e) so holds = so e holds
+
+-- what holds of an error, and what of all
+pub on_err_too : {X E : Type 0} {P Q : E → Type 0} {S : Type 0} (r : Result X E) → ((e : E) → P e → S → Q e) → IfErr r P → OnErr r S → IfErr r Q
+on_err_too (Ok x) so holds too = tt
+on_err_too (Err e) so holds too = so e holds too
+
+-- what holds of each error
+pub on_each_err : {X E : Type 0} {P : E → Type 0} (r : Result X E) → ((e : E) → P e) → IfErr r P
+on_each_err (Ok x) so = tt
+on_each_err (Err e) so = so e
 
 -- a file that has one record more, and was looked at
 pub still_more : {S : Type 0} (before between after payload : List ℕ) → file_payloads between ≡ with_payload payload (file_payloads before) → (after ≡ between) ⊎ S

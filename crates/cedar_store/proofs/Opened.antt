@@ -1,12 +1,20 @@
 -- Why a file isn't opened, and a record not written.
-use Rattle.std.proofs.Common.{◌≡◌, inl, inr, ℕ, List, subst}
+use Rattle.std.proofs.Common.{◌≡◌, ap, inl, inr, ℕ, List, subst, sym}
+use Rattle.cedar_journal.specs.declared.records.Extent.{Extent}
+use Rattle.cedar_journal.specs.declared.records.Extent.TheVariants.{New, Until}
 use Rattle.cedar_journal.specs.declared.records.FileFault.{FileFault}
 use Rattle.cedar_journal.specs.declared.records.FileFault.TheVariants as fault
-use Rattle.cedar_journal.specs.Files.{IsFault}
+use Rattle.cedar_journal.specs.Files.{extent_format, format_of, HasExtent, IsFault}
 use Rattle.cedar_store.specs.declared.error.DurableError.{DurableError}
 use Rattle.cedar_store.specs.declared.error.DurableError.TheVariants as error
 use Rattle.cedar_store.specs.Causes.{LoadCause, OpenCause, ReadCause}
+use Rattle.cedar_store.specs.Files.{format_named}
 use Rattle.cedar_store.specs.Told.{file_error}
+
+-- the format of a file that goes as far as this is the one that its header names, or version 2
+pub format_there : (file : List ℕ) (extent : Extent) → HasExtent file extent → extent_format extent ≡ format_named (format_of file)
+format_there file New new = ap format_named (sym new.unnamed)
+format_there file (Until format end) records = ap format_named (sym records.named)
 
 -- what is reported of a file that is refused
 pub file_cause : (file : List ℕ) (why : FileFault) → IsFault file why → LoadCause file (file_error why)

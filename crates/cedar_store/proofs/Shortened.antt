@@ -5,8 +5,8 @@ use Rattle.cedarwood.specs.State.{State}
 use Rattle.cedar_store.specs.declared.compaction.CompactError.{CompactError}
 use Rattle.cedar_store.specs.declared.compaction.CompactError.TheVariants as error
 use Rattle.cedar_store.specs.declared.store.Store.{Store}
-use Rattle.cedar_store.specs.Compactions.{compacted_length, is_beyond}
-use Rattle.cedar_store.specs.Shortening.{IsKeptLong, IsLookedAfter, IsLookedAt, IsNotDue, IsShortEnough, IsShortened, IsUnlooked, KeptCause}
+use Rattle.cedar_store.specs.Compactions.{compacted_length, is_beyond, IsBeforeReplacing}
+use Rattle.cedar_store.specs.Shortening.{IsKeptLong, IsLookedAfter, IsLookedAt, IsNotDue, IsShortEnough, IsShortened, IsTooLong, IsUnlooked, KeptCause}
 
 -- ---- why a file was kept as it was, from an earlier moment on
 
@@ -16,6 +16,13 @@ kept_since before between now error.TooLong later cause = cause
 kept_since before between now (error.Kept d) later cause = λ same. let more = cause same in omega (arith, later, more)
 kept_since before between now error.Failed later cause = absurd cause
 
+-- no new file was made in memory
+pub kept_before : (before now : ℕ) (e : CompactError) → IsBeforeReplacing e → KeptCause before now e
+kept_before before now error.Memory is = is
+kept_before before now error.TooLong is = is
+kept_before before now (error.Kept d) is = absurd is
+kept_before before now error.Failed is = absurd is
+
 -- ---- since before the record was written
 
 module _ {T A D : Type 0} (seen : D → List ℕ) (faults : D → ℕ) (state : T → State) (old between new : Store T A D) where
@@ -23,20 +30,22 @@ module _ {T A D : Type 0} (seen : D → List ℕ) (faults : D → ℕ) (state : 
   not_due_since un rule is =
       ((is.0.0 ∙ un.0, is.0.1 ∙ un.1), ap (λ r. is_beyond r old.base new.journal.end) (sym rule) ∙ ap (λ b. is_beyond between.compaction b new.journal.end) (sym un.0) ∙ is.1)
 
-  looked_at_since : IsUnlooked old between → between.compaction ≡ old.compaction → faults old.journal.device ≤ faults between.journal.device
-      → IsLookedAt seen faults state between new → IsLookedAt seen faults state old new
-  looked_at_since un rule later looked = (
-    looked.0,
+  looked_at_since : (end : ℕ) → IsUnlooked old between → between.compaction ≡ old.compaction → faults old.journal.device ≤ faults between.journal.device
+      → IsLookedAt seen faults state end between new → IsLookedAt seen faults state end old new
+  looked_at_since end un rule later looked = (
+    ap (λ r. is_beyond r old.base end) (sym rule) ∙ ap (λ b. is_beyond between.compaction b end) (sym un.0) ∙ looked.0,
+    looked.1,
     ⊎_elim
         (λ (enough : IsShortEnough state between new). inl (enough.0 ∙ un.1, ap (λ r. is_beyond r (compacted_length (walk (state new.words).tree)) new.journal.end) (sym rule) ∙ enough.1))
         (⊎_elim
-        (λ (short : IsShortened seen state between new). inr (inl (λ never. short.0 (rule ∙ never), short.1, short.2)))
+        (λ (short : IsTooLong state end between new × IsShortened seen state between new).
+        inr (inl (ap (λ r. is_beyond r (compacted_length (walk (state new.words).tree)) end) (sym rule) ∙ short.0, λ never. short.1 (rule ∙ never), short.2, short.3, short.4)))
         (λ (kept : IsKeptLong faults between new).
         inr (inr (kept.0, kept.1, kept_since (faults old.journal.device) (faults between.journal.device) (faults new.journal.device) kept.0 later kept.2))))
-        looked.1,
+        looked.2,
   )
 
-  pub looked_since : IsUnlooked old between → between.compaction ≡ old.compaction → faults old.journal.device ≤ faults between.journal.device
-      → IsLookedAfter seen faults state between new → IsLookedAfter seen faults state old new
-  looked_since un rule later looked =
-      ⊎_elim (λ (is : IsNotDue between new). inl (not_due_since un rule is)) (λ (is : IsLookedAt seen faults state between new). inr (looked_at_since un rule later is)) looked
+  pub looked_since : (end : ℕ) → IsUnlooked old between → between.compaction ≡ old.compaction → faults old.journal.device ≤ faults between.journal.device
+      → IsLookedAfter seen faults state end between new → IsLookedAfter seen faults state end old new
+  looked_since end un rule later looked =
+      ⊎_elim (λ (is : IsNotDue between new). inl (not_due_since un rule is)) (λ (is : IsLookedAt seen faults state end between new). inr (looked_at_since end un rule later is)) looked

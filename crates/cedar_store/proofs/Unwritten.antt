@@ -76,6 +76,19 @@ unwritten_by_device before mid now was failed (error.Damaged place) later cause 
 unwritten_by_device before mid now was failed error.Corrupt later cause broken = absurd cause
 unwritten_by_device before mid now was failed error.Failed later cause broken = absurd cause
 
+-- and it failed since before that write, too
+pub of_device_since : (before mid now : ℕ) (e : DurableError) → before ≤ mid → IsOfDevice mid now e → IsOfDevice before now e
+of_device_since before mid now (error.Device d) later cause = λ is. let less : mid < now = cause is in omega (arith, later, less)
+of_device_since before mid now error.NoRoom later cause = absurd cause
+of_device_since before mid now error.Full later cause = absurd cause
+of_device_since before mid now error.TooLong later cause = absurd cause
+of_device_since before mid now (error.Refused r) later cause = absurd cause
+of_device_since before mid now (error.RefusedAt index r) later cause = absurd cause
+of_device_since before mid now error.Foreign later cause = absurd cause
+of_device_since before mid now (error.Damaged place) later cause = absurd cause
+of_device_since before mid now error.Corrupt later cause = absurd cause
+of_device_since before mid now error.Failed later cause = absurd cause
+
 -- ---- why a change, an erasure or a batch wasn't made then
 
 pub change_unwritten : (was failed : Bool) (fault : Option CedarError) (end n before now : ℕ) (e : DurableError) → IsUnwritten before now was failed e → ChangeCause was fault end n before now e

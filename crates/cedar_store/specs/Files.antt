@@ -1,6 +1,8 @@
 -- The dictionary that a file represents.
 use Rattle.std.specs.Prelude.{◌≡◌, ◌⊎◌, ℕ, Bool, true, false, ◌||◌, not, is_some, List, [], ◌∷◌}
-use Rattle.std.specs.Prelude.{length, Option, Some, option_and_then, option_map}
+use Rattle.std.specs.Prelude.{length, None, Option, Some, option_and_then, option_map}
+use Rattle.cedar_journal.specs.declared.format.Format.{Format}
+use Rattle.cedar_journal.specs.declared.format.Format.TheVariants.{Summed}
 use Rattle.cedar_journal.specs.Files.{file_payloads, with_payload}
 use Rattle.cedarwood.specs.State.{State, new_state}
 use Rattle.cedar_store.specs.Changes.{after_payloads, Change, changes_of}
@@ -9,6 +11,11 @@ use Rattle.cedar_store.specs.Changes.{after_payloads, Change, changes_of}
 -- records that count. None: the file is of another kind, or one of its records is damaged or no change
 abbrev pub state_of : List ℕ → Option State
 state_of file = option_and_then (after_payloads new_state) (file_payloads file)
+
+-- the format of the records of a file once it is opened: the one that its header names; of a new file version 2
+abbrev pub format_named : Option Format → Format
+format_named None = Summed
+format_named (Some format) = format
 
 -- how many records count in a file; none if it is refused
 abbrev pub record_count : List ℕ → Option ℕ

@@ -2,7 +2,7 @@
 pub use Rattle.cedar_journal.specs.Device.{LeavesOnly, Only}
 pub use Rattle.cedar_journal.specs.Files.{HasExtent, with_payload, ends_closed}
 pub use Rattle.cedar_journal.specs.Files.{format_of, file_payloads}
-pub use Rattle.cedar_journal.specs.Formats.{AreUndamaged, payloads_read, records_read}
+pub use Rattle.cedar_journal.specs.Formats.{AreUndamaged, overhead, payloads_read, records_read}
 pub use Rattle.cedar_journal.specs.Frames.{payload_of}
 pub use Rattle.cedar_journal.specs.Image.{image_bytes, payloads_of}
 pub use Rattle.cedar_journal.specs.Journal.{IsBeforeOrAfter, IsSettled, StandsForEither}
@@ -23,16 +23,16 @@ pub use Rattle.cedar_store.specs.Compactions.{compact_error, CompactCause, compa
 pub use Rattle.cedar_store.specs.Compactions.{CompactMemory, default_rule, is_beyond}
 pub use Rattle.cedar_store.specs.Compactions.{IsBeforeReplacing, IsPutBehind, LeavesFile}
 pub use Rattle.cedar_store.specs.Compactions.{replace_error}
-pub use Rattle.cedar_store.specs.Files.{AddsRecord, IsCorrupt, IsEither, record_count}
-pub use Rattle.cedar_store.specs.Files.{StandsFor, state_of}
+pub use Rattle.cedar_store.specs.Files.{AddsRecord, format_named, IsCorrupt, IsEither}
+pub use Rattle.cedar_store.specs.Files.{record_count, StandsFor, state_of}
 pub use Rattle.cedar_store.specs.Promises.{CrashLeavesEither, CrashLeavesState}
 pub use Rattle.cedar_store.specs.Promises.{CrashLeavesStateOrOld, FailsByDevice, HasState}
 pub use Rattle.cedar_store.specs.Promises.{IsBatchCause, IsChangeCause, IsCounted, IsEraseCause}
 pub use Rattle.cedar_store.specs.Promises.{IsReadyStore, IsRecordedIn, KeepsCount, KeepsFile}
 pub use Rattle.cedar_store.specs.Promises.{LeavesUnwritten, LeavesStore, LostRoom}
 pub use Rattle.cedar_store.specs.Puts.{IsPut}
-pub use Rattle.cedar_store.specs.Shortening.{IsFailureTold, IsLookedAfter, IsLookedAfterError}
-pub use Rattle.cedar_store.specs.Shortening.{IsLookedAt, IsShortened, IsUnlooked}
+pub use Rattle.cedar_store.specs.Shortening.{end_behind, IsFailureTold, IsLookedAfter}
+pub use Rattle.cedar_store.specs.Shortening.{IsLookedAfterError, IsSeenTo, IsShortened, IsUnlooked}
 pub use Rattle.cedar_store.specs.Shown.{compact_error_text, durable_error_text}
 pub use Rattle.cedar_store.specs.Store.{IsConsistent, IsReady}
 pub use Rattle.cedar_store.specs.Told.{change_told, changes_told, file_error}

@@ -6,7 +6,8 @@
 
 ghost use Rattle.std.specs.Prelude.{◌+◌, ◌<◌, ◌^◌, ◌≡◌, ◌≤◌, ◌⊎◌, IfErr, IfOk, IfSome, List, OnErr};
 ghost use Rattle.std.specs.Prelude.{OnOk, Some, drop, false, if◌then◌else◌, length, true, ℕ};
-ghost use Rattle.cedar_store.specs.Words.{all_changed, all_erased_late, all_updated, change_at};
+ghost use Rattle.cedar_store.specs.Words.{all_changed, all_erased_late, all_updated};
+ghost use Rattle.cedar_store.specs.Words.{batch_length, change_at};
 ghost use Rattle.cedar_store.specs.Words.{change_fault, change_told, changes_of, changes_told};
 ghost use Rattle.cedar_store.specs.Words.{after_erase, first_refused, is_put_by, late_erased};
 ghost use Rattle.cedar_store.specs.Words.{only_updated, payload_of, puts, AllByRecursion, AreHeld};
@@ -37,6 +38,7 @@ pub(crate) fn make<T: Words, A: Allocator + Copy>(
     ensures long { IfOk result (λ batch. length changes.now ≤ length batch.1.items) }
     ensures faultless { OnOk result (AllByRecursion IsFaultless (changes_told changes.now)) }
     ensures change { IfOk result (λ batch. changes_of (payload_of batch.0) ≡ Some (changes_told changes.now)) }
+    ensures length { IfOk result (λ batch. length (payload_of batch.0) ≡ batch_length (changes_told changes.now)) }
     ensures room { OnOk result (end < 2 ^ 60) }
     ensures faulty { IfSome (first_refused 0 (changes_told changes.now)) (λ error. result ≡ Err error) }
     ensures err { OnErr result ((T.state words.new) ≡ (T.state words.old)) }
@@ -75,6 +77,7 @@ fn prepare<T: Words, A: Allocator + Copy>(
     ensures keys { OnOk result (AllByRecursion HasKey (changes_told changes.now)) }
     ensures faultless { OnOk result (AllByRecursion IsFaultless (changes_told changes.now)) }
     ensures change { IfOk result (λ batch. changes_of (payload_of batch.0) ≡ Some (changes_told changes.now)) }
+    ensures length { IfOk result (λ batch. length (payload_of batch.0) ≡ batch_length (changes_told changes.now)) }
     ensures room { OnOk result (end < 2 ^ 60) }
     ensures err { OnErr result ((T.state words.new) ≡ (T.state words.old)) }
     ensures cause { IfErr result (λ error. PrepareCause (changes_told changes.now) end error) }

@@ -8,9 +8,9 @@ ghost use Rattle.cedar_store.specs.Words.{compacted_length, CrashLeavesState};
 ghost use Rattle.cedar_store.specs.Words.{CrashLeavesStateOrOld, FailsByDevice, fault, IfKept};
 ghost use Rattle.cedar_store.specs.Words.{image_bytes, is_beyond, IsBeforeReplacing, IsConsistent};
 ghost use Rattle.cedar_store.specs.Words.{IsEither, IsFailureTold, IsLookedAfter};
-ghost use Rattle.cedar_store.specs.Words.{IsLookedAfterError, IsLookedAt, IsPutBehind};
+ghost use Rattle.cedar_store.specs.Words.{end_behind, IsLookedAfterError, IsPutBehind, IsSeenTo};
 ghost use Rattle.cedar_store.specs.Words.{IsReadyStore, IsSettled, IsShortened, KeepsCount};
-ghost use Rattle.cedar_store.specs.Words.{KeepsFile, LeavesUnwritten, Leaves, LeavesFile};
+ghost use Rattle.cedar_store.specs.Words.{KeepsFile, LeavesUnwritten, Leaves, LeavesFile, record_count};
 ghost use Rattle.cedar_store.specs.Words.{LeavesOnly, LostRoom, new_state, payload_of, payloads_of};
 ghost use Rattle.cedar_store.specs.Words.{file_payloads, after_payloads, State, state_of, walk};
 
@@ -35,10 +35,13 @@ impl<T: Words, A: Allocator + Copy, D: ReplaceDevice> Store<T, A, D> {
     pub fn compact(&mut self) -> Result<(), CompactError>
         requires ready { IsReadyStore D.seen D.may_leave T.state self.old }
 
-        //= A file that was compacted has one record for each entry and nothing else. It represents the dictionary, on the disk, and the
-        //  dictionary is as it was. So a store that had failed goes on. [with ready, words]
+        //= A file that was compacted has one record for each entry and nothing else, and is of version 2. It represents the dictionary, on
+        //  the disk, and the dictionary is as it was. So a store that had failed goes on. [with each, whole, format, ready, words]
         ensures compacted { OnOk result ((self.new.failed ≡ false)
             × (length (D.seen self.new.journal.device) ≡ compacted_length (walk (T.state self.old.words).tree))) }
+        ensures each { OnOk result (record_count (D.seen self.new.journal.device) ≡ Some (length (walk (T.state self.old.words).tree))) }
+        ensures whole { OnOk result (self.new.journal.end + 1 ≡ length (D.seen self.new.journal.device)) }
+        ensures format { OnOk result (self.new.journal.format ≡ Format.Summed) }
         ensures ready { IsReadyStore D.seen D.may_leave T.state self.new }
         ensures words { self.new.words ≡ self.old.words }
         ensures counted { KeepsCount D.seen self.old self.new }
@@ -56,8 +59,9 @@ impl<T: Words, A: Allocator + Copy, D: ReplaceDevice> Store<T, A, D> {
         ensures any_moment { self.old.failed ≡ false → CrashLeavesState D.moment D.left_since T.state self.old self.new }
         ensures any_moment_failed { CrashLeavesStateOrOld D.moment D.left_since D.may_leave T.state self.old self.new }
 
-        //= A compaction fails only for lack of memory, if the record of an entry would be too long, or if the device failed or kept the
-        //  file.
+        //= A compaction fails only for lack of memory, if the record of an entry would be too long, or if the device kept the file or
+        //  failed. It returns `Failed`, its own or of a device that kept the file, only if the disk has failed or a write has found no
+        //  room.
         ensures cause { IfErr result (λ e. CompactCause (D.faults self.old.journal.device) (D.faults self.new.journal.device) e) }
 
         //= After `Failed` the store has failed. After `Kept` the file is as it was, byte for byte, and so is what a crash may leave. After
@@ -94,6 +98,9 @@ impl<T: Words, A: Allocator + Copy, D: ReplaceDevice> Store<T, A, D> {
         requires ready { IsReadyStore D.seen D.may_leave T.state self.old }
         ensures compacted { OnOk result ((self.new.failed ≡ false)
             × (length (D.seen self.new.journal.device) ≡ compacted_length (walk (T.state self.old.words).tree))) }
+        ensures each { OnOk result (record_count (D.seen self.new.journal.device) ≡ Some (length (walk (T.state self.old.words).tree))) }
+        ensures whole { OnOk result (self.new.journal.end + 1 ≡ length (D.seen self.new.journal.device)) }
+        ensures format { OnOk result (self.new.journal.format ≡ Format.Summed) }
         ensures ready { IsReadyStore D.seen D.may_leave T.state self.new }
         ensures words { self.new.words ≡ self.old.words }
         ensures counted { KeepsCount D.seen self.old self.new }
@@ -132,8 +139,8 @@ impl<T: Words, A: Allocator + Copy, D: ReplaceDevice> Store<T, A, D> {
         ensures due { OnOk result (is_beyond self.new.compaction self.new.base self.new.journal.end ≡ false) }
         ensures recorded { OnOk result ((file_payloads (D.seen self.new.journal.device) ≡ with_payload (payload_of frame.now) (file_payloads (D.seen self.old.journal.device)))
             ⊎ IsShortened D.seen T.state self.old self.new) }
-        ensures looked_after { OnOk result (IsLookedAfter D.seen D.faults T.state self.old self.new) }
-        ensures told { OnErr result (IsLookedAfterError self.old self.new) }
+        ensures looked_after { OnOk result (IsLookedAfter D.seen D.faults T.state (end_behind self.old (length (payload_of frame.now))) self.old self.new) }
+        ensures told { IfErr result (IsLookedAfterError D.faults self.old self.new) }
         ensures err { IfErr result (LeavesUnwritten D.faults self.old self.new) }
         ensures left { IfErr result (λ e. Leaves e (T.state self.new.words ≡ all_erased_late (T.state self.old.words) (changes_told changes.now))
             (LostRoom D.seen D.may_leave self.old self.new) ⊥) }
@@ -168,7 +175,7 @@ impl<T: Words, A: Allocator + Copy, D: ReplaceDevice> Store<T, A, D> {
         ensures done { OnOk result (self.new.failed ≡ false) }
         ensures due { OnOk result (is_beyond self.new.compaction self.new.base self.new.journal.end ≡ false) }
         ensures recorded { OnOk result ((D.seen self.new.journal.device ≡ D.seen self.old.journal.device) ⊎ IsShortened D.seen T.state self.old self.new) }
-        ensures looked_after { OnOk result (IsLookedAfter D.seen D.faults T.state self.old self.new) }
+        ensures looked_after { OnOk result (IsLookedAfter D.seen D.faults T.state self.old.journal.end self.old self.new) }
         ensures told { OnErr result (IsFailureTold self.new) }
         ensures err { IfErr result (FailsByDevice D.faults self.old self.new) }
         ensures words { self.new.words ≡ self.old.words }
@@ -203,7 +210,7 @@ impl<T: Words, A: Allocator + Copy, D: ReplaceDevice> Store<T, A, D> {
         ensures ready { IsReadyStore D.seen D.may_leave T.state self.new }
         ensures done { OnOk result ((self.new.failed ≡ false) × (self.new.base ≡ self.new.journal.end)) }
         ensures recorded { OnOk result ((D.seen self.new.journal.device ≡ D.seen self.old.journal.device) ⊎ IsShortened D.seen T.state self.old self.new) }
-        ensures looked_at { OnOk result (IsLookedAt D.seen D.faults T.state self.old self.new) }
+        ensures looked_at { OnOk result (IsSeenTo D.seen D.faults T.state self.old.journal.end self.old self.new) }
         ensures told { OnErr result (IsFailureTold self.new) }
         ensures err { IfErr result (FailsByDevice D.faults self.old self.new) }
         ensures words { self.new.words ≡ self.old.words }
@@ -240,6 +247,9 @@ impl<T: Words, A: Allocator + Copy, D: ReplaceDevice> Store<T, A, D> {
         ensures ready { IsReadyStore D.seen D.may_leave T.state self.old → IsReadyStore D.seen D.may_leave T.state self.new }
         ensures done { OnOk result ((self.new.failed ≡ false) × (self.new.base ≡ self.new.journal.end)) }
         ensures bytes { OnOk result (D.seen self.new.journal.device ≡ image_bytes image.now) }
+        ensures each { OnOk result (record_count (D.seen self.new.journal.device) ≡ Some (length (walk (T.state self.old.words).tree))) }
+        ensures whole { OnOk result (self.new.journal.end + 1 ≡ length (D.seen self.new.journal.device)) }
+        ensures format { OnOk result (self.new.journal.format ≡ Format.Summed) }
         ensures kept { IfKept result (KeepsFile D.seen D.may_leave self.old self.new) }
         ensures err_end { OnErr result ((self.new.base ≡ self.old.base) × (self.new.journal.end ≡ self.old.journal.end)) }
         ensures untold { self.new.last_compaction ≡ self.old.last_compaction }

@@ -22,6 +22,7 @@ pub(crate) fn put_frame<A: Allocator + Copy>(
 ) -> Result<Frame<A>, DurableError>
     requires { fault key.now value ≡ None }
     ensures change { IfOk result (λ frame. changes_of (payload_of frame) ≡ Some (put_at key.now value ∷ [])) }
+    ensures length { IfOk result (λ frame. length (payload_of frame) ≡ length key.now + 5) }
     ensures room { OnOk result (end < 2 ^ 60) }
     ensures cause { IfErr result (λ error. FrameCause end (length key.now + 5) error) }
 {
@@ -36,6 +37,7 @@ pub(crate) fn erase_frame<A: Allocator + Copy>(
     key: &[u8],
 ) -> Result<Frame<A>, DurableError>
     ensures change { IfOk result (λ frame. changes_of (payload_of frame) ≡ Some (erase_at key.now ∷ [])) }
+    ensures length { IfOk result (λ frame. length (payload_of frame) ≡ length key.now + 1) }
     ensures room { OnOk result (end < 2 ^ 60) }
     ensures cause { IfErr result (λ error. FrameCause end (length key.now + 1) error) }
 {
@@ -51,6 +53,7 @@ pub(crate) fn batch_frame<A: Allocator + Copy>(
 ) -> Result<Frame<A>, DurableError>
     requires { AllByRecursion IsFaultless (changes_told changes.now) }
     ensures change { IfOk result (λ frame. changes_of (payload_of frame) ≡ Some (changes_told changes.now)) }
+    ensures length { IfOk result (λ frame. length (payload_of frame) ≡ batch_length (changes_told changes.now)) }
     ensures room { OnOk result (end < 2 ^ 60) }
     ensures cause { IfErr result (λ error. FrameCause end (batch_length (changes_told changes.now)) error) }
 {

@@ -4,7 +4,8 @@ ghost use Rattle.std.specs.Prelude.{◌+◌, ◌<◌, ◌^◌, ◌≡◌, ◌≤
 ghost use Rattle.std.specs.Prelude.{IsErrOf, IsOk, OnErr, OnOk, Some, [], false};
 ghost use Rattle.std.specs.Prelude.{if◌then◌else◌, is_some, length, true};
 ghost use Rattle.cedar_store.specs.Words.{with_payload, all_changed, changes_told, erase_at};
-ghost use Rattle.cedar_store.specs.Words.{ends_closed, after_erase, fault, format_of};
+ghost use Rattle.cedar_store.specs.Words.{batch_length, end_behind};
+ghost use Rattle.cedar_store.specs.Words.{ends_closed, after_erase, fault, format_named, format_of};
 ghost use Rattle.cedar_store.specs.Words.{first_refused, number_at, payload_of, file_payloads};
 ghost use Rattle.cedar_store.specs.Words.{state_of, after_put, AllByRecursion, HasExtent};
 ghost use Rattle.cedar_store.specs.Words.{IsBeforeOrAfter, IsBeforeWrites, IsCorrupt, IsFaultless};
@@ -111,6 +112,9 @@ impl<T: Made<A>, A: Allocator + Copy, D: Device> Store<T, A, D> {
         //= An opened store has counted the records of its file. [by IsCounted]
         ensures counted { IfOk result (λ store. IsCounted D.seen store) }
 
+        //= Its records are of the version that the file's header names; those of a new file are of version 2.
+        ensures format { IfOk result (λ store. store.journal.format ≡ format_named (format_of (D.seen device))) }
+
         //= The rule of a store that was opened is the default: its file may be twice as long as its entries take, and 64 KiB. Its length
         //  hasn't been looked at, and no compaction is reported. [with unlooked, told]
         ensures rule { IfOk result (λ store. store.compaction ≡ Compaction.Beyond 2 65536) }
@@ -125,8 +129,8 @@ impl<T: Made<A>, A: Allocator + Copy, D: Device> Store<T, A, D> {
             (λ c. state_of c ≡ state_of (D.seen device))) }
 
         //= A file is refused as foreign only if it is of another kind, as damaged if a record is damaged, at the position of the first such
-        //  one, as corrupt if one of its records is no change, and otherwise only for lack of memory or slots, or if the device failed,
-        //  which reported `Failed` only if the disk has failed.
+        //  one, as corrupt if one of its records is no change, and otherwise only for lack of memory or slots, or by the device, whose
+        //  `Failed` is returned only if the disk has failed or a write has found no room.
         ensures cause { IfErr result (λ e. OpenCause (D.seen device) (D.faults device) (D.faults e.1) e.0) }
 
         //= A file that is refused for any other reason than the device stays byte for byte as it was, whenever a crash comes. [with seen]
@@ -274,14 +278,14 @@ impl<T: Words, A: Allocator + Copy, D: ReplaceDevice> Store<T, A, D> {
         ensures recorded { OnOk result (IsRecordedIn D.seen T.state self.old self.new (put_at key.now value ∷ [])) }
 
         //= An acknowledged change looks after the length of its file, by the rule. If the file isn't too long for what it had at the last
-        //  look, nothing is done. Otherwise it is looked at: it isn't too long for its entries, or it was made short, or it was kept as it
-        //  was, for lack of memory, for a record that would be too long, or by the device; then `last_compaction` has the reason. [by
-        //  IsLookedAfter; also insert, update_bytes, update, erase_bytes, erase, apply_batch]
-        ensures looked_after { OnOk result (IsLookedAfter D.seen D.faults T.state self.old self.new) }
+        //  look, nothing is done. Otherwise it is looked at: it isn't too long for its entries; or it was, and was made short; or it was
+        //  kept as it was, for lack of memory, for a record that would be too long, or by the device; then `last_compaction` has the
+        //  reason. [by IsLookedAfter; also insert, update_bytes, update, erase_bytes, erase, apply_batch]
+        ensures looked_after { OnOk result (IsLookedAfter D.seen D.faults T.state (end_behind self.old (length key.now + 5)) self.old self.new) }
 
-        //= A change that fails has looked at nothing and reports no compaction, unless the device failed in one: then it reports that. [by
-        //  IsLookedAfterError; also insert, update_bytes, update, erase_bytes, erase, apply_batch]
-        ensures told { OnErr result (IsLookedAfterError self.old self.new) }
+        //= A change that fails has looked at nothing and reports no compaction, unless it fails by the device: then it may report one in
+        //  which that failed. [by IsLookedAfterError; also insert, update_bytes, update, erase_bytes, erase, apply_batch]
+        ensures told { IfErr result (IsLookedAfterError D.faults self.old self.new) }
 
         //= The count of a store stays that of its file's records, in each change and each compaction, as long as the store hasn't failed.
         //  [also insert, update_bytes, update, erase_bytes, erase, apply_batch, compact]
@@ -291,8 +295,8 @@ impl<T: Words, A: Allocator + Copy, D: ReplaceDevice> Store<T, A, D> {
         ensures faulty { self.old.failed ≡ false → IfSome (fault key.now value) (λ e. result ≡ Err (DurableError.Refused e)) }
 
         //= Otherwise it fails only if the store has failed before, for lack of memory or slots, if the record is too long or the records
-        //  end too far back, or if the device failed. It returns `NoRoom` only if a write of the device found no room. [also insert,
-        //  update_bytes, update]
+        //  end too far back, or by the device. It returns `NoRoom`, and `Failed` of the device, only if the disk has failed or a write has
+        //  found no room. [also insert, update_bytes, update]
         ensures cause { IfErr result (IsChangeCause D.faults self.old self.new (fault key.now value) (length key.now + 5)) }
 
         //= After an error of the device the store has failed. After `NoRoom` it hasn't: the dictionary is as it was, and so is where the
@@ -337,8 +341,8 @@ impl<T: Words, A: Allocator + Copy, D: ReplaceDevice> Store<T, A, D> {
         ensures rule { self.new.compaction ≡ self.old.compaction }
         ensures counted { KeepsCount D.seen self.old self.new }
         ensures recorded { OnOk result (IsRecordedIn D.seen T.state self.old self.new (put_at key.now value ∷ [])) }
-        ensures looked_after { OnOk result (IsLookedAfter D.seen D.faults T.state self.old self.new) }
-        ensures told { OnErr result (IsLookedAfterError self.old self.new) }
+        ensures looked_after { OnOk result (IsLookedAfter D.seen D.faults T.state (end_behind self.old (length key.now + 5)) self.old self.new) }
+        ensures told { IfErr result (IsLookedAfterError D.faults self.old self.new) }
         ensures faulty { self.old.failed ≡ false → IfSome (fault key.now value) (λ e. result ≡ Err (DurableError.Refused e)) }
         ensures cause { IfErr result (IsChangeCause D.faults self.old self.new (fault key.now value) (length key.now + 5)) }
         ensures err { IfErr result (LeavesStore T.state self.old self.new (after_put (T.state self.old.words) key.now value)) }
@@ -360,8 +364,8 @@ impl<T: Words, A: Allocator + Copy, D: ReplaceDevice> Store<T, A, D> {
         ensures rule { self.new.compaction ≡ self.old.compaction }
         ensures counted { KeepsCount D.seen self.old self.new }
         ensures recorded { OnOk result (IsRecordedIn D.seen T.state self.old self.new (put_at key.now value ∷ [])) }
-        ensures looked_after { OnOk result (IsLookedAfter D.seen D.faults T.state self.old self.new) }
-        ensures told { OnErr result (IsLookedAfterError self.old self.new) }
+        ensures looked_after { OnOk result (IsLookedAfter D.seen D.faults T.state (end_behind self.old (length key.now + 5)) self.old self.new) }
+        ensures told { IfErr result (IsLookedAfterError D.faults self.old self.new) }
         ensures faulty { self.old.failed ≡ false → IfSome (fault key.now value) (λ e. result ≡ Err (DurableError.Refused e)) }
         ensures cause { IfErr result (IsChangeCause D.faults self.old self.new (fault key.now value) (length key.now + 5)) }
         ensures err { IfErr result (LeavesStore T.state self.old self.new (after_put (T.state self.old.words) key.now value)) }
@@ -386,8 +390,8 @@ impl<T: Words, A: Allocator + Copy, D: ReplaceDevice> Store<T, A, D> {
         ensures rule { self.new.compaction ≡ self.old.compaction }
         ensures counted { KeepsCount D.seen self.old self.new }
         ensures recorded { OnOk result (IsRecordedIn D.seen T.state self.old self.new (put_at key.now value ∷ [])) }
-        ensures looked_after { OnOk result (IsLookedAfter D.seen D.faults T.state self.old self.new) }
-        ensures told { OnErr result (IsLookedAfterError self.old self.new) }
+        ensures looked_after { OnOk result (IsLookedAfter D.seen D.faults T.state (end_behind self.old (length key.now + 5)) self.old self.new) }
+        ensures told { IfErr result (IsLookedAfterError D.faults self.old self.new) }
         ensures faulty { self.old.failed ≡ false → IfSome (fault key.now value) (λ e. result ≡ Err (DurableError.Refused e)) }
         ensures cause { IfErr result (IsChangeCause D.faults self.old self.new (fault key.now value) (length key.now + 5)) }
         ensures err { IfErr result (LeavesStore T.state self.old self.new (after_put (T.state self.old.words) key.now value)) }
@@ -405,11 +409,11 @@ impl<T: Words, A: Allocator + Copy, D: ReplaceDevice> Store<T, A, D> {
         requires ready { IsReadyStore D.seen D.may_leave T.state self.old }
 
         //= An acknowledged erasure has removed the key from the dictionary, and the file represents it, on the disk. It returns whether the
-        //  key was held. If it wasn't, the file doesn't change. [with ready, answer, missed; also erase]
+        //  key was held. If it wasn't, the store is as it was. [with ready, answer, missed; also erase]
         ensures erased { IfOk result (λ held. HasState T.state self.new (if held then after_erase (T.state self.old.words) key.now else (T.state self.old.words))) }
         ensures ready { IsReadyStore D.seen D.may_leave T.state self.new }
         ensures answer { IfOk result (λ held. held ≡ is_some (number_at (T.state self.old.words).tree key.now)) }
-        ensures missed { IfOk result (λ held. held ≡ false → self.new.journal ≡ self.old.journal) }
+        ensures missed { IfOk result (λ held. held ≡ false → self.new ≡ self.old) }
 
         //= A crash at any moment of an erasure leaves a file that represents the dictionary from before it, with the change or without.
         //  [also erase]
@@ -423,11 +427,12 @@ impl<T: Words, A: Allocator + Copy, D: ReplaceDevice> Store<T, A, D> {
         ensures rule { self.new.compaction ≡ self.old.compaction }
         ensures counted { KeepsCount D.seen self.old self.new }
         ensures recorded { IfOk result (λ held. held ≡ true → IsRecordedIn D.seen T.state self.old self.new (erase_at key.now ∷ [])) }
-        ensures looked_after { IfOk result (λ held. held ≡ true → IsLookedAfter D.seen D.faults T.state self.old self.new) }
-        ensures told { OnErr result (IsLookedAfterError self.old self.new) }
+        ensures looked_after { IfOk result (λ held. held ≡ true → IsLookedAfter D.seen D.faults T.state (end_behind self.old (length key.now + 1)) self.old self.new) }
+        ensures told { IfErr result (IsLookedAfterError D.faults self.old self.new) }
 
         //= An erasure fails only if the store has failed before, for lack of memory, if the record is too long or the records end too far
-        //  back, or if the device failed. [also erase]
+        //  back, or by the device. It returns `NoRoom`, and `Failed` of the device, only if the disk has failed or a write has found no
+        //  room. [also erase]
         ensures cause { IfErr result (IsEraseCause D.faults self.old self.new (length key.now + 1)) }
 
         //= After an error of the device the store has failed. After `NoRoom` it hasn't: the dictionary is as it was, and the file
@@ -454,15 +459,15 @@ impl<T: Words, A: Allocator + Copy, D: ReplaceDevice> Store<T, A, D> {
         ensures erased { IfOk result (λ held. HasState T.state self.new (if held then after_erase (T.state self.old.words) key.now else (T.state self.old.words))) }
         ensures ready { IsReadyStore D.seen D.may_leave T.state self.new }
         ensures answer { IfOk result (λ held. held ≡ is_some (number_at (T.state self.old.words).tree key.now)) }
-        ensures missed { IfOk result (λ held. held ≡ false → self.new.journal ≡ self.old.journal) }
+        ensures missed { IfOk result (λ held. held ≡ false → self.new ≡ self.old) }
         ensures any_moment { CrashLeavesEither D.moment D.left_since T.state self.old self.new (after_erase (T.state self.old.words) key.now) }
         ensures failed { self.old.failed ≡ true → result ≡ Err DurableError.Failed }
         ensures untouched { self.old.failed ≡ true → self.new ≡ self.old }
         ensures rule { self.new.compaction ≡ self.old.compaction }
         ensures counted { KeepsCount D.seen self.old self.new }
         ensures recorded { IfOk result (λ held. held ≡ true → IsRecordedIn D.seen T.state self.old self.new (erase_at key.now ∷ [])) }
-        ensures looked_after { IfOk result (λ held. held ≡ true → IsLookedAfter D.seen D.faults T.state self.old self.new) }
-        ensures told { OnErr result (IsLookedAfterError self.old self.new) }
+        ensures looked_after { IfOk result (λ held. held ≡ true → IsLookedAfter D.seen D.faults T.state (end_behind self.old (length key.now + 1)) self.old self.new) }
+        ensures told { IfErr result (IsLookedAfterError D.faults self.old self.new) }
         ensures cause { IfErr result (IsEraseCause D.faults self.old self.new (length key.now + 1)) }
         ensures err { IfErr result (LeavesStore T.state self.old self.new (after_erase (T.state self.old.words) key.now)) }
     {
@@ -483,10 +488,10 @@ impl<T: Words, A: Allocator + Copy, D: ReplaceDevice> Store<T, A, D> {
         requires ready { IsReadyStore D.seen D.may_leave T.state self.old }
 
         //= Once a batch is acknowledged, the dictionary is as all of its changes leave it, one after another, and the file represents that,
-        //  on the disk. A batch of no changes leaves the file as it was. [with ready, nothing]
+        //  on the disk. A batch of no changes leaves the store as it was. [with ready, nothing]
         ensures made { OnOk result (HasState T.state self.new (all_changed (T.state self.old.words) (changes_told changes.now))) }
         ensures ready { IsReadyStore D.seen D.may_leave T.state self.new }
-        ensures nothing { OnOk result (changes.now ≡ [] → self.new.journal ≡ self.old.journal) }
+        ensures nothing { OnOk result (changes.now ≡ [] → self.new ≡ self.old) }
 
         //= A crash at any moment of a batch leaves a file that represents the dictionary from before it, or the one with all of its
         //  changes.
@@ -500,15 +505,16 @@ impl<T: Words, A: Allocator + Copy, D: ReplaceDevice> Store<T, A, D> {
         ensures rule { self.new.compaction ≡ self.old.compaction }
         ensures counted { KeepsCount D.seen self.old self.new }
         ensures recorded { OnOk result ((changes.now ≡ [] → ⊥) → IsRecordedIn D.seen T.state self.old self.new (changes_told changes.now)) }
-        ensures looked_after { OnOk result ((changes.now ≡ [] → ⊥) → IsLookedAfter D.seen D.faults T.state self.old self.new) }
-        ensures told { OnErr result (IsLookedAfterError self.old self.new) }
+        ensures looked_after { OnOk result ((changes.now ≡ [] → ⊥) → IsLookedAfter D.seen D.faults T.state (end_behind self.old (batch_length (changes_told changes.now))) self.old self.new) }
+        ensures told { IfErr result (IsLookedAfterError D.faults self.old self.new) }
 
         //= A batch in which a pair has a fault is refused with the first such pair's index and fault, whatever memory there is, if the
         //  store hasn't failed.
         ensures first { self.old.failed ≡ false → IfSome (first_refused 0 (changes_told changes.now)) (λ e. result ≡ Err e) }
 
         //= A batch in which one pair has a fault is refused. Otherwise it fails only if the store has failed before, for lack of memory or
-        //  slots, if the record is too long or the records end too far back, or if the device failed. [with cause]
+        //  slots, if the record is too long or the records end too far back, or by the device. It returns `NoRoom`, and `Failed` of the
+        //  device, only if the disk has failed or a write has found no room. [with cause]
         ensures faulty { IsOk result → AllByRecursion IsFaultless (changes_told changes.now) }
         ensures cause { IfErr result (IsBatchCause D.faults self.old self.new (changes_told changes.now)) }
 
@@ -540,6 +546,7 @@ impl<T: Words, A: Allocator + Copy, D: ReplaceDevice> Store<T, A, D> {
         requires settled { IsSettled D.seen D.may_leave self.old.journal.device self.old.journal.format self.old.journal.end }
         requires room { self.old.journal.end < 2 ^ 60 }
         ensures settled { OnOk result (IsSettled D.seen D.may_leave self.new.journal.device self.new.journal.format self.new.journal.end) }
+        ensures longer { OnOk result (self.new.journal.end ≡ end_behind self.old (length (payload_of frame.now))) }
         ensures acknowledged { OnOk result (file_payloads (D.seen self.new.journal.device) ≡ with_payload (payload_of frame.now) (file_payloads (D.seen self.old.journal.device))) }
         ensures failed { OnOk result (self.new.failed ≡ self.old.failed) }
         ensures faults { D.faults self.old.journal.device ≤ D.faults self.new.journal.device }

@@ -2,7 +2,7 @@
 use Rattle.std.proofs.Common.{◌≡◌, ℕ, List, [], ◌++◌, Option, Some, None, refl, sym, ap, ◌∙◌, append_assoc, append-nil, take, drop, length, ◌-◌, arith, take-append-drop, length-drop, length-append, Bool, true, false, ◌||◌, ◌&&◌, ◌==◌}
 use Rattle.std.proofs.lemmas.List.{take_all}
 use Rattle.std.proofs.lemmas.Bool.{eqb-true}
-use Rattle.std.specs.Prelude.{Result, Ok, Err, OnOk, OnErr}
+use Rattle.std.specs.Prelude.{Result, Ok, Err, OnErr}
 use Rattle.std.specs.Io.KnownBytes.{Appends}
 use Rattle.text_lines.specs.Written.{WritesFront}
 
@@ -18,16 +18,18 @@ pub Appends-none : (a : Option (List ℕ)) → Appends a a []
 Appends-none None = tt
 Appends-none (Some xs) = sym (append-nil xs)
 
+-- as many bytes as are left behind the first n are all that are left there
+pub whole_rest : (n : ℕ) (rest : List ℕ) → take (length rest - n) (drop n rest) ≡ drop n rest
+whole_rest n rest = take_all (length rest - n) (drop n rest) (omega (arith, length-drop n rest))
+
 -- the next n bytes of the rest were taken
 pub Appends-more : (a b c : Option (List ℕ)) (all x rest : List ℕ) (n : ℕ) → all ≡ x ++ rest → Appends a b x → Appends b c (take n rest)
     → (y : List ℕ) × (all ≡ y ++ take (length rest - n) (drop n rest)) × Appends a c y
 Appends-more a b c all x rest n e p q = (
   x ++ take n rest,
-  e ∙ ap (λ l. x ++ l) (sym (take-append-drop n rest)) ∙ sym (append_assoc x (take n rest) (drop n rest)) ∙ ap (λ l. (x ++ take n rest) ++ l) (sym whole),
+  e ∙ ap (λ l. x ++ l) (sym (take-append-drop n rest)) ∙ sym (append_assoc x (take n rest) (drop n rest)) ∙ ap (λ l. (x ++ take n rest) ++ l) (sym (whole_rest n rest)),
   Appends-append a b c x (take n rest) p q,
-) where
-  whole : take (length rest - n) (drop n rest) ≡ drop n rest
-  whole = take_all (length rest - n) (drop n rest) (omega (arith, length-drop n rest))
+)
 
 -- a front of some bytes is one of more bytes
 pub front_more : (a b : Option (List ℕ)) (bytes more : List ℕ) → WritesFront a b bytes → WritesFront a b (bytes ++ more)
@@ -39,15 +41,7 @@ pub front_after : (a b c : Option (List ℕ)) (done bytes : List ℕ) → Append
 front_after a b c done bytes p h =
     (done ++ h.0, h.1, h.2, ap (λ l. done ++ l) h.3 ∙ sym (append_assoc done h.0 h.1), Appends-append a b c done h.0 p h.4)
 
--- the same of a call's result
-pub then_ok : {T E : Type 0} (r : Result T E) (a b c : Option (List ℕ)) (done bytes : List ℕ) → Appends a b done → OnOk r (Appends b c bytes) → OnOk r (Appends a c (done ++ bytes))
-then_ok (Ok x) a b c done bytes p h = Appends-append a b c done bytes p h
-then_ok (Err e) a b c done bytes p h = tt
-
-pub then_err : {T E : Type 0} (r : Result T E) (a b c : Option (List ℕ)) (done bytes : List ℕ) → Appends a b done → OnErr r (WritesFront b c bytes) → OnErr r (WritesFront a c (done ++ bytes))
-then_err (Ok x) a b c done bytes p h = tt
-then_err (Err e) a b c done bytes p h = front_after a b c done bytes p h
-
+-- what is so of a call that failed
 pub on_err : {T E P : Type 0} (r : Result T E) → P → OnErr r P
 on_err (Ok x) p = tt
 on_err (Err e) p = p

@@ -2,7 +2,7 @@
 use Rattle.std.specs.Prelude.{◌≡◌, ℕ, ◌<◌, ◌++◌, Bool, true, List, length, Option}
 use Rattle.std.specs.Prelude.{Result, Err, OnOk, OnErr}
 use Rattle.std.specs.Io.KnownBytes.{Appends}
-use Rattle.cedar_format.specs.WatchedDevice.{device_of}
+use Rattle.cedar_format.specs.WatchedDevice.{device_of, has_failed}
 use Rattle.cedar_format.specs.declared.watched.Watched.{Watched}
 
 -- What a device holds is known or not: `Some` bytes, or `None` where it doesn't report it. Below, `held` is what the
@@ -33,3 +33,10 @@ WritesUpTo contents before after bytes = AppendsFront (contents (device_of befor
 pub record WritesOrFails {X E : Type 0} (fault : E) (before after : Bool) (result : Result X E) : Type 0 where
   pub unfailed : OnOk result (after ≡ before)
   pub cause : OnErr result ((result ≡ Err fault) × (after ≡ true))
+
+-- a call that writes these bytes, and fails by this error alone. If it returns Ok, the writer took them all, and didn't
+-- fail; else it took a first part of them, and not all, and failed
+pub record WritesBytes {X E D : Type 0} (contents : D → Option (List ℕ)) (fault : E) (before after : Watched D) (bytes : List ℕ) (result : Result X E) : Type 0 where
+  pub ok : OnOk result (Writes contents before after bytes)
+  pub err : OnErr result (BreaksOff contents before after bytes)
+  pub faults : WritesOrFails fault (has_failed before) (has_failed after) result

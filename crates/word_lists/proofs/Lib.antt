@@ -1,5 +1,4 @@
 pub mod Answered
-pub mod Bytes
 pub mod Figures
 pub mod ListedLines
 pub mod NextEntries

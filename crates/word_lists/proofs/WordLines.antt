@@ -1,13 +1,12 @@
 -- The bytes of a word and the lines of entries in parts.
-use Rattle.std.proofs.Common.{◌≡◌, ◌<◌, suc, ℕ, List, [], ◌∷◌, ◌++◌, Bool, true, cond, Option, refl, sym, ap, subst, ◌∙◌, append_assoc, append-nil, length, take, drop, get_or, ◌-◌, length-drop, arith, length-append}
-use Rattle.std.proofs.lemmas.List.{take_all}
+use Rattle.std.proofs.Common.{◌≡◌, ◌<◌, suc, ℕ, List, [], ◌∷◌, ◌++◌, Bool, true, cond, Option, refl, sym, ap, subst, ◌∙◌, append_assoc, append-nil, length, take, drop, get_or, ◌-◌, arith, length-append}
 use Rattle.std.specs.Io.KnownBytes.{Appends}
 use Rattle.cedarwood.specs.Queries.{Entry}
 use Rattle.text_lines.specs.Written.{WritesFront}
 use Rattle.hex.specs.Hex.{encode_lower}
 use Rattle.word_lists.specs.Lines.{byte_text, entry_line, entry_lines, escape, is_plain, word_text}
 use Rattle.std.specs.Fmt.{signed_decimal}
-use Rattle.text_lines.proofs.Bytes.{Appends-append, front_after, front_more}
+use Rattle.text_lines.proofs.Bytes.{Appends-append, front_after, front_more, whole_rest}
 
 pub escaped-append : (t : Bool) (a b : List ℕ) → escape t (a ++ b) ≡ escape t a ++ escape t b
 escaped-append t [] b = refl
@@ -25,12 +24,10 @@ pub bytes_more : (a b d : Option (List ℕ)) (t : Bool) (bytes done rest : List 
     → Appends a b (escape t done) → Appends b d (byte_text t x) → (y : List ℕ) × (bytes ≡ y ++ take (length rest - 1) (drop 1 rest)) × Appends a d (escape t y)
 bytes_more a b d t bytes done rest x e first written more = (
   done ++ x ∷ [],
-  e ∙ ap (λ l. done ++ l) first ∙ sym (append_assoc done (x ∷ []) (drop 1 rest)) ∙ ap (λ l. (done ++ x ∷ []) ++ l) (sym whole),
+  e ∙ ap (λ l. done ++ l) first ∙ sym (append_assoc done (x ∷ []) (drop 1 rest)) ∙ ap (λ l. (done ++ x ∷ []) ++ l) (sym (whole_rest 1 rest)),
   subst (Appends a d) (sym (escaped-append t done (x ∷ []) ∙ ap (λ l. escape t done ++ l) (append-nil (byte_text t x))))
       (Appends-append a b d (escape t done) (byte_text t x) written more),
-) where
-  whole : take (length rest - 1) (drop 1 rest) ≡ drop 1 rest
-  whole = take_all (length rest - 1) (drop 1 rest) (omega (arith, length-drop 1 rest))
+)
 
 -- the first of some bytes
 pub first_byte : (rest : List ℕ) → (rest ≡ [] → ⊥) → rest ≡ get_or rest 0 0 ∷ drop 1 rest
@@ -72,11 +69,9 @@ pub plain_more : (t : Bool) (bytes done rest : List ℕ) (x : ℕ) → bytes ≡
     → (y : List ℕ) × (bytes ≡ y ++ take (length rest - 1) (drop 1 rest)) × (escape t y ≡ y)
 plain_more t bytes done rest x e first same plain = (
   done ++ x ∷ [],
-  e ∙ ap (λ l. done ++ l) first ∙ sym (append_assoc done (x ∷ []) (drop 1 rest)) ∙ ap (λ l. (done ++ x ∷ []) ++ l) (sym whole),
+  e ∙ ap (λ l. done ++ l) first ∙ sym (append_assoc done (x ∷ []) (drop 1 rest)) ∙ ap (λ l. (done ++ x ∷ []) ++ l) (sym (whole_rest 1 rest)),
   escaped-append t done (x ∷ []) ∙ ap (λ l. l ++ escape t (x ∷ [])) same ∙ ap (λ l. done ++ l) (append-nil (byte_text t x) ∙ ap (λ p. cond p (x ∷ []) (92 ∷ (120 ∷ encode_lower (x ∷ [])))) plain),
-) where
-  whole : take (length rest - 1) (drop 1 rest) ≡ drop 1 rest
-  whole = take_all (length rest - 1) (drop 1 rest) (omega (arith, length-drop 1 rest))
+)
 
 -- all of them do
 pub plain_all : (t : Bool) (bytes done rest : List ℕ) → bytes ≡ done ++ rest → rest ≡ [] → escape t done ≡ done → escape t bytes ≡ bytes

@@ -61,3 +61,7 @@ holds_entry tree entry = is_number (number_at tree entry.0) entry.1
 abbrev pub entries_missing : Tree → List Entry → List Entry
 entries_missing tree [] = []
 entries_missing tree (entry ∷ entries) = if holds_entry tree entry then entries_missing tree entries else entry ∷ entries_missing tree entries
+
+-- the lines of the entries that a tree doesn't hold with the same number, each behind a sign
+abbrev pub missing_lines : List ℕ → Tree → List Entry → List ℕ
+missing_lines sign tree entries = signed_lines sign (entries_missing tree entries)

@@ -139,6 +139,10 @@ style_text (Replaced lines) text t = replaced_token lines.now text t
 abbrev pub styled_text : Style → List ℕ → List Token → List ℕ
 styled_text style text tokens = texts_of (style_text style text) tokens
 
+-- a line whose text is these tokens in a style, and the bytes that end it
+abbrev pub styled_line : Style → List ℕ → List Token → List ℕ
+styled_line style line tokens = styled_text style (body_of line) tokens ++ ending_of line
+
 -- a cut of a text that costs the least, if a key costs its number and a character that no key has this much, and that
 -- is ahead of all that cost as little. Of a text of fewer than 2^32 bytes there is one such cut. Of a longer one sums
 -- above 2^64 - 1 count as 2^64 - 1, and it is ahead of those that cost as little and no more than 2^64 - 1

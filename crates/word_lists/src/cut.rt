@@ -1,11 +1,10 @@
 //! A text cut into tokens, with a sign between them.
 
-ghost use Rattle.std.specs.Prelude.{◌++◌, ◌∷◌, ◌≡◌, [], Err, get_or, List};
-ghost use Rattle.std.specs.Prelude.{MatchOption, OnErr, OnOk};
-ghost use Rattle.word_lists.specs.Words.{body_of, BreaksOff, ending_of, greedy_line, has_failed};
-ghost use Rattle.word_lists.specs.Words.{is_parted, LinesOrFails, OnCheapestLine, parted_token};
-ghost use Rattle.word_lists.specs.Words.{parting, style_text, styled_text, Token, Writes};
-ghost use Rattle.word_lists.specs.Words.{WritesOrFails};
+ghost use Rattle.std.specs.Prelude.{◌∷◌, ◌≡◌, [], Err, List, MatchOption, OnOk};
+ghost use Rattle.word_lists.specs.Words.{BreaksOff, greedy_line, has_failed, is_parted};
+ghost use Rattle.word_lists.specs.Words.{LinesOrFails, OnCheapestLine, parted_token, parting};
+ghost use Rattle.word_lists.specs.Words.{style_text, styled_line, styled_text, Token, Writes};
+ghost use Rattle.word_lists.specs.Words.{WritesBytes};
 
 use crate::marked::{write_marked_token, write_replaced_token};
 use crate::parts::{body, byte_at, ending, goes_on, part};
@@ -34,12 +33,9 @@ pub fn write_cut<L: Layout, const SLOTS: usize, A: Allocator + Copy, W: Write>(
     line: &[u8],
     sign: &[u8],
 ) -> Result<(), ListError>
-    //= A cut that returns `Ok` wrote the tokens of the line, with a sign between them, and the bytes that end it.
-    ensures ok { OnOk result (Writes W.contents writer.old writer.new (greedy_line trie.now.state.tree sign.now line.now)) }
-
-    //= One that fails wrote a beginning of that, and not all; a call of the writer failed. [with faults]
-    ensures err { OnErr result (BreaksOff W.contents writer.old writer.new (greedy_line trie.now.state.tree sign.now line.now)) }
-    ensures faults { WritesOrFails ListError.Write (has_failed writer.old) (has_failed writer.new) result }
+    //= A cut that returns `Ok` wrote the tokens of the line, with a sign between them, and the bytes that end it. [by ok]
+    //= One that fails wrote a beginning of that, and not all; a call of the writer failed. [by err, faults]
+    ensures { WritesBytes W.contents ListError.Write writer.old writer.new (greedy_line trie.now.state.tree sign.now line.now) result }
 {
     write_line_tokens(
         writer,
@@ -67,9 +63,7 @@ pub(crate) fn write_line_tokens<T: Tokens, W: Write>(
     style: Style<'_>,
     tokens: &mut T,
 ) -> Result<(), ListError>
-    ensures ok { OnOk result (Writes W.contents writer.old writer.new (styled_text style.entry (body_of line.now) (T.left tokens.old) ++ ending_of line.now)) }
-    ensures err { OnErr result (BreaksOff W.contents writer.old writer.new (styled_text style.entry (body_of line.now) (T.left tokens.old) ++ ending_of line.now)) }
-    ensures faults { WritesOrFails ListError.Write (has_failed writer.old) (has_failed writer.new) result }
+    ensures { WritesBytes W.contents ListError.Write writer.old writer.new (styled_line style.entry line.now (T.left tokens.old)) result }
 {
     write_tokens(writer, body(line), style, tokens)?;
     write_whole(writer, ending(line))
@@ -116,9 +110,7 @@ fn write_tokens<T: Tokens, W: Write>(
     style: Style<'_>,
     tokens: &mut T,
 ) -> Result<(), ListError>
-    ensures ok { OnOk result (Writes W.contents writer.old writer.new (styled_text style.entry text.now (T.left tokens.old))) }
-    ensures err { OnErr result (BreaksOff W.contents writer.old writer.new (styled_text style.entry text.now (T.left tokens.old))) }
-    ensures faults { WritesOrFails ListError.Write (has_failed writer.old) (has_failed writer.new) result }
+    ensures { WritesBytes W.contents ListError.Write writer.old writer.new (styled_text style.entry text.now (T.left tokens.old)) result }
 {
     while let Some(token) = tokens.next_token() {
         write_token(writer, text, style, token)?;
@@ -133,9 +125,7 @@ fn write_token<W: Write>(
     style: Style<'_>,
     token: (usize, usize, Option<i32>),
 ) -> Result<(), ListError>
-    ensures ok { OnOk result (Writes W.contents writer.old writer.new (style_text style.entry text.now token)) }
-    ensures err { OnErr result (BreaksOff W.contents writer.old writer.new (style_text style.entry text.now token)) }
-    ensures faults { WritesOrFails ListError.Write (has_failed writer.old) (has_failed writer.new) result }
+    ensures { WritesBytes W.contents ListError.Write writer.old writer.new (style_text style.entry text.now token) result }
 {
     match style {
         Style::Parted(sign) => write_parted(writer, text, sign, token),
@@ -190,9 +180,7 @@ fn write_parted<W: Write>(
     sign: &[u8],
     token: (usize, usize, Option<i32>),
 ) -> Result<(), ListError>
-    ensures ok { OnOk result (Writes W.contents writer.old writer.new (parted_token sign.now text.now token)) }
-    ensures err { OnErr result (BreaksOff W.contents writer.old writer.new (parted_token sign.now text.now token)) }
-    ensures faults { WritesOrFails ListError.Write (has_failed writer.old) (has_failed writer.new) result }
+    ensures { WritesBytes W.contents ListError.Write writer.old writer.new (parted_token sign.now text.now token) result }
 {
     write_whole(writer, parting(text, sign, token))?;
     write_whole(writer, part(text, token.0, token.1))

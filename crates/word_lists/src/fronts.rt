@@ -1,9 +1,8 @@
 //! The words that a text begins with.
 
-ghost use Rattle.std.specs.Prelude.{◌∷◌, ◌≡◌, [], IfOk, length, List, ltb, map};
-ghost use Rattle.std.specs.Prelude.{MatchOption, OnErr, OnOk, ℕ, ℤ};
-ghost use Rattle.word_lists.specs.Words.{BreaksOff, entry_line, entry_lines, front_entry};
-ghost use Rattle.word_lists.specs.Words.{fronts_of, has_failed, Writes, WritesOrFails};
+ghost use Rattle.std.specs.Prelude.{◌∷◌, ◌≡◌, [], IfOk, length, List, ltb, map, MatchOption, ℕ, ℤ};
+ghost use Rattle.word_lists.specs.Words.{entry_line, entry_lines, front_entry};
+ghost use Rattle.word_lists.specs.Words.{fronts_of, WritesBytes};
 
 use crate::parts::through;
 use crate::word::write_entry;
@@ -46,15 +45,12 @@ pub fn write_fronts<L: Layout, const SLOTS: usize, A: Allocator + Copy, W: Write
     trie: &Trie<L, SLOTS, A>,
     text: &[u8],
 ) -> Result<bool, ListError>
-    //= A list of the words that a text begins with, if it returns `Ok`, wrote the line of each, the shortest first, and nothing else.
-    ensures ok { OnOk result (Writes W.contents writer.old writer.new (entry_lines (fronts_of trie.now.state.tree text.now))) }
+    //= A list of the words that a text begins with, if it returns `Ok`, wrote the line of each, the shortest first, and nothing else. [by ok]
+    //= One that fails wrote a beginning of these lines, and not all; a call of the writer failed. [by err, faults]
+    ensures writes { WritesBytes W.contents ListError.Write writer.old writer.new (entry_lines (fronts_of trie.now.state.tree text.now)) result }
 
     //= It returns whether there is one.
     ensures any { IfOk result (λ any. any ≡ ltb 0 (length (fronts_of trie.now.state.tree text.now))) }
-
-    //= One that fails wrote a beginning of these lines, and not all; a call of the writer failed. [with faults]
-    ensures err { OnErr result (BreaksOff W.contents writer.old writer.new (entry_lines (fronts_of trie.now.state.tree text.now))) }
-    ensures faults { WritesOrFails ListError.Write (has_failed writer.old) (has_failed writer.new) result }
 {
     write_all_fronts(writer, text, &mut trie.common_prefix_iter_bytes(text))
 }
@@ -65,10 +61,8 @@ fn write_all_fronts<F: NextFront, W: Write>(
     text: &[u8],
     fronts: &mut F,
 ) -> Result<bool, ListError>
-    ensures ok { OnOk result (Writes W.contents writer.old writer.new (entry_lines (map (front_entry text.now) (F.left fronts.old)))) }
+    ensures writes { WritesBytes W.contents ListError.Write writer.old writer.new (entry_lines (map (front_entry text.now) (F.left fronts.old))) result }
     ensures any { IfOk result (λ any. any ≡ ltb 0 (length (map (front_entry text.now) (F.left fronts.old)))) }
-    ensures err { OnErr result (BreaksOff W.contents writer.old writer.new (entry_lines (map (front_entry text.now) (F.left fronts.old)))) }
-    ensures faults { WritesOrFails ListError.Write (has_failed writer.old) (has_failed writer.new) result }
 {
     let mut any = false;
     while let Some(front) = fronts.next_front() {
@@ -84,9 +78,7 @@ fn write_front<W: Write>(
     text: &[u8],
     front: (i32, usize),
 ) -> Result<(), ListError>
-    ensures ok { OnOk result (Writes W.contents writer.old writer.new (entry_line (front_entry text.now front))) }
-    ensures err { OnErr result (BreaksOff W.contents writer.old writer.new (entry_line (front_entry text.now front))) }
-    ensures faults { WritesOrFails ListError.Write (has_failed writer.old) (has_failed writer.new) result }
+    ensures { WritesBytes W.contents ListError.Write writer.old writer.new (entry_line (front_entry text.now front)) result }
 {
     let (value, others) = front;
     write_entry(writer, through(text, others), value)

@@ -1,8 +1,7 @@
 //! The line of a word that is looked up.
 
-ghost use Rattle.std.specs.Prelude.{◌≡◌, IfOk, is_some, OnErr, OnOk};
-ghost use Rattle.word_lists.specs.Words.{BreaksOff, found_line, has_failed, number_at};
-ghost use Rattle.word_lists.specs.Words.{Writes, WritesOrFails};
+ghost use Rattle.std.specs.Prelude.{◌≡◌, IfOk, is_some};
+ghost use Rattle.word_lists.specs.Words.{found_line, number_at, WritesBytes};
 
 use crate::word::write_entry;
 use crate::write::ListError;
@@ -19,15 +18,12 @@ pub fn write_number<L: Layout, const SLOTS: usize, A: Allocator + Copy, W: Write
     trie: &Trie<L, SLOTS, A>,
     word: &[u8],
 ) -> Result<bool, ListError>
-    //= A look-up that returns `Ok` wrote the line of a word that is held, and nothing for another one.
-    ensures ok { OnOk result (Writes W.contents writer.old writer.new (found_line word.now (number_at trie.now.state.tree word.now))) }
+    //= A look-up that returns `Ok` wrote the line of a word that is held, and nothing for another one. [by ok]
+    //= One that fails wrote a beginning of that line, and not all; a call of the writer failed. [by err, faults]
+    ensures writes { WritesBytes W.contents ListError.Write writer.old writer.new (found_line word.now (number_at trie.now.state.tree word.now)) result }
 
     //= It returns whether the word is held.
     ensures held { IfOk result (λ held. held ≡ is_some (number_at trie.now.state.tree word.now)) }
-
-    //= One that fails wrote a beginning of that line, and not all; a call of the writer failed. [with faults]
-    ensures err { OnErr result (BreaksOff W.contents writer.old writer.new (found_line word.now (number_at trie.now.state.tree word.now))) }
-    ensures faults { WritesOrFails ListError.Write (has_failed writer.old) (has_failed writer.new) result }
 {
     let number = trie.get_bytes(word);
     write_found(writer, word, number)?;
@@ -40,9 +36,7 @@ fn write_found<W: Write>(
     word: &[u8],
     number: Option<i32>,
 ) -> Result<(), ListError>
-    ensures ok { OnOk result (Writes W.contents writer.old writer.new (found_line word.now number)) }
-    ensures err { OnErr result (BreaksOff W.contents writer.old writer.new (found_line word.now number)) }
-    ensures faults { WritesOrFails ListError.Write (has_failed writer.old) (has_failed writer.new) result }
+    ensures { WritesBytes W.contents ListError.Write writer.old writer.new (found_line word.now number) result }
 {
     match number {
         Some(number) => write_entry(writer, word, number),

@@ -1,9 +1,9 @@
 //! A text with its keywords marked, or replaced.
 
-ghost use Rattle.std.specs.Prelude.{◌≡◌, IfOk, length, ltb, map, OnErr, OnOk};
-ghost use Rattle.word_lists.specs.Words.{body_of, BreaksOff, has_failed, keywords_in, line_at};
-ghost use Rattle.word_lists.specs.Words.{mark_text, marked_line, marked_token, replaced_line};
-ghost use Rattle.word_lists.specs.Words.{replaced_token, replacement, Writes, WritesOrFails};
+ghost use Rattle.std.specs.Prelude.{◌≡◌, IfOk, length, ltb};
+ghost use Rattle.word_lists.specs.Words.{body_of, keywords_in, line_at, mark_text, marked_line};
+ghost use Rattle.word_lists.specs.Words.{marked_token, replaced_line, replaced_token};
+ghost use Rattle.word_lists.specs.Words.{replacement, WritesBytes};
 
 use crate::cut::{Style, write_line_tokens};
 use crate::parts::{body, part};
@@ -31,15 +31,12 @@ pub fn write_marked<L: Layout, const SLOTS: usize, A: Allocator + Copy, W: Write
     line: &[u8],
 ) -> Result<bool, ListError>
     //= A line with marks, if the call returns `Ok`, was written whole, each keyword between the signs of a colour, if it has one, and
-    //  otherwise not at all. [by marked_line]
-    ensures ok { OnOk result (Writes W.contents writer.old writer.new (marked_line trie.now.state.tree line.now)) }
+    //  otherwise not at all. [by ok, marked_line]
+    //= One that fails wrote a beginning of that, and not all; a call of the writer failed. [by err, faults]
+    ensures writes { WritesBytes W.contents ListError.Write writer.old writer.new (marked_line trie.now.state.tree line.now) result }
 
     //= It returns whether there is a keyword.
     ensures any { IfOk result (λ any. any ≡ ltb 0 (length (keywords_in trie.now.state.tree (body_of line.now)))) }
-
-    //= One that fails wrote a beginning of that, and not all; a call of the writer failed. [with faults]
-    ensures err { OnErr result (BreaksOff W.contents writer.old writer.new (marked_line trie.now.state.tree line.now)) }
-    ensures faults { WritesOrFails ListError.Write (has_failed writer.old) (has_failed writer.new) result }
 {
     if !has_keyword(trie, body(line)) {
         return Ok(false);
@@ -67,9 +64,7 @@ pub(crate) fn write_marked_token<W: Write>(
     text: &[u8],
     token: (usize, usize, Option<i32>),
 ) -> Result<(), ListError>
-    ensures ok { OnOk result (Writes W.contents writer.old writer.new (marked_token text.now token)) }
-    ensures err { OnErr result (BreaksOff W.contents writer.old writer.new (marked_token text.now token)) }
-    ensures faults { WritesOrFails ListError.Write (has_failed writer.old) (has_failed writer.new) result }
+    ensures { WritesBytes W.contents ListError.Write writer.old writer.new (marked_token text.now token) result }
 {
     let (start, len, value) = token;
     match value {
@@ -80,9 +75,7 @@ pub(crate) fn write_marked_token<W: Write>(
 
 /// Writes a word in the colour of a match.
 fn write_mark<W: Write>(writer: &mut Watched<W>, word: &[u8]) -> Result<(), ListError>
-    ensures ok { OnOk result (Writes W.contents writer.old writer.new (mark_text word.now)) }
-    ensures err { OnErr result (BreaksOff W.contents writer.old writer.new (mark_text word.now)) }
-    ensures faults { WritesOrFails ListError.Write (has_failed writer.old) (has_failed writer.new) result }
+    ensures { WritesBytes W.contents ListError.Write writer.old writer.new (mark_text word.now) result }
 {
     write_whole(writer, b"\x1b[01;31m\x1b[K")?;
     write_whole(writer, word)?;
@@ -108,12 +101,9 @@ pub fn write_replaced<L: Layout, const SLOTS: usize, A: Allocator + Copy, W: Wri
     lines: &[&[u8]],
 ) -> Result<(), ListError>
     //= A line with its keywords replaced, if the call returns `Ok`, was written with the list's line of each keyword's number instead of
-    //  the keyword, and the rest as it is. [by replaced_line, replacement]
-    ensures ok { OnOk result (Writes W.contents writer.old writer.new (replaced_line trie.now.state.tree lines.now line.now)) }
-
-    //= One that fails wrote a beginning of that, and not all; a call of the writer failed. [with faults]
-    ensures err { OnErr result (BreaksOff W.contents writer.old writer.new (replaced_line trie.now.state.tree lines.now line.now)) }
-    ensures faults { WritesOrFails ListError.Write (has_failed writer.old) (has_failed writer.new) result }
+    //  the keyword, and the rest as it is. [by ok, replaced_line, replacement]
+    //= One that fails wrote a beginning of that, and not all; a call of the writer failed. [by err, faults]
+    ensures { WritesBytes W.contents ListError.Write writer.old writer.new (replaced_line trie.now.state.tree lines.now line.now) result }
 {
     write_line_tokens(
         writer,
@@ -130,9 +120,7 @@ pub(crate) fn write_replaced_token<W: Write>(
     lines: &[&[u8]],
     token: (usize, usize, Option<i32>),
 ) -> Result<(), ListError>
-    ensures ok { OnOk result (Writes W.contents writer.old writer.new (replaced_token lines.now text.now token)) }
-    ensures err { OnErr result (BreaksOff W.contents writer.old writer.new (replaced_token lines.now text.now token)) }
-    ensures faults { WritesOrFails ListError.Write (has_failed writer.old) (has_failed writer.new) result }
+    ensures { WritesBytes W.contents ListError.Write writer.old writer.new (replaced_token lines.now text.now token) result }
 {
     let (start, len, value) = token;
     match value {

@@ -4,8 +4,8 @@ ghost use Rattle.std.specs.Prelude.{◌<◌, ◌∷◌, ◌≡◌, [], Err, IfEr
 ghost use Rattle.std.specs.Prelude.{MatchOption, OnErr, OnOk};
 ghost use Rattle.word_lists.specs.Words.{after_put, all_stored, BreaksOff, entries_missing};
 ghost use Rattle.word_lists.specs.Words.{has_failed, holds_entry, IsWant, LinesOrFails};
-ghost use Rattle.word_lists.specs.Words.{signed_line, signed_lines, StoresFirst, Writes};
-ghost use Rattle.word_lists.specs.Words.{WritesOrFails, WritesUpTo};
+ghost use Rattle.word_lists.specs.Words.{missing_lines, signed_line, StoresFirst, Writes};
+ghost use Rattle.word_lists.specs.Words.{WritesBytes, WritesUpTo};
 
 use crate::lines::{StoreError, store_error};
 use crate::lists::next_entry;
@@ -121,16 +121,15 @@ pub fn write_lacking<
     key: &mut Vec<u8, C>,
 ) -> Result<bool, ListError>
     //= A list of the entries that another dictionary lacks, if it returns `Ok`, wrote the line of each entry of the iteration that the
-    //  other one doesn't hold with the same number, after the sign and in the iteration's order, and nothing else. [by lacking,
-    //  signed_lines]
-    ensures ok { OnOk result (Writes W.contents writer.old writer.new (signed_lines sign.now (entries_missing other.now.state.tree entries.entry))) }
+    //  other one doesn't hold with the same number, after the sign and in the iteration's order, and nothing else. [by missing_lines]
+    ensures ok { OnOk result (Writes W.contents writer.old writer.new (missing_lines sign.now other.now.state.tree entries.entry)) }
 
     //= It returns whether there is one.
     ensures any { IfOk result (λ any. any ≡ ltb 0 (length (entries_missing other.now.state.tree entries.entry))) }
 
     //= One that fails wrote a beginning of these lines, and not all if the writer failed. [with broken]
-    ensures err { OnErr result (WritesUpTo W.contents writer.old writer.new (signed_lines sign.now (entries_missing other.now.state.tree entries.entry))) }
-    ensures broken { result ≡ Err ListError.Write → BreaksOff W.contents writer.old writer.new (signed_lines sign.now (entries_missing other.now.state.tree entries.entry)) }
+    ensures err { OnErr result (WritesUpTo W.contents writer.old writer.new (missing_lines sign.now other.now.state.tree entries.entry)) }
+    ensures broken { result ≡ Err ListError.Write → BreaksOff W.contents writer.old writer.new (missing_lines sign.now other.now.state.tree entries.entry) }
 
     //= It fails with `Write` only if a call of the writer failed. With `Memory`, and if it returns `Ok`, none did.
     ensures faults { LinesOrFails (has_failed writer.old) (has_failed writer.new) result }
@@ -150,10 +149,8 @@ fn write_unless_held<L: Layout, const SLOTS: usize, A: Allocator + Copy, W: Writ
     value: i32,
     other: &Trie<L, SLOTS, A>,
 ) -> Result<bool, ListError>
-    ensures ok { OnOk result (Writes W.contents writer.old writer.new (signed_lines sign.now (entries_missing other.now.state.tree ((key.now, value) ∷ [])))) }
+    ensures writes { WritesBytes W.contents ListError.Write writer.old writer.new (missing_lines sign.now other.now.state.tree ((key.now, value) ∷ [])) result }
     ensures any { IfOk result (λ any. any ≡ ltb 0 (length (entries_missing other.now.state.tree ((key.now, value) ∷ [])))) }
-    ensures err { OnErr result (BreaksOff W.contents writer.old writer.new (signed_lines sign.now (entries_missing other.now.state.tree ((key.now, value) ∷ [])))) }
-    ensures faults { WritesOrFails ListError.Write (has_failed writer.old) (has_failed writer.new) result }
 {
     if holds(other, key, value) {
         return Ok(false);
@@ -183,9 +180,7 @@ fn write_signed<W: Write>(
     key: &[u8],
     value: i32,
 ) -> Result<(), ListError>
-    ensures ok { OnOk result (Writes W.contents writer.old writer.new (signed_line sign.now (key.now, value))) }
-    ensures err { OnErr result (BreaksOff W.contents writer.old writer.new (signed_line sign.now (key.now, value))) }
-    ensures faults { WritesOrFails ListError.Write (has_failed writer.old) (has_failed writer.new) result }
+    ensures { WritesBytes W.contents ListError.Write writer.old writer.new (signed_line sign.now (key.now, value)) result }
 {
     write_whole(writer, sign)?;
     write_entry(writer, key, value)

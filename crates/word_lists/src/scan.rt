@@ -1,11 +1,10 @@
 //! The words that occur in a text, a line each.
 
-ghost use Rattle.std.specs.Prelude.{◌++◌, ◌+◌, ◌∷◌, ◌≡◌, ◌≤◌, [], IfOk, length, List, ltb};
-ghost use Rattle.std.specs.Prelude.{MatchOption, OnErr, OnOk, take};
-ghost use Rattle.word_lists.specs.Words.{body_of, BreaksOff, characters, entry_line, has_failed};
-ghost use Rattle.word_lists.specs.Words.{keyword_lines, keywords_in, match_lines, Spot, spot_line};
-ghost use Rattle.word_lists.specs.Words.{spot_lines, spots_from, tab_field, word_text, Writes};
-ghost use Rattle.word_lists.specs.Words.{WritesOrFails};
+ghost use Rattle.std.specs.Prelude.{◌++◌, ◌+◌, ◌∷◌, ◌≡◌, ◌≤◌, [], IfOk, length, List};
+ghost use Rattle.std.specs.Prelude.{ltb, MatchOption, take};
+ghost use Rattle.word_lists.specs.Words.{body_of, characters, entry_line, keyword_lines};
+ghost use Rattle.word_lists.specs.Words.{keywords_in, match_lines, Spot, spot_line, spot_lines};
+ghost use Rattle.word_lists.specs.Words.{spots_from, tab_field, word_text, WritesBytes};
 
 use crate::parts::{body, characters_before, part};
 use crate::word::{ROOM, finds_room, put_entry, put_field, write_entry};
@@ -62,15 +61,12 @@ pub fn write_matches<L: Layout, const SLOTS: usize, A: Allocator + Copy, W: Writ
     number: u64,
 ) -> Result<bool, ListError>
     //= A scan that returns `Ok` wrote a line for each key that occurs in the text's line, position after position and at each the shortest
-    //  first, and nothing else.
-    ensures ok { OnOk result (Writes W.contents writer.old writer.new (match_lines trie.now.state.tree number line.now)) }
+    //  first, and nothing else. [by ok]
+    //= One that fails wrote a beginning of these lines, and not all; a call of the writer failed. [by err, faults; also write_keywords]
+    ensures writes { WritesBytes W.contents ListError.Write writer.old writer.new (match_lines trie.now.state.tree number line.now) result }
 
     //= It returns whether there is one. [also write_keywords]
     ensures any { IfOk result (λ any. any ≡ ltb 0 (length (spots_from trie.now.state.tree 0 (body_of line.now)))) }
-
-    //= One that fails wrote a beginning of these lines, and not all; a call of the writer failed. [with faults; also write_keywords]
-    ensures err { OnErr result (BreaksOff W.contents writer.old writer.new (match_lines trie.now.state.tree number line.now)) }
-    ensures faults { WritesOrFails ListError.Write (has_failed writer.old) (has_failed writer.new) result }
 {
     let text = body(line);
     write_spots(writer, text, number, &mut matches(trie, text))
@@ -95,10 +91,9 @@ pub fn write_keywords<L: Layout, const SLOTS: usize, A: Allocator + Copy, W: Wri
     number: u64,
 ) -> Result<bool, ListError>
     //= A scan for the longest words alone wrote a line for each keyword: of the keys that begin first the longest, and so on from its end.
-    ensures ok { OnOk result (Writes W.contents writer.old writer.new (keyword_lines trie.now.state.tree number line.now)) }
+    //  [by ok]
+    ensures writes { WritesBytes W.contents ListError.Write writer.old writer.new (keyword_lines trie.now.state.tree number line.now) result }
     ensures any { IfOk result (λ any. any ≡ ltb 0 (length (keywords_in trie.now.state.tree (body_of line.now)))) }
-    ensures err { OnErr result (BreaksOff W.contents writer.old writer.new (keyword_lines trie.now.state.tree number line.now)) }
-    ensures faults { WritesOrFails ListError.Write (has_failed writer.old) (has_failed writer.new) result }
 {
     let text = body(line);
     write_spots(writer, text, number, &mut leftmost_longest(trie, text))
@@ -111,10 +106,8 @@ fn write_spots<S: Spots, W: Write>(
     line: u64,
     spots: &mut S,
 ) -> Result<bool, ListError>
-    ensures ok { OnOk result (Writes W.contents writer.old writer.new (spot_lines line text.now (S.left spots.old))) }
+    ensures writes { WritesBytes W.contents ListError.Write writer.old writer.new (spot_lines line text.now (S.left spots.old)) result }
     ensures any { IfOk result (λ any. any ≡ ltb 0 (length (S.left spots.old))) }
-    ensures err { OnErr result (BreaksOff W.contents writer.old writer.new (spot_lines line text.now (S.left spots.old))) }
-    ensures faults { WritesOrFails ListError.Write (has_failed writer.old) (has_failed writer.new) result }
 {
     let mut any = false;
     let mut known = (0, 0);
@@ -137,9 +130,7 @@ fn write_spot<W: Write>(
 ) -> Result<(), ListError>
     requires before { before ≡ characters (take spot.0 text.now) }
     requires within { before ≤ length text.now }
-    ensures ok { OnOk result (Writes W.contents writer.old writer.new (spot_line line text.now spot)) }
-    ensures err { OnErr result (BreaksOff W.contents writer.old writer.new (spot_line line text.now spot)) }
-    ensures faults { WritesOrFails ListError.Write (has_failed writer.old) (has_failed writer.new) result }
+    ensures { WritesBytes W.contents ListError.Write writer.old writer.new (spot_line line text.now spot) result }
 {
     let (start, len, value) = spot;
     let column = column_of(text, before);
@@ -162,9 +153,7 @@ fn write_short<W: Write>(
 ) -> Result<(), ListError>
     requires plain { word_text word.now ≡ word.now }
     requires short { length word.now ≤ 64 }
-    ensures ok { OnOk result (Writes W.contents writer.old writer.new (tab_field line ++ (tab_field column ++ entry_line (word.now, number)))) }
-    ensures err { OnErr result (BreaksOff W.contents writer.old writer.new (tab_field line ++ (tab_field column ++ entry_line (word.now, number)))) }
-    ensures faults { WritesOrFails ListError.Write (has_failed writer.old) (has_failed writer.new) result }
+    ensures { WritesBytes W.contents ListError.Write writer.old writer.new (tab_field line ++ (tab_field column ++ entry_line (word.now, number))) result }
 {
     let mut room = [0; ROOM];
     let entry = put_entry(&mut room, word, number);
@@ -184,9 +173,7 @@ fn column_of(text: &[u8], before: usize) -> u64
 
 /// Writes a number and a tab.
 fn write_field<W: Write>(writer: &mut Watched<W>, number: u64) -> Result<(), ListError>
-    ensures ok { OnOk result (Writes W.contents writer.old writer.new (tab_field number)) }
-    ensures err { OnErr result (BreaksOff W.contents writer.old writer.new (tab_field number)) }
-    ensures faults { WritesOrFails ListError.Write (has_failed writer.old) (has_failed writer.new) result }
+    ensures { WritesBytes W.contents ListError.Write writer.old writer.new (tab_field number) result }
 {
     let mut figures = Buffer::new();
     write_whole(writer, figures.format(number).as_bytes())?;

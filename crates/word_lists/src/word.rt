@@ -3,11 +3,9 @@
 //! A short word's line is put together before it is written, so that the writer is called once. Room is filled from its end: what is put is
 //! before the bytes from a position on, and its own position is returned.
 
-ghost use Rattle.std.specs.Prelude.{◌≡◌, ◌≤◌, ◌++◌, ◌+◌, ◌∷◌, ◌<◌, decimal, drop};
-ghost use Rattle.std.specs.Prelude.{IsTrue, length, OnErr, OnOk};
-ghost use Rattle.word_lists.specs.Words.{BreaksOff, byte_text, entry_line, escape, has_failed};
-ghost use Rattle.word_lists.specs.Words.{is_plain, is_utf8, signed_decimal, tab_field, word_text};
-ghost use Rattle.word_lists.specs.Words.{Writes, WritesOrFails};
+ghost use Rattle.std.specs.Prelude.{◌≡◌, ◌≤◌, ◌++◌, ◌+◌, ◌∷◌, ◌<◌, decimal, drop, IsTrue, length};
+ghost use Rattle.word_lists.specs.Words.{byte_text, entry_line, escape, is_plain, is_utf8};
+ghost use Rattle.word_lists.specs.Words.{signed_decimal, tab_field, word_text, WritesBytes};
 
 use crate::write::{ListError, write_line, write_whole};
 use cedar_hex::encode_into;
@@ -21,9 +19,7 @@ pub(crate) fn write_entry<W: Write>(
     word: &[u8],
     number: i32,
 ) -> Result<(), ListError>
-    ensures ok { OnOk result (Writes W.contents writer.old writer.new (entry_line (word.now, number))) }
-    ensures err { OnErr result (BreaksOff W.contents writer.old writer.new (entry_line (word.now, number))) }
-    ensures faults { WritesOrFails ListError.Write (has_failed writer.old) (has_failed writer.new) result }
+    ensures { WritesBytes W.contents ListError.Write writer.old writer.new (entry_line (word.now, number)) result }
 {
     if finds_room(word) {
         let mut room = [0; ROOM];
@@ -45,9 +41,7 @@ pub(crate) fn finds_room(word: &[u8]) -> bool
 
 /// Writes a word.
 fn write_word<W: Write>(writer: &mut Watched<W>, word: &[u8]) -> Result<(), ListError>
-    ensures ok { OnOk result (Writes W.contents writer.old writer.new (word_text word.now)) }
-    ensures err { OnErr result (BreaksOff W.contents writer.old writer.new (word_text word.now)) }
-    ensures faults { WritesOrFails ListError.Write (has_failed writer.old) (has_failed writer.new) result }
+    ensures { WritesBytes W.contents ListError.Write writer.old writer.new (word_text word.now) result }
 {
     write_bytes(writer, is_text(word), word)
 }
@@ -68,9 +62,7 @@ pub(crate) fn write_bytes<W: Write>(
     text: bool,
     bytes: &[u8],
 ) -> Result<(), ListError>
-    ensures ok { OnOk result (Writes W.contents writer.old writer.new (escape text bytes.now)) }
-    ensures err { OnErr result (BreaksOff W.contents writer.old writer.new (escape text bytes.now)) }
-    ensures faults { WritesOrFails ListError.Write (has_failed writer.old) (has_failed writer.new) result }
+    ensures { WritesBytes W.contents ListError.Write writer.old writer.new (escape text bytes.now) result }
 {
     if are_plain(text, bytes) {
         return write_whole(writer, bytes);
@@ -100,9 +92,7 @@ fn are_plain(text: bool, bytes: &[u8]) -> bool
 
 /// Writes a byte of a word, which is UTF-8 or not.
 fn write_byte<W: Write>(writer: &mut Watched<W>, text: bool, byte: u8) -> Result<(), ListError>
-    ensures ok { OnOk result (Writes W.contents writer.old writer.new (byte_text text byte)) }
-    ensures err { OnErr result (BreaksOff W.contents writer.old writer.new (byte_text text byte)) }
-    ensures faults { WritesOrFails ListError.Write (has_failed writer.old) (has_failed writer.new) result }
+    ensures { WritesBytes W.contents ListError.Write writer.old writer.new (byte_text text byte) result }
 {
     if is_plain(text, byte) {
         return write_whole(writer, &[byte]);

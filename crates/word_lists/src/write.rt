@@ -1,7 +1,7 @@
 //! Bytes written whole, or a first part of them and a fault. No other writer calls the device.
 
-ghost use Rattle.std.specs.Prelude.{◌++◌, ◌∷◌, [], OnErr, OnOk};
-ghost use Rattle.word_lists.specs.Words.{BreaksOff, has_failed, Writes, WritesOrFails};
+ghost use Rattle.std.specs.Prelude.{◌++◌, ◌∷◌, []};
+ghost use Rattle.word_lists.specs.Words.{WritesBytes};
 
 use cedarwood::Watched;
 use std::io::Write;
@@ -21,9 +21,7 @@ pub(crate) fn write_line<W: Write>(
     first: &[u8],
     second: &[u8],
 ) -> Result<(), ListError>
-    ensures ok { OnOk result (Writes W.contents writer.old writer.new (first.now ++ (second.now ++ 10 ∷ []))) }
-    ensures err { OnErr result (BreaksOff W.contents writer.old writer.new (first.now ++ (second.now ++ 10 ∷ []))) }
-    ensures faults { WritesOrFails ListError.Write (has_failed writer.old) (has_failed writer.new) result }
+    ensures { WritesBytes W.contents ListError.Write writer.old writer.new (first.now ++ (second.now ++ 10 ∷ [])) result }
 {
     write_whole(writer, first)?;
     write_whole(writer, second)?;
@@ -33,9 +31,7 @@ pub(crate) fn write_line<W: Write>(
 /// Writes all of some bytes. The first fault ends it, an interrupted write too: a part was then written, and
 /// not all. (`write_all` of the standard library promises nothing of what a failed call wrote.)
 pub(crate) fn write_whole<W: Write>(writer: &mut Watched<W>, bytes: &[u8]) -> Result<(), ListError>
-    ensures ok { OnOk result (Writes W.contents writer.old writer.new bytes.now) }
-    ensures err { OnErr result (BreaksOff W.contents writer.old writer.new bytes.now) }
-    ensures faults { WritesOrFails ListError.Write (has_failed writer.old) (has_failed writer.new) result }
+    ensures { WritesBytes W.contents ListError.Write writer.old writer.new bytes.now result }
 {
     let mut rest = bytes;
     while !rest.is_empty() {

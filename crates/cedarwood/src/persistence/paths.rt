@@ -69,8 +69,8 @@ impl<L: Layout, const SLOTS: usize, A: Allocator + Copy> Trie<L, SLOTS, A> {
         //  save_v1_0_to_path_noted; by IsSavedAt]
         ensures saved { IfOk result (IsSavedAt path.now (table_bytes 1 self.now.table)) }
 
-        //= If it fails once a new file is whole, nothing was done at the path; or the disk had the file's bytes before a rename that failed,
-        //  or before a sync of the folder that did. [also save_v1_0_to_path_noted; by IsUnsavedAt]
+        //= If it fails with the calls on a new file that is whole, nothing was done at the path; or the disk had the file's bytes before a
+        //  rename that failed, or before a sync of the folder that did. [also save_v1_0_to_path_noted; by IsUnsavedAt]
         ensures unplaced { IfErr result (IsUnsavedAt path.now (table_bytes 1 self.now.table)) }
         ensures err { IfErr result (λ failed. FailsToWrite failed.error) }
         ensures file { OnOk result (IsTableFile 1 SLOTS self.now.table (table_bytes 1 self.now.table)) }

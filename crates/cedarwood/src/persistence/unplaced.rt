@@ -1,6 +1,6 @@
 //! A new file that is removed unless it takes its place.
 
-ghost use Rattle.std.specs.Prelude.{◌≡◌, ◌++◌, [], IfErr, IfOk, None, Some};
+ghost use Rattle.std.specs.Prelude.{◌≡◌, ◌++◌, [], IfErr, IfOk, is_some, None, Some, true};
 ghost use Rattle.cedar_disk.specs.NewFiles.{new_bytes, new_path};
 ghost use Rattle.cedar_disk.specs.PathFiles.{path_calls};
 ghost use Rattle.cedar_disk.specs.Words.{address, IsPlaced};
@@ -34,6 +34,7 @@ impl<'a, F: Files> Unplaced<'a, F> {
     pub(crate) fn put_in_place(self) -> Result<PathCalls, SaveFailed>
         ensures placed { IfOk result (λ calls. IsPlaced (new_path self.entry.file) (new_bytes self.entry.file) (path_calls calls)) }
         ensures unplaced { IfErr result (IsUnsavedAt (new_path self.entry.file) (new_bytes self.entry.file)) }
+        ensures calls { IfErr result (λ failed. is_some failed.calls ≡ true) }
         ensures err { IfErr result (λ failed. FailsToWrite failed.error) }
     {
         let Unplaced { file } = self;

@@ -1,9 +1,8 @@
 use Rattle.std.proofs.Common.{◌≡◌, ◌+◌, length, take, drop, subst, arith, length-drop}
 use Rattle.std.proofs.lemmas.List.{length-take-le}
-use Rattle.cedar_plan.specs.Plans.{works_of}
+use Rattle.cedar_plan.specs.Plans.{PlansAppend, works_of}
 use Rattle.cedar_c.specs.Groups.{IsGroup, group_head}
 use Rattle.cedar_c.proofs.GroupLemmas.{is_group}
-use Rattle.cedar_c.proofs.PlanLemmas.{PlansAppend}
 use Rattle.cedar_c.proofs.grouped.cedar_plan_group.Goals as goal
 
 pub returns-clause-planned : goal.returns-clause-planned

@@ -1,16 +1,16 @@
 use Rattle.std.proofs.Common.{[], refl, ◌∙◌}
 use Rattle.cedarwood.specs.WatchedDevice.{device_of}
-use Rattle.text_lines.proofs.Bytes.{on_err}
+use Rattle.text_lines.proofs.Writing.{breaks_off}
 use Rattle.cedar_cli.proofs.EntryLines.{digits_none, digits_stopped, digits_more}
 use Rattle.cedar_cli.proofs.answers.write_digits.Goals as goal
 
 pub loop-rest-init : goal.loop-rest-init
 loop-rest-init g c = ([], refl, digits_none (g.W.Write.contents (device_of c.args.writer.now)), refl)
 
-pub returns-in_err-write_piece-clause-err : goal.returns-in_err-write_piece-clause-err
-returns-in_err-write_piece-clause-err g c =
+pub returns-in_err-write_piece : goal.returns-in_err-write_piece
+returns-in_err-write_piece g c =
     let i = c.loop-rest.invariant in
-    on_err c.from_residual.result
+    breaks_off c.from_residual.ensures.1 c.in_err-write_piece.ensures
     (digits_stopped (g.W.Write.contents (device_of c.args.writer.now)) (g.W.Write.contents (device_of c.loop-rest.writer)) (g.W.Write.contents (device_of c.write_piece.new.writer))
     c.args.bytes.now i.0 c.loop-rest.rest.now c.min-count.result i.1 i.2 c.in_err-write_piece.ensures.err)
 

@@ -1,32 +1,21 @@
-use Rattle.std.proofs.Common.{rules, w32, ap, FitsSigned, ◌∙◌, ◌≡◌, ◌++◌, List, ℕ, subst}
+use Rattle.std.proofs.Common.{rules, w32, ap, ap₂, FitsSigned, ◌∙◌, ◌≡◌, ◌++◌, List, ℕ}
 use Rattle.std.proofs.lemmas.Int.{to_z-of_z}
-use Rattle.std.specs.Prelude.{OnErr, codes, decimal}
+use Rattle.std.specs.Prelude.{codes, decimal}
 use Rattle.std.specs.Fmt.{signed_decimal}
-use Rattle.cedarwood.specs.WatchedDevice.{device_of}
-use Rattle.text_lines.specs.Written.{WritesFront}
-use Rattle.text_lines.proofs.Bytes.{front_more, then_err, on_err}
+use Rattle.text_lines.proofs.Writing.{breaks_first, then_writes, writes_same}
 use Rattle.cedar_cli.proofs.answers.write_pair.Goals as goal
 
-pub returns-in_err-write_whole-clause-err : goal.returns-in_err-write_whole-clause-err
-returns-in_err-write_whole-clause-err g c =
-    let held = g.W.Write.contents (device_of c.args.writer.now) in
-    let holds = g.W.Write.contents (device_of c.write_whole.new.writer) in
+pub returns-in_err-write_whole : goal.returns-in_err-write_whole
+returns-in_err-write_whole g c =
     let fits : FitsSigned w32 c.args.pair.0 = search rules in
     let figures : c.as_bytes.result.now ≡ signed_decimal c.args.pair.0 = c.as_bytes.ensures.value ∙ c.format.ensures.text ∙ ap signed_decimal (to_z-of_z w32 c.args.pair.0 fits) in
-    let rest = codes ":" ++ decimal c.args.pair.1 in
-    on_err c.from_residual.result
-    (subst (λ (text : List ℕ). WritesFront held holds (text ++ rest)) figures (front_more held holds c.as_bytes.result.now rest c.in_err-write_whole.ensures.err))
+    writes_same (ap (λ (text : List ℕ). text ++ (codes ":" ++ decimal c.args.pair.1)) figures)
+    (breaks_first (codes ":" ++ decimal c.args.pair.1) c.from_residual.ensures.1 c.in_err-write_whole.ensures)
 
-pub returns-clause-err : goal.returns-clause-err
-returns-clause-err g c =
-    let held = g.W.Write.contents (device_of c.args.writer.now) in
-    let begun = g.W.Write.contents (device_of c.write_whole.new.writer) in
-    let holds = g.W.Write.contents (device_of c.write_both.new.writer) in
-    let first = c.as_bytes.result.now in
-    let second = c.as_bytes-2.result.now in
+pub returns : goal.returns
+returns g c =
     let fits : FitsSigned w32 c.args.pair.0 = search rules in
-    let figures : first ≡ signed_decimal c.args.pair.0 = c.as_bytes.ensures.value ∙ c.format.ensures.text ∙ ap signed_decimal (to_z-of_z w32 c.args.pair.0 fits) in
-    let count : second ≡ decimal c.args.pair.1 = c.as_bytes-2.ensures.value ∙ c.format-2.ensures.text in
-    subst (λ (text : List ℕ). OnErr c.write_both.result (WritesFront held holds (text ++ (codes ":" ++ decimal c.args.pair.1)))) figures
-    (subst (λ (text : List ℕ). OnErr c.write_both.result (WritesFront held holds (first ++ (codes ":" ++ text)))) count
-    (then_err c.write_both.result held begun holds first (codes ":" ++ second) c.in_ok-write_whole.ensures.ok c.write_both.ensures.err))
+    let figures : c.as_bytes.result.now ≡ signed_decimal c.args.pair.0 = c.as_bytes.ensures.value ∙ c.format.ensures.text ∙ ap signed_decimal (to_z-of_z w32 c.args.pair.0 fits) in
+    let count : c.as_bytes-2.result.now ≡ decimal c.args.pair.1 = c.as_bytes-2.ensures.value ∙ c.format-2.ensures.text in
+    writes_same (ap₂ (λ (first second : List ℕ). first ++ (codes ":" ++ second)) figures count)
+    (then_writes c.in_ok-write_whole.ensures c.write_both.ensures)

@@ -1,26 +1,15 @@
-use Rattle.std.proofs.Common.{◌++◌, ◌∷◌, [], ℕ, List, subst}
-use Rattle.std.specs.Prelude.{OnErr}
-use Rattle.cedarwood.specs.WatchedDevice.{device_of}
+use Rattle.std.proofs.Common.{◌++◌, ◌∷◌, []}
 use Rattle.cedar_cli.specs.Script.{pair_text, spaced_texts}
-use Rattle.text_lines.specs.Written.{WritesFront}
-use Rattle.text_lines.proofs.Bytes.{front_more, on_err, then_err}
+use Rattle.text_lines.proofs.Writing.{breaks_first, then_writes, writes_same}
 use Rattle.cedar_cli.proofs.JoinedLines.{joined_line}
 use Rattle.cedar_cli.proofs.answers.write_pairs.Goals as goal
 
-pub returns-in_err-write_pair-clause-err : goal.returns-in_err-write_pair-clause-err
-returns-in_err-write_pair-clause-err g c =
-    let later = g.P.Pairs.left c.next_pair.new.self in
-    let held = g.W.Write.contents (device_of c.args.writer.now) in
-    let holds = g.W.Write.contents (device_of c.write_pair.new.writer) in
-    on_err c.from_residual.result
-    (subst (WritesFront held holds) (joined_line pair_text (g.P.Pairs.left c.args.pairs.now) later c.in-Some.first c.in-Some.ensures)
-    (front_more held holds (pair_text c.in-Some.first) (spaced_texts pair_text later ++ 10 ∷ []) c.in_err-write_pair.ensures.err))
+pub returns-in_err-write_pair : goal.returns-in_err-write_pair
+returns-in_err-write_pair g c =
+    writes_same (joined_line pair_text (g.P.Pairs.left c.args.pairs.now) (g.P.Pairs.left c.next_pair.new.self) c.in-Some.first c.in-Some.ensures)
+    (breaks_first (spaced_texts pair_text (g.P.Pairs.left c.next_pair.new.self) ++ 10 ∷ []) c.from_residual.ensures.1 c.in_err-write_pair.ensures)
 
-pub returns-clause-err : goal.returns-clause-err
-returns-clause-err g c =
-    let later = g.P.Pairs.left c.next_pair.new.self in
-    let held = g.W.Write.contents (device_of c.args.writer.now) in
-    let begun = g.W.Write.contents (device_of c.write_pair.new.writer) in
-    let holds = g.W.Write.contents (device_of c.write_further.new.writer) in
-    subst (λ (line : List ℕ). OnErr c.write_further.result (WritesFront held holds line)) (joined_line pair_text (g.P.Pairs.left c.args.pairs.now) later c.in-Some.first c.in-Some.ensures)
-    (then_err c.write_further.result held begun holds (pair_text c.in-Some.first) (spaced_texts pair_text later ++ 10 ∷ []) c.in_ok-write_pair.ensures.ok c.write_further.ensures.err)
+pub returns : goal.returns
+returns g c =
+    writes_same (joined_line pair_text (g.P.Pairs.left c.args.pairs.now) (g.P.Pairs.left c.next_pair.new.self) c.in-Some.first c.in-Some.ensures)
+    (then_writes c.in_ok-write_pair.ensures c.write_further.ensures)

@@ -4,8 +4,9 @@ use Rattle.std.specs.Io.KnownBytes.{Appends}
 use Rattle.cedarwood.specs.WatchedDevice.{device_of}
 use Rattle.cedar_words.specs.Words.{Token}
 use Rattle.cedar_cli.specs.Script.{spaced_texts, token_text}
-use Rattle.text_lines.proofs.Bytes.{Appends-append, on_err}
+use Rattle.text_lines.proofs.Bytes.{Appends-append}
 use Rattle.cedar_cli.proofs.JoinedLines.{spaced_push, spaced_stopped}
+use Rattle.text_lines.proofs.Writing.{breaks_off}
 use Rattle.cedar_cli.proofs.answers.write_spaced.Goals as goal
 
 pub loop-token-preserved : goal.loop-token-preserved
@@ -22,12 +23,10 @@ loop-token-preserved g c =
       unfailed = c.in_ok-write_next.ensures.faults.unfailed ∙ i.unfailed;
     }
 
-pub returns-in_err-write_next-clause-err : goal.returns-in_err-write_next-clause-err
-returns-in_err-write_next-clause-err g c =
+pub returns-in_err-write_next : goal.returns-in_err-write_next
+returns-in_err-write_next g c =
     let i = c.loop-token.invariant in
     let came = c.loop-token.yielded in
-    let held = g.W.Write.contents (device_of c.args.writer.now) in
-    let begun = g.W.Write.contents (device_of c.loop-token.writer) in
-    let holds = g.W.Write.contents (device_of c.write_next.new.writer) in
-    on_err c.from_residual.result
-    (spaced_stopped token_text held begun holds c.args.tokens came c.next.new.self c.in-Some.token (i.came ∙ ap (λ l. came ++ l) c.in-Some.ensures.steps) i.written c.in_err-write_next.ensures.err)
+    breaks_off c.from_residual.ensures.1 c.in_err-write_next.ensures
+    (spaced_stopped token_text (g.W.Write.contents (device_of c.args.writer.now)) (g.W.Write.contents (device_of c.loop-token.writer)) (g.W.Write.contents (device_of c.write_next.new.writer))
+    c.args.tokens came c.next.new.self c.in-Some.token (i.came ∙ ap (λ l. came ++ l) c.in-Some.ensures.steps) i.written c.in_err-write_next.ensures.err)

@@ -1,31 +1,14 @@
 use Rattle.std.proofs.Common.{◌++◌}
-use Rattle.cedarwood.specs.WatchedDevice.{device_of}
 use Rattle.cedar_cli.specs.Script.{colon_field, number_text}
-use Rattle.text_lines.proofs.Bytes.{front_after, front_more, on_err, then_err}
+use Rattle.text_lines.proofs.Writing.{breaks_first, then_writes}
 use Rattle.cedar_cli.proofs.answers.write_token.Goals as goal
 
-pub returns-in_err-write_field-clause-err : goal.returns-in_err-write_field-clause-err
-returns-in_err-write_field-clause-err g c =
-    let t = c.args.token in
-    on_err c.from_residual.result
-    (front_more (g.W.Write.contents (device_of c.args.writer.now)) (g.W.Write.contents (device_of c.write_field.new.writer)) (colon_field t.0) (colon_field t.1 ++ number_text t.2) c.in_err-write_field.ensures.err)
+pub returns-in_err-write_field : goal.returns-in_err-write_field
+returns-in_err-write_field g c = breaks_first (colon_field c.args.token.1 ++ number_text c.args.token.2) c.from_residual.ensures.1 c.in_err-write_field.ensures
 
-pub returns-in_err-write_field-2-clause-err : goal.returns-in_err-write_field-2-clause-err
-returns-in_err-write_field-2-clause-err g c =
-    let t = c.args.token in
-    let a = g.W.Write.contents (device_of c.args.writer.now) in
-    let b = g.W.Write.contents (device_of c.write_field.new.writer) in
-    let d = g.W.Write.contents (device_of c.write_field-2.new.writer) in
-    on_err c.from_residual-in_err-write_field-2.result
-    (front_after a b d (colon_field t.0) (colon_field t.1 ++ number_text t.2) c.in_ok-write_field.ensures.ok
-    (front_more b d (colon_field t.1) (number_text t.2) c.in_err-write_field-2.ensures.err))
+pub returns-in_err-write_field-2 : goal.returns-in_err-write_field-2
+returns-in_err-write_field-2 g c =
+    then_writes c.in_ok-write_field.ensures (breaks_first (number_text c.args.token.2) c.from_residual-in_err-write_field-2.ensures.1 c.in_err-write_field-2.ensures)
 
-pub returns-clause-err : goal.returns-clause-err
-returns-clause-err g c =
-    let t = c.args.token in
-    let a = g.W.Write.contents (device_of c.args.writer.now) in
-    let b = g.W.Write.contents (device_of c.write_field.new.writer) in
-    let d = g.W.Write.contents (device_of c.write_field-2.new.writer) in
-    let e = g.W.Write.contents (device_of c.write_value.new.writer) in
-    then_err c.write_value.result a b e (colon_field t.0) (colon_field t.1 ++ number_text t.2) c.in_ok-write_field.ensures.ok
-    (then_err c.write_value.result b d e (colon_field t.1) (number_text t.2) c.in_ok-write_field-2.ensures.ok c.write_value.ensures.err)
+pub returns : goal.returns
+returns g c = then_writes c.in_ok-write_field.ensures (then_writes c.in_ok-write_field-2.ensures c.write_value.ensures)

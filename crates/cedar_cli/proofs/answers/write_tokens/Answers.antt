@@ -1,26 +1,15 @@
-use Rattle.std.proofs.Common.{◌++◌, ◌∷◌, [], ℕ, List, subst}
-use Rattle.std.specs.Prelude.{OnErr}
-use Rattle.cedarwood.specs.WatchedDevice.{device_of}
+use Rattle.std.proofs.Common.{◌++◌, ◌∷◌, []}
 use Rattle.cedar_cli.specs.Script.{spaced_texts, token_text}
-use Rattle.text_lines.specs.Written.{WritesFront}
-use Rattle.text_lines.proofs.Bytes.{front_more, on_err, then_err}
+use Rattle.text_lines.proofs.Writing.{breaks_first, then_writes, writes_same}
 use Rattle.cedar_cli.proofs.JoinedLines.{joined_line}
 use Rattle.cedar_cli.proofs.answers.write_tokens.Goals as goal
 
-pub returns-in_err-write_token-clause-err : goal.returns-in_err-write_token-clause-err
-returns-in_err-write_token-clause-err g c =
-    let later = c.next.new.self in
-    let held = g.W.Write.contents (device_of c.args.writer.now) in
-    let holds = g.W.Write.contents (device_of c.write_token.new.writer) in
-    on_err c.from_residual.result
-    (subst (WritesFront held holds) (joined_line token_text c.args.tokens later c.in-Some.first c.in-Some.ensures.steps)
-    (front_more held holds (token_text c.in-Some.first) (spaced_texts token_text later ++ 10 ∷ []) c.in_err-write_token.ensures.err))
+pub returns-in_err-write_token : goal.returns-in_err-write_token
+returns-in_err-write_token g c =
+    writes_same (joined_line token_text c.args.tokens c.next.new.self c.in-Some.first c.in-Some.ensures.steps)
+    (breaks_first (spaced_texts token_text c.next.new.self ++ 10 ∷ []) c.from_residual.ensures.1 c.in_err-write_token.ensures)
 
-pub returns-clause-err : goal.returns-clause-err
-returns-clause-err g c =
-    let later = c.next.new.self in
-    let held = g.W.Write.contents (device_of c.args.writer.now) in
-    let begun = g.W.Write.contents (device_of c.write_token.new.writer) in
-    let holds = g.W.Write.contents (device_of c.write_spaced.new.writer) in
-    subst (λ (line : List ℕ). OnErr c.write_spaced.result (WritesFront held holds line)) (joined_line token_text c.args.tokens later c.in-Some.first c.in-Some.ensures.steps)
-    (then_err c.write_spaced.result held begun holds (token_text c.in-Some.first) (spaced_texts token_text later ++ 10 ∷ []) c.in_ok-write_token.ensures.ok c.write_spaced.ensures.err)
+pub returns : goal.returns
+returns g c =
+    writes_same (joined_line token_text c.args.tokens c.next.new.self c.in-Some.first c.in-Some.ensures.steps)
+    (then_writes c.in_ok-write_token.ensures c.write_spaced.ensures)

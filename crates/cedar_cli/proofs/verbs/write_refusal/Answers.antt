@@ -1,22 +1,18 @@
-use Rattle.std.proofs.Common.{rules, ◌∙◌, List, ℕ, subst, FitsSigned, w32}
+use Rattle.std.proofs.Common.{rules, ◌∙◌, FitsSigned, w32}
 use Rattle.std.proofs.lemmas.Int.{to_z-of_z}
-use Rattle.std.specs.Prelude.{OnOk}
-use Rattle.std.specs.Io.KnownBytes.{Appends}
-use Rattle.cedarwood.specs.WatchedDevice.{device_of}
-use Rattle.cedar_cli.proofs.Orders.{nul_line, value_line}
+use Rattle.text_lines.proofs.Writing.{writes_same}
+use Rattle.cedar_cli.proofs.Orders.{empty_line, nul_line, value_line}
 use Rattle.cedar_cli.proofs.verbs.write_refusal.Goals as goal
 
-pub returns-in-NulByte-clause-ok : goal.returns-in-NulByte-clause-ok
-returns-in-NulByte-clause-ok g c =
-    let held = g.W.Write.contents (device_of c.args.writer.now) in
-    let holds = g.W.Write.contents (device_of c.write_line.new.writer) in
-    subst (λ (line : List ℕ). OnOk c.write_line.result (Appends held holds line))
-    (nul_line c.args.error c.in-NulByte.position c.as_bytes.result.now c.in-NulByte.is (c.as_bytes.ensures.value ∙ c.format-position.ensures.text)) c.write_line.ensures.ok
+pub returns-in-EmptyKey : goal.returns-in-EmptyKey
+returns-in-EmptyKey g c = writes_same (empty_line c.args.error c.in-EmptyKey.is) c.write_whole.ensures
 
-pub returns-in-InvalidValue-clause-ok : goal.returns-in-InvalidValue-clause-ok
-returns-in-InvalidValue-clause-ok g c =
-    let held = g.W.Write.contents (device_of c.args.writer.now) in
-    let holds = g.W.Write.contents (device_of c.write_line-in-InvalidValue.new.writer) in
+pub returns-in-NulByte : goal.returns-in-NulByte
+returns-in-NulByte g c =
+    writes_same (nul_line c.args.error c.in-NulByte.position c.as_bytes.result.now c.in-NulByte.is (c.as_bytes.ensures.value ∙ c.format-position.ensures.text)) c.write_line.ensures
+
+pub returns-in-InvalidValue : goal.returns-in-InvalidValue
+returns-in-InvalidValue g c =
     let fits : FitsSigned w32 c.in-InvalidValue.value = search rules in
-    subst (λ (line : List ℕ). OnOk c.write_line-in-InvalidValue.result (Appends held holds line))
-    (value_line c.args.error c.in-InvalidValue.value c.as_bytes-in-InvalidValue.result.now c.in-InvalidValue.is (c.as_bytes-in-InvalidValue.ensures.value ∙ simp to_z-of_z at c.format-value.ensures.text)) c.write_line-in-InvalidValue.ensures.ok
+    writes_same (value_line c.args.error c.in-InvalidValue.value c.as_bytes-in-InvalidValue.result.now c.in-InvalidValue.is (c.as_bytes-in-InvalidValue.ensures.value ∙ simp to_z-of_z at c.format-value.ensures.text))
+    c.write_line-in-InvalidValue.ensures

@@ -1,15 +1,8 @@
-use Rattle.cedarwood.specs.WatchedDevice.{device_of}
-use Rattle.text_lines.proofs.Bytes.{front_more, on_err, then_err}
+use Rattle.text_lines.proofs.Writing.{breaks_first, then_writes}
 use Rattle.cedar_cli.proofs.write.write_both.Goals as goal
 
-pub returns-in_err-write_whole-clause-err : goal.returns-in_err-write_whole-clause-err
-returns-in_err-write_whole-clause-err g c =
-    on_err c.from_residual.result
-    (front_more (g.W.Write.contents (device_of c.args.writer.now)) (g.W.Write.contents (device_of c.write_whole.new.writer)) c.args.first.now c.args.second.now c.in_err-write_whole.ensures.err)
+pub returns-in_err-write_whole : goal.returns-in_err-write_whole
+returns-in_err-write_whole g c = breaks_first c.args.second.now c.from_residual.ensures.1 c.in_err-write_whole.ensures
 
-pub returns-clause-err : goal.returns-clause-err
-returns-clause-err g c =
-    let held = g.W.Write.contents (device_of c.args.writer.now) in
-    let begun = g.W.Write.contents (device_of c.write_whole.new.writer) in
-    let holds = g.W.Write.contents (device_of c.write_whole-2.new.writer) in
-    then_err c.write_whole-2.result held begun holds c.args.first.now c.args.second.now c.in_ok-write_whole.ensures.ok c.write_whole-2.ensures.err
+pub returns : goal.returns
+returns g c = then_writes c.in_ok-write_whole.ensures c.write_whole-2.ensures

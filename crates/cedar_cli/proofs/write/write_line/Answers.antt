@@ -1,27 +1,13 @@
 use Rattle.std.proofs.Common.{◌++◌, ◌∷◌, []}
-use Rattle.cedarwood.specs.WatchedDevice.{device_of}
-use Rattle.text_lines.proofs.Bytes.{front_more, front_after, then_err, on_err}
+use Rattle.text_lines.proofs.Writing.{breaks_first, then_writes}
 use Rattle.cedar_cli.proofs.write.write_line.Goals as goal
 
-pub returns-in_err-write_whole-clause-err : goal.returns-in_err-write_whole-clause-err
-returns-in_err-write_whole-clause-err g c =
-    on_err c.from_residual.result
-    (front_more (g.W.Write.contents (device_of c.args.writer.now)) (g.W.Write.contents (device_of c.write_whole.new.writer)) c.args.first.now (c.args.second.now ++ 10 ∷ []) c.in_err-write_whole.ensures.err)
+pub returns-in_err-write_whole : goal.returns-in_err-write_whole
+returns-in_err-write_whole g c = breaks_first (c.args.second.now ++ 10 ∷ []) c.from_residual.ensures.1 c.in_err-write_whole.ensures
 
-pub returns-in_err-write_whole-2-clause-err : goal.returns-in_err-write_whole-2-clause-err
-returns-in_err-write_whole-2-clause-err g c =
-    let a = g.W.Write.contents (device_of c.args.writer.now) in
-    let b = g.W.Write.contents (device_of c.write_whole.new.writer) in
-    let d = g.W.Write.contents (device_of c.write_whole-2.new.writer) in
-    on_err c.from_residual-in_err-write_whole-2.result
-    (front_after a b d c.args.first.now (c.args.second.now ++ 10 ∷ []) c.in_ok-write_whole.ensures.ok
-    (front_more b d c.args.second.now (10 ∷ []) c.in_err-write_whole-2.ensures.err))
+pub returns-in_err-write_whole-2 : goal.returns-in_err-write_whole-2
+returns-in_err-write_whole-2 g c =
+    then_writes c.in_ok-write_whole.ensures (breaks_first (10 ∷ []) c.from_residual-in_err-write_whole-2.ensures.1 c.in_err-write_whole-2.ensures)
 
-pub returns-clause-err : goal.returns-clause-err
-returns-clause-err g c =
-    let a = g.W.Write.contents (device_of c.args.writer.now) in
-    let b = g.W.Write.contents (device_of c.write_whole.new.writer) in
-    let d = g.W.Write.contents (device_of c.write_whole-2.new.writer) in
-    let e = g.W.Write.contents (device_of c.write_whole-3.new.writer) in
-    then_err c.write_whole-3.result a b e c.args.first.now (c.args.second.now ++ 10 ∷ []) c.in_ok-write_whole.ensures.ok
-    (then_err c.write_whole-3.result b d e c.args.second.now (10 ∷ []) c.in_ok-write_whole-2.ensures.ok c.write_whole-3.ensures.err)
+pub returns : goal.returns
+returns g c = then_writes c.in_ok-write_whole.ensures (then_writes c.in_ok-write_whole-2.ensures c.write_whole-3.ensures)

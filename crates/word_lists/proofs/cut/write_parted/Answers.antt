@@ -1,17 +1,12 @@
-use Rattle.cedarwood.specs.WatchedDevice.{device_of}
-use Rattle.word_lists.specs.Texts.{parting, text_part}
-use Rattle.text_lines.proofs.Bytes.{on_err}
-use Rattle.word_lists.proofs.Bytes.{front_as, then_err_as}
+use Rattle.std.proofs.Common.{◌++◌, List, ℕ, ap, ap₂}
+use Rattle.text_lines.proofs.Writing.{breaks_first, then_writes, writes_same}
+use Rattle.word_lists.specs.Texts.{text_part}
 use Rattle.word_lists.proofs.cut.write_parted.Goals as goal
 
-pub returns-in_err-write_whole-clause-err : goal.returns-in_err-write_whole-clause-err
-returns-in_err-write_whole-clause-err g c =
-    on_err c.from_residual.result
-    (front_as (g.W.Write.contents (device_of c.args.writer.now)) (g.W.Write.contents (device_of c.write_whole.new.writer)) c.parting.result.now (parting c.args.sign.now c.args.text.now c.args.token)
-    (text_part c.args.text.now c.args.token.0 c.args.token.1) c.parting.ensures c.in_err-write_whole.ensures.err)
+pub returns-in_err-write_whole : goal.returns-in_err-write_whole
+returns-in_err-write_whole g c =
+    let part = text_part c.args.text.now c.args.token.0 c.args.token.1 in
+    writes_same (ap (λ (before : List ℕ). before ++ part) c.parting.ensures) (breaks_first part c.from_residual.ensures.1 c.in_err-write_whole.ensures)
 
-pub returns-clause-err : goal.returns-clause-err
-returns-clause-err g c =
-    then_err_as c.write_whole-2.result (g.W.Write.contents (device_of c.args.writer.now)) (g.W.Write.contents (device_of c.write_whole.new.writer)) (g.W.Write.contents (device_of c.write_whole-2.new.writer))
-    c.parting.result.now (parting c.args.sign.now c.args.text.now c.args.token) c.part.result.now (text_part c.args.text.now c.args.token.0 c.args.token.1)
-    c.parting.ensures c.part.ensures c.in_ok-write_whole.ensures.ok c.write_whole-2.ensures.err
+pub returns : goal.returns
+returns g c = writes_same (ap₂ (λ (before part : List ℕ). before ++ part) c.parting.ensures c.part.ensures) (then_writes c.in_ok-write_whole.ensures c.write_whole-2.ensures)

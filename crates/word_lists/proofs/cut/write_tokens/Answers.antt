@@ -3,8 +3,9 @@ use Rattle.std.specs.Io.KnownBytes.{Appends}
 use Rattle.cedarwood.specs.WatchedDevice.{device_of}
 use Rattle.cedar_words.specs.Words.{Token}
 use Rattle.word_lists.specs.Texts.{style_text, styled_text}
-use Rattle.text_lines.proofs.Bytes.{Appends-append, Appends-none, on_err}
+use Rattle.text_lines.proofs.Bytes.{Appends-append, Appends-none}
 use Rattle.word_lists.proofs.Texts.{texts_push, texts_stopped}
+use Rattle.text_lines.proofs.Writing.{breaks_off}
 use Rattle.word_lists.proofs.cut.write_tokens.Goals as goal
 
 pub loop-token-init : goal.loop-token-init
@@ -25,12 +26,9 @@ loop-token-preserved g c =
       c.in_ok-write_token.ensures.faults.unfailed ∙ i.3,
     )
 
-pub returns-in_err-write_token-clause-err : goal.returns-in_err-write_token-clause-err
-returns-in_err-write_token-clause-err g c =
+pub returns-in_err-write_token : goal.returns-in_err-write_token
+returns-in_err-write_token g c =
     let i = c.loop-token.invariant in
-    let held = g.W.Write.contents (device_of c.args.writer.now) in
-    let begun = g.W.Write.contents (device_of c.loop-token.writer) in
-    let holds = g.W.Write.contents (device_of c.write_token.new.writer) in
-    on_err c.from_residual.result
-    (texts_stopped (style_text c.args.style c.args.text.now) held begun holds (g.T.Tokens.left c.args.tokens.now) i.0 (g.T.Tokens.left c.next_token.new.self) c.in-Some.token
-    (i.1 ∙ ap (λ l. i.0 ++ l) c.in-Some.ensures) i.2 c.in_err-write_token.ensures.err)
+    breaks_off c.from_residual.ensures.1 c.in_err-write_token.ensures
+    (texts_stopped (style_text c.args.style c.args.text.now) (g.W.Write.contents (device_of c.args.writer.now)) (g.W.Write.contents (device_of c.loop-token.writer)) (g.W.Write.contents (device_of c.write_token.new.writer))
+    (g.T.Tokens.left c.args.tokens.now) i.0 (g.T.Tokens.left c.next_token.new.self) c.in-Some.token (i.1 ∙ ap (λ l. i.0 ++ l) c.in-Some.ensures) i.2 c.in_err-write_token.ensures.err)

@@ -6,9 +6,10 @@ use Rattle.cedarwood.specs.Queries.{Entry}
 use Rattle.cedarwood.specs.WatchedDevice.{device_of}
 use Rattle.word_lists.specs.Lines.{entry_line, entry_lines}
 use Rattle.word_lists.specs.Texts.{front_entry}
-use Rattle.text_lines.proofs.Bytes.{Appends-append, Appends-none, on_err}
+use Rattle.text_lines.proofs.Bytes.{Appends-append, Appends-none}
 use Rattle.word_lists.proofs.Texts.{some_more}
 use Rattle.word_lists.proofs.WordLines.{lines_push, lines_stopped}
+use Rattle.text_lines.proofs.Writing.{breaks_off}
 use Rattle.word_lists.proofs.fronts.write_all_fronts.Goals as goal
 
 pub loop-front-init : goal.loop-front-init
@@ -33,15 +34,13 @@ loop-front-preserved g c =
       some_more told e ∙ ap (λ (l : List Entry). ltb 0 (length l)) (sym push),
     )
 
-pub returns-in_err-write_front-clause-err : goal.returns-in_err-write_front-clause-err
-returns-in_err-write_front-clause-err g c =
+pub returns-in_err-write_front-clause-writes : goal.returns-in_err-write_front-clause-writes
+returns-in_err-write_front-clause-writes g c =
     let i = c.loop-front.invariant in
-    let held = g.W.Write.contents (device_of c.args.writer.now) in
-    let begun = g.W.Write.contents (device_of c.loop-front.writer) in
-    let holds = g.W.Write.contents (device_of c.write_front.new.writer) in
+    let told = map (front_entry c.args.text.now) in
     let later = g.F.NextFront.left c.next_front.new.self in
-    on_err c.from_residual.result
-    (lines_stopped held begun holds (map (front_entry c.args.text.now) (g.F.NextFront.left c.args.fronts.now)) (map (front_entry c.args.text.now) i.0) (map (front_entry c.args.text.now) later)
-    (front_entry c.args.text.now c.in-Some.front)
-    (ap (map (front_entry c.args.text.now)) (i.1 ∙ ap (λ l. i.0 ++ l) c.in-Some.ensures) ∙ map-append (front_entry c.args.text.now) i.0 (c.in-Some.front ∷ later))
+    breaks_off c.from_residual.ensures.1 c.in_err-write_front.ensures
+    (lines_stopped (g.W.Write.contents (device_of c.args.writer.now)) (g.W.Write.contents (device_of c.loop-front.writer)) (g.W.Write.contents (device_of c.write_front.new.writer))
+    (told (g.F.NextFront.left c.args.fronts.now)) (told i.0) (told later) (front_entry c.args.text.now c.in-Some.front)
+    (ap told (i.1 ∙ ap (λ l. i.0 ++ l) c.in-Some.ensures) ∙ map-append (front_entry c.args.text.now) i.0 (c.in-Some.front ∷ later))
     i.2 c.in_err-write_front.ensures.err)

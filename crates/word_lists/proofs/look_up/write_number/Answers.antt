@@ -1,12 +1,11 @@
-use Rattle.std.proofs.Common.{ℤ, Option, subst}
-use Rattle.cedarwood.specs.WatchedDevice.{device_of}
-use Rattle.text_lines.specs.Written.{WritesFront}
+use Rattle.std.proofs.Common.{ap}
+use Rattle.text_lines.proofs.Writing.{breaks_all, writes_all, writes_same}
 use Rattle.word_lists.specs.Lines.{found_line}
-use Rattle.text_lines.proofs.Bytes.{on_err}
 use Rattle.word_lists.proofs.look_up.write_number.Goals as goal
 
-pub returns-in_err-write_found-clause-err : goal.returns-in_err-write_found-clause-err
-returns-in_err-write_found-clause-err g c =
-    on_err c.from_residual.result
-    (subst (λ (number : Option ℤ). WritesFront (g.W.Write.contents (device_of c.args.writer.now)) (g.W.Write.contents (device_of c.write_found.new.writer)) (found_line c.args.word.now number))
-    c.get_bytes-number.ensures c.in_err-write_found.ensures.err)
+pub returns-in_err-write_found-clause-writes : goal.returns-in_err-write_found-clause-writes
+returns-in_err-write_found-clause-writes g c =
+    writes_same (ap (found_line c.args.word.now) c.get_bytes-number.ensures) (breaks_all c.from_residual.ensures.1 c.in_err-write_found.ensures)
+
+pub returns-clause-writes : goal.returns-clause-writes
+returns-clause-writes g c = writes_same (ap (found_line c.args.word.now) c.get_bytes-number.ensures) (writes_all c.in_ok-write_found.ensures)

@@ -1,40 +1,35 @@
-use Rattle.std.proofs.Common.{◌≡◌, ◌++◌, ◌∙◌, List, ℕ, ap, length, subst, sym}
+use Rattle.std.proofs.Common.{◌≡◌, ◌++◌, ◌∙◌, List, ℕ, ap, false, length, sym, true}
 use Rattle.std.specs.Prelude.{ltb}
-use Rattle.std.specs.Io.KnownBytes.{Appends}
-use Rattle.cedarwood.specs.WatchedDevice.{device_of}
 use Rattle.cedar_words.specs.Words.{Token, keywords_in, segments}
-use Rattle.text_lines.specs.Written.{WritesFront}
+use Rattle.text_lines.proofs.Writing.{breaks_all, writes_all, writes_nothing, writes_same}
 use Rattle.word_lists.specs.Texts.{body_of, ending_of, marked_token, texts_of}
-use Rattle.text_lines.proofs.Bytes.{Appends-none, on_err}
 use Rattle.word_lists.proofs.Texts.{marked_none, marked_some}
 use Rattle.word_lists.proofs.marked.write_marked.Goals as goal
 
-pub returns-then-not-has_keyword-clause-ok : goal.returns-then-not-has_keyword-clause-ok
-returns-then-not-has_keyword-clause-ok g c =
-    let held = g.W.Write.contents (device_of c.args.writer.now) in
+pub returns-then-not-has_keyword-clause-writes : goal.returns-then-not-has_keyword-clause-writes
+returns-then-not-has_keyword-clause-writes g c =
     let tree = c.args.trie.now.state.tree in
     let line = c.args.line.now in
     let count = λ (text : List ℕ). ltb 0 (length (keywords_in tree text)) in
-    subst (Appends held held) (marked_none tree line (ap count (sym c.body.ensures.body) ∙ sym c.has_keyword.ensures ∙ c.if-not-has_keyword.true)) (Appends-none held)
+    let none : count (body_of line) ≡ false = ap count (sym c.body.ensures.body) ∙ sym c.has_keyword.ensures ∙ c.if-not-has_keyword.true in
+    writes_same (marked_none tree line none) writes_nothing
 
-pub returns-in_err-write_line_tokens-clause-err : goal.returns-in_err-write_line_tokens-clause-err
-returns-in_err-write_line_tokens-clause-err g c =
-    let held = g.W.Write.contents (device_of c.args.writer.now) in
-    let holds = g.W.Write.contents (device_of c.write_line_tokens.new.writer) in
+pub returns-in_err-write_line_tokens-clause-writes : goal.returns-in_err-write_line_tokens-clause-writes
+returns-in_err-write_line_tokens-clause-writes g c =
     let tree = c.args.trie.now.state.tree in
     let line = c.args.line.now in
     let count = λ (text : List ℕ). ltb 0 (length (keywords_in tree text)) in
     let tokens : c.segment.result ≡ segments tree (body_of line) = c.segment.ensures ∙ ap (segments tree) c.body-2.ensures.body in
-    on_err c.from_residual.result (subst (WritesFront held holds) (marked_some tree line (ap count (sym c.body.ensures.body) ∙ sym c.has_keyword.ensures ∙ c.if-not-has_keyword.false))
-    (subst (λ (t : List Token). WritesFront held holds (texts_of (marked_token (body_of line)) t ++ ending_of line)) tokens c.in_err-write_line_tokens.ensures.err))
+    let some : count (body_of line) ≡ true = ap count (sym c.body.ensures.body) ∙ sym c.has_keyword.ensures ∙ c.if-not-has_keyword.false in
+    writes_same (ap (λ (t : List Token). texts_of (marked_token (body_of line)) t ++ ending_of line) tokens ∙ marked_some tree line some)
+    (breaks_all c.from_residual.ensures.1 c.in_err-write_line_tokens.ensures)
 
-pub returns-clause-ok : goal.returns-clause-ok
-returns-clause-ok g c =
-    let held = g.W.Write.contents (device_of c.args.writer.now) in
-    let holds = g.W.Write.contents (device_of c.write_line_tokens.new.writer) in
+pub returns-clause-writes : goal.returns-clause-writes
+returns-clause-writes g c =
     let tree = c.args.trie.now.state.tree in
     let line = c.args.line.now in
     let count = λ (text : List ℕ). ltb 0 (length (keywords_in tree text)) in
     let tokens : c.segment.result ≡ segments tree (body_of line) = c.segment.ensures ∙ ap (segments tree) c.body-2.ensures.body in
-    subst (Appends held holds) (marked_some tree line (ap count (sym c.body.ensures.body) ∙ sym c.has_keyword.ensures ∙ c.if-not-has_keyword.false))
-    (subst (λ (t : List Token). Appends held holds (texts_of (marked_token (body_of line)) t ++ ending_of line)) tokens c.in_ok-write_line_tokens.ensures.ok)
+    let some : count (body_of line) ≡ true = ap count (sym c.body.ensures.body) ∙ sym c.has_keyword.ensures ∙ c.if-not-has_keyword.false in
+    writes_same (ap (λ (t : List Token). texts_of (marked_token (body_of line)) t ++ ending_of line) tokens ∙ marked_some tree line some)
+    (writes_all c.in_ok-write_line_tokens.ensures)

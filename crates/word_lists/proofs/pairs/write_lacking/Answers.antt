@@ -31,8 +31,8 @@ loop-value-preserved g c =
       came ++ e ∷ [],
       i.1 ∙ ap (λ l. came ++ l) step ∙ sym (append_assoc came (e ∷ []) c.next_entry.new.entries),
       subst (Appends held holds) (sym (lacking_lines c.args.sign.now tree came (e ∷ []))) (Appends-append held begun holds (signed_lines c.args.sign.now (entries_missing tree came)) (signed_lines c.args.sign.now (entries_missing tree (e ∷ []))) i.2
-          (subst (λ (x : Entry). Appends begun holds (signed_lines c.args.sign.now (entries_missing tree (x ∷ [])))) same c.in_ok-any.ensures.ok)),
-      c.in_ok-any.ensures.faults.unfailed ∙ i.3,
+          (subst (λ (x : Entry). Appends begun holds (signed_lines c.args.sign.now (entries_missing tree (x ∷ [])))) same c.in_ok-any.ensures.writes.ok)),
+      c.in_ok-any.ensures.writes.faults.unfailed ∙ i.3,
       ap₂ (λ (a b : Bool). a || b) i.4 one ∙ sym (lacking_some tree came (e ∷ [])),
     )
 
@@ -55,7 +55,7 @@ returns-in_err-any-clause-err g c =
     let holds = g.W.Write.contents (device_of c.write_unless_held.new.writer) in
     on_err c.from_residual-in_err-any.result
     (or_all held holds (signed_lines c.args.sign.now (entries_missing tree c.args.entries)) (lacking_stopped c.args.sign.now tree held begun holds c.args.entries i.0 c.next_entry.new.entries e
-    (i.1 ∙ ap (λ l. i.0 ++ l) step) i.2 (subst (λ (x : Entry). WritesFront begun holds (signed_lines c.args.sign.now (entries_missing tree (x ∷ [])))) same c.in_err-any.ensures.err)))
+    (i.1 ∙ ap (λ l. i.0 ++ l) step) i.2 (subst (λ (x : Entry). WritesFront begun holds (signed_lines c.args.sign.now (entries_missing tree (x ∷ [])))) same c.in_err-any.ensures.writes.err)))
 
 pub returns-in_err-any-clause-broken : goal.returns-in_err-any-clause-broken
 returns-in_err-any-clause-broken g c = λ _.
@@ -69,7 +69,7 @@ returns-in_err-any-clause-broken g c = λ _.
     let begun = g.W.Write.contents (device_of c.loop-value.writer) in
     let holds = g.W.Write.contents (device_of c.write_unless_held.new.writer) in
     lacking_stopped c.args.sign.now tree held begun holds c.args.entries i.0 c.next_entry.new.entries e
-    (i.1 ∙ ap (λ l. i.0 ++ l) step) i.2 (subst (λ (x : Entry). WritesFront begun holds (signed_lines c.args.sign.now (entries_missing tree (x ∷ [])))) same c.in_err-any.ensures.err)
+    (i.1 ∙ ap (λ l. i.0 ++ l) step) i.2 (subst (λ (x : Entry). WritesFront begun holds (signed_lines c.args.sign.now (entries_missing tree (x ∷ [])))) same c.in_err-any.ensures.writes.err)
 
 pub write_unless_held-requires : goal.write_unless_held-requires
 write_unless_held-requires g c = search (rules, c.requires-raw)
@@ -82,7 +82,7 @@ returns-in_err-value-clause-faults g c =
 pub returns-in_err-any-clause-faults : goal.returns-in_err-any-clause-faults
 returns-in_err-any-clause-faults g c =
     let is : c.from_residual-in_err-any.result ≡ Err Write = search rules in
-    broken_lines (has_failed c.args.writer.now) (has_failed c.write_unless_held.new.writer) c.from_residual-in_err-any.result is c.in_err-any.ensures.faults.cause.1
+    broken_lines (has_failed c.args.writer.now) (has_failed c.write_unless_held.new.writer) c.from_residual-in_err-any.result is c.in_err-any.ensures.writes.faults.cause.1
 
 pub returns-clause-faults : goal.returns-clause-faults
 returns-clause-faults g c =

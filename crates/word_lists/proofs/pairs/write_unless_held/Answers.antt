@@ -1,21 +1,17 @@
-use Rattle.std.proofs.Common.{◌≡◌, ◌∙◌, ℤ, true, false, w32, subst, sym}
+use Rattle.std.proofs.Common.{◌≡◌, ◌∙◌, ℤ, ap, true, false, w32, subst, sym}
 use Rattle.std.proofs.lemmas.Int.{to_z-of_z}
-use Rattle.std.specs.Io.KnownBytes.{Appends}
-use Rattle.cedarwood.specs.WatchedDevice.{device_of}
-use Rattle.text_lines.specs.Written.{WritesFront}
+use Rattle.text_lines.proofs.Writing.{breaks_all, writes_all, writes_nothing, writes_same}
 use Rattle.word_lists.specs.Lines.{holds_entry, signed_line}
-use Rattle.text_lines.proofs.Bytes.{Appends-none, on_err}
 use Rattle.word_lists.proofs.SignedLines.{none_lacking, nothing_lacking, one_lacking, some_lacking}
 use Rattle.word_lists.proofs.pairs.write_unless_held.Goals as goal
 
-pub returns-then-holds-clause-ok : goal.returns-then-holds-clause-ok
-returns-then-holds-clause-ok g c =
-    let d0 = g.W.Write.contents (device_of c.args.writer.now) in
+pub returns-then-holds-clause-writes : goal.returns-then-holds-clause-writes
+returns-then-holds-clause-writes g c =
     let tree = c.args.other.now.state.tree in
     let key = c.args.key.now in
     let same = to_z-of_z w32 c.args.value c.ranges.value in
     let held : holds_entry tree (key, c.args.value) ≡ true = subst (λ (v : ℤ). holds_entry tree (key, v) ≡ true) same (sym c.holds.ensures ∙ c.if-holds.true) in
-    subst (Appends d0 d0) (none_lacking c.args.sign.now tree (key, c.args.value) held) (Appends-none d0)
+    writes_same (none_lacking c.args.sign.now tree (key, c.args.value) held) writes_nothing
 
 pub returns-then-holds-clause-any : goal.returns-then-holds-clause-any
 returns-then-holds-clause-any g c =
@@ -25,27 +21,23 @@ returns-then-holds-clause-any g c =
     let held : holds_entry tree (key, c.args.value) ≡ true = subst (λ (v : ℤ). holds_entry tree (key, v) ≡ true) same (sym c.holds.ensures ∙ c.if-holds.true) in
     nothing_lacking tree (key, c.args.value) held
 
-pub returns-in_err-write_signed-clause-err : goal.returns-in_err-write_signed-clause-err
-returns-in_err-write_signed-clause-err g c =
-    let d0 = g.W.Write.contents (device_of c.args.writer.now) in
-    let d1 = g.W.Write.contents (device_of c.write_signed.new.writer) in
+pub returns-in_err-write_signed-clause-writes : goal.returns-in_err-write_signed-clause-writes
+returns-in_err-write_signed-clause-writes g c =
     let tree = c.args.other.now.state.tree in
     let key = c.args.key.now in
     let same = to_z-of_z w32 c.args.value c.ranges.value in
     let lacks : holds_entry tree (key, c.args.value) ≡ false = subst (λ (v : ℤ). holds_entry tree (key, v) ≡ false) same (sym c.holds.ensures ∙ c.if-holds.false) in
-    on_err c.from_residual.result (subst (WritesFront d0 d1) (one_lacking c.args.sign.now tree (key, c.args.value) lacks)
-    (subst (λ (v : ℤ). WritesFront d0 d1 (signed_line c.args.sign.now (key, v))) same c.in_err-write_signed.ensures.err))
+    writes_same (ap (λ (v : ℤ). signed_line c.args.sign.now (key, v)) same ∙ one_lacking c.args.sign.now tree (key, c.args.value) lacks)
+    (breaks_all c.from_residual.ensures.1 c.in_err-write_signed.ensures)
 
-pub returns-clause-ok : goal.returns-clause-ok
-returns-clause-ok g c =
-    let d0 = g.W.Write.contents (device_of c.args.writer.now) in
-    let d1 = g.W.Write.contents (device_of c.write_signed.new.writer) in
+pub returns-clause-writes : goal.returns-clause-writes
+returns-clause-writes g c =
     let tree = c.args.other.now.state.tree in
     let key = c.args.key.now in
     let same = to_z-of_z w32 c.args.value c.ranges.value in
     let lacks : holds_entry tree (key, c.args.value) ≡ false = subst (λ (v : ℤ). holds_entry tree (key, v) ≡ false) same (sym c.holds.ensures ∙ c.if-holds.false) in
-    subst (Appends d0 d1) (one_lacking c.args.sign.now tree (key, c.args.value) lacks)
-    (subst (λ (v : ℤ). Appends d0 d1 (signed_line c.args.sign.now (key, v))) same c.in_ok-write_signed.ensures.ok)
+    writes_same (ap (λ (v : ℤ). signed_line c.args.sign.now (key, v)) same ∙ one_lacking c.args.sign.now tree (key, c.args.value) lacks)
+    (writes_all c.in_ok-write_signed.ensures)
 
 pub returns-clause-any : goal.returns-clause-any
 returns-clause-any g c =

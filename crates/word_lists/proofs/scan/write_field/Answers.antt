@@ -1,12 +1,13 @@
-use Rattle.std.proofs.Common.{◌∷◌, ◌∙◌, []}
-use Rattle.std.specs.Prelude.{decimal}
-use Rattle.cedarwood.specs.WatchedDevice.{device_of}
-use Rattle.text_lines.proofs.Bytes.{on_err}
-use Rattle.word_lists.proofs.Bytes.{front_as}
+use Rattle.std.proofs.Common.{◌++◌, ◌∷◌, ◌∙◌, [], List, ℕ, ap}
+use Rattle.text_lines.proofs.Writing.{breaks_first, then_writes, writes_same}
 use Rattle.word_lists.proofs.scan.write_field.Goals as goal
 
-pub returns-in_err-write_whole-clause-err : goal.returns-in_err-write_whole-clause-err
-returns-in_err-write_whole-clause-err g c =
-    on_err c.from_residual.result
-    (front_as (g.W.Write.contents (device_of c.args.writer.now)) (g.W.Write.contents (device_of c.write_whole.new.writer)) c.as_bytes.result.now (decimal c.args.number) (9 ∷ [])
-    (c.as_bytes.ensures.value ∙ c.format.ensures.text) c.in_err-write_whole.ensures.err)
+pub returns-in_err-write_whole : goal.returns-in_err-write_whole
+returns-in_err-write_whole g c =
+    writes_same (ap (λ (text : List ℕ). text ++ 9 ∷ []) (c.as_bytes.ensures.value ∙ c.format.ensures.text))
+    (breaks_first (9 ∷ []) c.from_residual.ensures.1 c.in_err-write_whole.ensures)
+
+pub returns : goal.returns
+returns g c =
+    writes_same (ap (λ (text : List ℕ). text ++ 9 ∷ []) (c.as_bytes.ensures.value ∙ c.format.ensures.text))
+    (then_writes c.in_ok-write_whole.ensures c.write_whole-2.ensures)

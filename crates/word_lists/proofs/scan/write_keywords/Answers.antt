@@ -1,8 +1,7 @@
-use Rattle.std.proofs.Common.{◌≡◌, ◌∙◌, ℕ, List, ap, length, subst}
-use Rattle.std.specs.Prelude.{IfOk, OnErr, ltb}
-use Rattle.cedarwood.specs.WatchedDevice.{device_of}
+use Rattle.std.proofs.Common.{◌≡◌, ◌∙◌, List, ap, ap₂, length, subst}
+use Rattle.std.specs.Prelude.{IfOk, ltb}
 use Rattle.cedar_words.specs.Words.{Spot, keywords_in}
-use Rattle.text_lines.specs.Written.{WritesFront}
+use Rattle.text_lines.proofs.Writing.{writes_same}
 use Rattle.word_lists.specs.Texts.{body_of, spot_lines}
 use Rattle.word_lists.proofs.scan.write_keywords.Goals as goal
 
@@ -11,9 +10,7 @@ returns-clause-any g c =
     let spots : c.leftmost_longest.result ≡ keywords_in c.args.trie.now.state.tree (body_of c.args.line.now) = c.leftmost_longest.ensures ∙ ap (keywords_in c.args.trie.now.state.tree) c.body-text.ensures.body in
     subst (λ (found : List Spot). IfOk c.write_spots.result (λ any. any ≡ ltb 0 (length found))) spots c.write_spots.ensures.any
 
-pub returns-clause-err : goal.returns-clause-err
-returns-clause-err g c =
+pub returns-clause-writes : goal.returns-clause-writes
+returns-clause-writes g c =
     let spots : c.leftmost_longest.result ≡ keywords_in c.args.trie.now.state.tree (body_of c.args.line.now) = c.leftmost_longest.ensures ∙ ap (keywords_in c.args.trie.now.state.tree) c.body-text.ensures.body in
-    let held = g.W.Write.contents (device_of c.args.writer.now) in
-    let holds = g.W.Write.contents (device_of c.write_spots.new.writer) in
-    subst (λ (p : List ℕ × List Spot). OnErr c.write_spots.result (WritesFront held holds (spot_lines c.args.number p.0 p.1))) (λ k. (c.body-text.ensures.body k, spots k)) c.write_spots.ensures.err
+    writes_same (ap₂ (spot_lines c.args.number) c.body-text.ensures.body spots) c.write_spots.ensures.writes

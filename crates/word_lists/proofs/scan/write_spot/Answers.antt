@@ -1,55 +1,40 @@
-use Rattle.std.proofs.Common.{rules, w32, to_z, of_z, FitsSigned, ℕ, ◌≡◌, ◌+◌, ◌++◌, ◌∙◌, ap, subst, take}
+use Rattle.std.proofs.Common.{rules, w32, to_z, of_z, FitsSigned, ℕ, ◌≡◌, ◌+◌, ◌++◌, ◌∙◌, ap, ap₂, take}
 use Rattle.std.proofs.lemmas.Int.{to_z-of_z}
 use Rattle.cedarwood.specs.Queries.{Entry}
-use Rattle.cedarwood.specs.WatchedDevice.{device_of}
-use Rattle.std.specs.Prelude.{OnErr}
-use Rattle.text_lines.specs.Written.{WritesFront}
+use Rattle.text_lines.proofs.Writing.{breaks_first, then_writes, writes_same}
 use Rattle.word_lists.specs.Lines.{entry_line}
 use Rattle.word_lists.specs.Texts.{characters, tab_field, text_part}
-use Rattle.text_lines.proofs.Bytes.{front_after, front_more, on_err, then_err}
-use Rattle.word_lists.proofs.Bytes.{front_as, then_err_as}
 use Rattle.word_lists.proofs.scan.write_spot.Goals as goal
 
-pub returns-in_err-write_field-clause-err : goal.returns-in_err-write_field-clause-err
-returns-in_err-write_field-clause-err g c =
-    on_err c.from_residual.result
-    (front_more (g.W.Write.contents (device_of c.args.writer.now)) (g.W.Write.contents (device_of c.write_field.new.writer)) (tab_field c.args.line)
-    (tab_field (1 + characters (take c.args.spot.0 c.args.text.now)) ++ entry_line (text_part c.args.text.now c.args.spot.0 c.args.spot.1, c.args.spot.2)) c.in_err-write_field.ensures.err)
-
-pub returns-in_err-write_field-2-clause-err : goal.returns-in_err-write_field-2-clause-err
-returns-in_err-write_field-2-clause-err g c =
-    let begun = g.W.Write.contents (device_of c.write_field.new.writer) in
-    let holds = g.W.Write.contents (device_of c.write_field-2.new.writer) in
+pub returns-in_err-write_field : goal.returns-in_err-write_field
+returns-in_err-write_field g c =
     let column = 1 + characters (take c.args.spot.0 c.args.text.now) in
-    let same : tab_field c.column_of-column.result ≡ tab_field column = ap tab_field (c.column_of-column.ensures ∙ ap (λ k. 1 + k) c.requires.before) in
-    on_err c.from_residual-in_err-write_field-2.result
-    (front_after (g.W.Write.contents (device_of c.args.writer.now)) begun holds (tab_field c.args.line) (tab_field column ++ entry_line (text_part c.args.text.now c.args.spot.0 c.args.spot.1, c.args.spot.2))
-    c.in_ok-write_field.ensures.ok
-    (front_as begun holds (tab_field c.column_of-column.result) (tab_field column) (entry_line (text_part c.args.text.now c.args.spot.0 c.args.spot.1, c.args.spot.2)) same c.in_err-write_field-2.ensures.err))
+    let told : Entry = (text_part c.args.text.now c.args.spot.0 c.args.spot.1, c.args.spot.2) in
+    breaks_first (tab_field column ++ entry_line told) c.from_residual.ensures.1 c.in_err-write_field.ensures
 
-pub returns-then-finds_room-clause-err : goal.returns-then-finds_room-clause-err
-returns-then-finds_room-clause-err g c =
-    let held = g.W.Write.contents (device_of c.args.writer.now) in
-    let holds = g.W.Write.contents (device_of c.write_short.new.writer) in
-    let column = 1 + characters (take c.args.spot.0 c.args.text.now) in
-    let same : c.column_of-column.result ≡ column = c.column_of-column.ensures ∙ ap (λ k. 1 + k) c.requires.before in
+pub returns-in_err-write_field-2 : goal.returns-in_err-write_field-2
+returns-in_err-write_field-2 g c =
+    let told : Entry = (text_part c.args.text.now c.args.spot.0 c.args.spot.1, c.args.spot.2) in
+    let place : c.column_of-column.result ≡ 1 + characters (take c.args.spot.0 c.args.text.now) = c.column_of-column.ensures ∙ ap (λ k. 1 + k) c.requires.before in
+    then_writes c.in_ok-write_field.ensures
+    (writes_same (ap (λ (n : ℕ). tab_field n ++ entry_line told) place)
+    (breaks_first (entry_line told) c.from_residual-in_err-write_field-2.ensures.1 c.in_err-write_field-2.ensures))
+
+pub returns-then-finds_room : goal.returns-then-finds_room
+returns-then-finds_room g c =
+    let told : Entry = (text_part c.args.text.now c.args.spot.0 c.args.spot.1, c.args.spot.2) in
+    let place : c.column_of-column.result ≡ 1 + characters (take c.args.spot.0 c.args.text.now) = c.column_of-column.ensures ∙ ap (λ k. 1 + k) c.requires.before in
     let fits : FitsSigned w32 c.args.spot.2 = search rules in
     let entry : Entry = (c.part-word.result.now, to_z w32 (of_z w32 c.args.spot.2)) in
-    let told : Entry = (text_part c.args.text.now c.args.spot.0 c.args.spot.1, c.args.spot.2) in
-    subst (λ (p : ℕ × Entry). OnErr c.write_short.result (WritesFront held holds (tab_field c.args.line ++ (tab_field p.0 ++ entry_line p.1))))
-    (λ k. (same k, (c.part-word.ensures k, to_z-of_z w32 c.args.spot.2 fits k))) c.write_short.ensures.err
+    let same : entry ≡ told = λ k. (c.part-word.ensures k, to_z-of_z w32 c.args.spot.2 fits k) in
+    writes_same (ap₂ (λ (n : ℕ) (e : Entry). tab_field c.args.line ++ (tab_field n ++ entry_line e)) place same) c.write_short.ensures
 
-pub returns-clause-err : goal.returns-clause-err
-returns-clause-err g c =
-    let held = g.W.Write.contents (device_of c.args.writer.now) in
-    let begun = g.W.Write.contents (device_of c.write_field.new.writer) in
-    let more = g.W.Write.contents (device_of c.write_field-2.new.writer) in
-    let holds = g.W.Write.contents (device_of c.write_entry.new.writer) in
-    let column = 1 + characters (take c.args.spot.0 c.args.text.now) in
-    let same : tab_field c.column_of-column.result ≡ tab_field column = ap tab_field (c.column_of-column.ensures ∙ ap (λ k. 1 + k) c.requires.before) in
+pub returns : goal.returns
+returns g c =
+    let told : Entry = (text_part c.args.text.now c.args.spot.0 c.args.spot.1, c.args.spot.2) in
+    let place : c.column_of-column.result ≡ 1 + characters (take c.args.spot.0 c.args.text.now) = c.column_of-column.ensures ∙ ap (λ k. 1 + k) c.requires.before in
     let fits : FitsSigned w32 c.args.spot.2 = search rules in
     let entry : Entry = (c.part-word.result.now, to_z w32 (of_z w32 c.args.spot.2)) in
-    let told : Entry = (text_part c.args.text.now c.args.spot.0 c.args.spot.1, c.args.spot.2) in
-    let line : entry_line entry ≡ entry_line told = ap entry_line (λ k. (c.part-word.ensures k, to_z-of_z w32 c.args.spot.2 fits k)) in
-    then_err c.write_entry.result held begun holds (tab_field c.args.line) (tab_field column ++ entry_line told) c.in_ok-write_field.ensures.ok
-    (then_err_as c.write_entry.result begun more holds (tab_field c.column_of-column.result) (tab_field column) (entry_line entry) (entry_line told) same line c.in_ok-write_field-2.ensures.ok c.write_entry.ensures.err)
+    let same : entry ≡ told = λ k. (c.part-word.ensures k, to_z-of_z w32 c.args.spot.2 fits k) in
+    then_writes c.in_ok-write_field.ensures
+    (writes_same (ap₂ (λ (n : ℕ) (e : Entry). tab_field n ++ entry_line e) place same) (then_writes c.in_ok-write_field-2.ensures c.write_entry.ensures))

@@ -3,8 +3,9 @@ use Rattle.std.specs.Io.KnownBytes.{Appends}
 use Rattle.cedarwood.specs.WatchedDevice.{device_of}
 use Rattle.cedar_words.specs.Words.{Spot}
 use Rattle.word_lists.specs.Texts.{spot_line, spot_lines}
-use Rattle.text_lines.proofs.Bytes.{Appends-append, Appends-none, on_err}
+use Rattle.text_lines.proofs.Bytes.{Appends-append, Appends-none}
 use Rattle.word_lists.proofs.Texts.{some_more, spots_push, spots_stopped}
+use Rattle.text_lines.proofs.Writing.{breaks_off}
 use Rattle.word_lists.proofs.scan.write_spots.Goals as goal
 
 pub loop-spot-init : goal.loop-spot-init
@@ -27,12 +28,9 @@ loop-spot-preserved g c =
       c.characters_before-before.ensures.all,
     )
 
-pub returns-in_err-write_spot-clause-err : goal.returns-in_err-write_spot-clause-err
-returns-in_err-write_spot-clause-err g c =
+pub returns-in_err-write_spot-clause-writes : goal.returns-in_err-write_spot-clause-writes
+returns-in_err-write_spot-clause-writes g c =
     let i = c.loop-spot.invariant in
-    let held = g.W.Write.contents (device_of c.args.writer.now) in
-    let begun = g.W.Write.contents (device_of c.loop-spot.writer) in
-    let holds = g.W.Write.contents (device_of c.write_spot.new.writer) in
-    on_err c.from_residual.result
-    (spots_stopped c.args.line c.args.text.now held begun holds (g.S.Spots.left c.args.spots.now) i.0 (g.S.Spots.left c.next_spot.new.self) c.in-Some.spot
-    (i.1 ∙ ap (λ l. i.0 ++ l) c.in-Some.ensures) i.2 c.in_err-write_spot.ensures.err)
+    breaks_off c.from_residual.ensures.1 c.in_err-write_spot.ensures
+    (spots_stopped c.args.line c.args.text.now (g.W.Write.contents (device_of c.args.writer.now)) (g.W.Write.contents (device_of c.loop-spot.writer)) (g.W.Write.contents (device_of c.write_spot.new.writer))
+    (g.S.Spots.left c.args.spots.now) i.0 (g.S.Spots.left c.next_spot.new.self) c.in-Some.spot (i.1 ∙ ap (λ l. i.0 ++ l) c.in-Some.ensures) i.2 c.in_err-write_spot.ensures.err)

@@ -1,15 +1,15 @@
 use Rattle.std.proofs.Common.{rules, ◌≡◌, [], get_or, ◌∙◌}
 use Rattle.cedarwood.specs.WatchedDevice.{device_of}
-use Rattle.text_lines.proofs.Bytes.{on_err}
 use Rattle.word_lists.proofs.WordLines.{bytes_more, bytes_stopped, first_byte}
+use Rattle.text_lines.proofs.Writing.{breaks_off}
 use Rattle.word_lists.proofs.word.write_bytes.Goals as goal
 
-pub returns-in_err-write_byte-clause-err : goal.returns-in_err-write_byte-clause-err
-returns-in_err-write_byte-clause-err g c =
+pub returns-in_err-write_byte : goal.returns-in_err-write_byte
+returns-in_err-write_byte g c =
     let i = c.loop-rest.invariant in
     let rest = c.loop-rest.rest.now in
     let some : rest ≡ [] → ⊥ = search rules in
-    on_err c.from_residual.result
+    breaks_off c.from_residual.ensures.1 c.in_err-write_byte.ensures
     (bytes_stopped (g.W.Write.contents (device_of c.args.writer.now)) (g.W.Write.contents (device_of c.loop-rest.writer)) (g.W.Write.contents (device_of c.write_byte.new.writer))
     c.args.text c.args.bytes.now i.0 rest (get_or rest 0 0) i.1 (first_byte rest some) i.2 c.in_err-write_byte.ensures.err)
 

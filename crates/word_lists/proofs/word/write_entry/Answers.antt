@@ -1,37 +1,23 @@
-use Rattle.std.proofs.Common.{w32, arith, ap, ◌∙◌, ◌≡◌, ◌++◌, ◌∷◌, [], List, ℕ, subst}
+use Rattle.std.proofs.Common.{w32, arith, ap, ◌∙◌, ◌≡◌, ◌++◌, ◌∷◌, [], List, ℕ}
 use Rattle.std.proofs.lemmas.Int.{to_z-of_z}
-use Rattle.std.specs.Prelude.{OnErr}
 use Rattle.std.specs.Fmt.{signed_decimal}
-use Rattle.cedarwood.specs.WatchedDevice.{device_of}
-use Rattle.text_lines.specs.Written.{WritesFront}
+use Rattle.text_lines.proofs.Writing.{breaks_first, then_writes, writes_same}
 use Rattle.word_lists.specs.Lines.{entry_line, word_text}
-use Rattle.text_lines.proofs.Bytes.{front_more, then_err, on_err}
 use Rattle.word_lists.proofs.Rooms.{all_from}
 use Rattle.word_lists.proofs.word.write_entry.Goals as goal
 
-pub returns-in_err-write_word-clause-err : goal.returns-in_err-write_word-clause-err
-returns-in_err-write_word-clause-err g c =
-    on_err c.from_residual.result
-    (front_more (g.W.Write.contents (device_of c.args.writer.now)) (g.W.Write.contents (device_of c.write_word.new.writer)) (word_text c.args.word.now)
-    (9 ∷ [] ++ (signed_decimal c.args.number ++ 10 ∷ [])) c.in_err-write_word.ensures.err)
+pub returns-in_err-write_word : goal.returns-in_err-write_word
+returns-in_err-write_word g c = breaks_first (9 ∷ [] ++ (signed_decimal c.args.number ++ 10 ∷ [])) c.from_residual.ensures.1 c.in_err-write_word.ensures
 
-pub returns-clause-err : goal.returns-clause-err
-returns-clause-err g c =
-    let held = g.W.Write.contents (device_of c.args.writer.now) in
-    let begun = g.W.Write.contents (device_of c.write_word.new.writer) in
-    let holds = g.W.Write.contents (device_of c.write_line.new.writer) in
-    let digits = word_text c.args.word.now in
-    let text = c.as_bytes.result.now in
-    let figures : text ≡ signed_decimal c.args.number = c.as_bytes.ensures.value ∙ c.format.ensures.text ∙ ap signed_decimal (to_z-of_z w32 c.args.number c.ranges.number) in
-    subst (λ (t : List ℕ). OnErr c.write_line.result (WritesFront held holds (digits ++ (9 ∷ [] ++ (t ++ 10 ∷ []))))) figures
-    (then_err c.write_line.result held begun holds digits (9 ∷ [] ++ (text ++ 10 ∷ [])) c.in_ok-write_word.ensures.ok c.write_line.ensures.err)
+pub returns : goal.returns
+returns g c =
+    let figures : c.as_bytes.result.now ≡ signed_decimal c.args.number = c.as_bytes.ensures.value ∙ c.format.ensures.text ∙ ap signed_decimal (to_z-of_z w32 c.args.number c.ranges.number) in
+    writes_same (ap (λ (text : List ℕ). word_text c.args.word.now ++ (9 ∷ [] ++ (text ++ 10 ∷ []))) figures)
+    (then_writes c.in_ok-write_word.ensures c.write_line.ensures)
 
-pub returns-then-finds_room-clause-err : goal.returns-then-finds_room-clause-err
-returns-then-finds_room-clause-err g c =
-    let held = g.W.Write.contents (device_of c.args.writer.now) in
-    let holds = g.W.Write.contents (device_of c.write_whole.new.writer) in
+pub returns-then-finds_room : goal.returns-then-finds_room
+returns-then-finds_room g c =
     let word = c.args.word.now in
-    let told = entry_line (word, c.args.number) in
     let put = c.put_entry-start in
-    let line = all_from 128 put.new.room told put.result (omega arith) (put.ensures.written ∙ ap (λ n. entry_line (word, n)) (to_z-of_z w32 c.args.number c.ranges.number)) in
-    subst (λ (l : List ℕ). OnErr c.write_whole.result (WritesFront held holds l)) line c.write_whole.ensures.err
+    let same = put.ensures.written ∙ ap (λ n. entry_line (word, n)) (to_z-of_z w32 c.args.number c.ranges.number) in
+    writes_same (all_from 128 put.new.room (entry_line (word, c.args.number)) put.result (omega arith) same) c.write_whole.ensures

@@ -43,6 +43,9 @@ returns-clause-any_moment g c =
     let opened = goes_on g.D.Device.moment g.D.Device.left_since c.args.self.now.device c.args.self.now.device c.write_at.new.self P _ at_start c.write_at.ensures.time here in
     goes_on g.D.Device.moment g.D.Device.left_since c.args.self.now.device c.write_at.new.self c.sync.new.self P _ opened c.sync.ensures.time (λ f now. here f (c.sync.ensures.crash f now))
 
+pub returns-clause-longer : goal.returns-clause-longer
+returns-clause-longer g c = ap (λ n. c.args.self.now.end + n) c.len.ensures
+
 pub returns-clause-acknowledged : goal.returns-clause-acknowledged
 returns-clause-acknowledged g c =
     let s = c.requires.settled in

@@ -8,12 +8,13 @@ use Rattle.cedar_store.specs.Batches.{all_erased_late}
 use Rattle.cedar_store.specs.Changes.{after_payloads}
 use Rattle.cedar_store.specs.declared.error.DurableError.TheVariants as error
 use Rattle.cedar_store.specs.Files.{state_of, IsEither, StandsFor}
+use Rattle.cedar_store.specs.Shortening.{IsLookedAfter}
 use Rattle.cedar_store.specs.Told.{changes_told}
-use Rattle.cedar_store.proofs.Compacted.{change_of_one, on_err, state_more, still_more}
+use Rattle.cedar_store.proofs.Compacted.{change_of_one, on_err, on_err_too, state_more, still_more}
 use Rattle.cedar_store.proofs.Shortened.{looked_since}
-use Rattle.cedar_store.proofs.Unwritten.{leaves_unwritten, unwritten_by_device}
+use Rattle.cedar_store.proofs.Unwritten.{leaves_unwritten, of_device_since, unwritten_by_device}
 use Rattle.cedar_store.proofs.States.{either}
-use Rattle.std.proofs.lemmas.Result.{on_ok_weaker, on_err_weaker}
+use Rattle.std.proofs.lemmas.Result.{on_ok_weaker}
 use Rattle.cedar_store.proofs.store.Store.acknowledge.Goals as goal
 
 pub compact_if_due-requires-clause-consistent : goal.compact_if_due-requires-clause-consistent
@@ -88,7 +89,7 @@ returns-in-Ok-clause-recorded g c =
     let seen = g.D.Device.seen in
     let between = c.append.new.self in
     on_ok_weaker c.compact_if_due.result
-    (λ more. ⊎_elim (λ same. inl same) (λ short. inr (λ is. short.0 (c.append.ensures.rule ∙ is), short.1, short.2))
+    (λ more. ⊎_elim (λ same. inl same) (λ short. inr (λ is. short.0 (c.append.ensures.rule ∙ is), short.1, short.2, short.3))
     (still_more (seen c.args.self.now.journal.device) (seen between.journal.device) (seen c.compact_if_due.new.self.journal.device) (payload_of c.args.frame.now) c.in-Ok.ensures.acknowledged more))
     c.compact_if_due.ensures.recorded
 
@@ -143,11 +144,22 @@ returns-else-not-self-clause-counted g c = λ was. c.append.ensures.counted was
 pub returns-in-Ok-clause-looked_after : goal.returns-in-Ok-clause-looked_after
 returns-in-Ok-clause-looked_after g c =
     let d = g.D.Device in
+    let old = c.args.self.now in
+    let between = c.append.new.self in
+    let new = c.compact_if_due.new.self in
     on_ok_weaker c.compact_if_due.result
-    (looked_since d.seen d.faults g.T.Words.state c.args.self.now c.append.new.self c.compact_if_due.new.self c.append.ensures.unlooked c.append.ensures.rule c.append.ensures.faults) c.compact_if_due.ensures.looked_after
+    (λ after.
+    subst (λ end. IsLookedAfter d.seen d.faults g.T.Words.state end old new) c.in-Ok.ensures.longer
+    (looked_since d.seen d.faults g.T.Words.state old between new between.journal.end c.append.ensures.unlooked c.append.ensures.rule c.append.ensures.faults after))
+    c.compact_if_due.ensures.looked_after
 
 pub returns-in-Ok-clause-told : goal.returns-in-Ok-clause-told
-returns-in-Ok-clause-told g c = on_err_weaker c.compact_if_due.result (λ is. inr is) c.compact_if_due.ensures.told
+returns-in-Ok-clause-told g c =
+    let faults = g.D.Device.faults in
+    on_err_too c.compact_if_due.result
+    (λ e fails told.
+    inr (of_device_since (faults c.args.self.now.journal.device) (faults c.append.new.self.journal.device) (faults c.compact_if_due.new.self.journal.device) e c.append.ensures.faults fails.0, told))
+    c.compact_if_due.ensures.err c.compact_if_due.ensures.told
 
 pub returns-then-not-self-clause-told : goal.returns-then-not-self-clause-told
 returns-then-not-self-clause-told g c = inl c.append.ensures.unlooked

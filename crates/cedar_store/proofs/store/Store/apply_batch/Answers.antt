@@ -1,14 +1,15 @@
 use Rattle.std.specs.Prelude.{nat_eq, option_and_then, option_map, Some}
 use Rattle.std.specs.List.{AllByRecursion}
-use Rattle.std.proofs.Common.{◌≡◌, false, true, ◌∙◌, ap, length, refl, subst, sym, rules}
+use Rattle.std.proofs.Common.{◌≡◌, false, true, ◌∙◌, ap, inl, length, refl, subst, sym, rules}
 use Rattle.std.proofs.lemmas.Bool.{false≢true}
 use Rattle.cedar_journal.specs.Device.{LeavesOnly}
 use Rattle.cedar_journal.specs.Frames.{payload_of}
 use Rattle.cedar_store.specs.Batches.{AreHeld, IsFaultless, all_erased_late, first_refused}
 use Rattle.cedar_store.specs.Changes.{after, all_changed}
 use Rattle.cedar_store.specs.Files.{IsEither}
+use Rattle.cedar_store.specs.Shortening.{end_behind, IsLookedAfter}
 use Rattle.cedar_store.specs.Told.{changes_told}
-use Rattle.cedar_store.proofs.Compacted.{failed_ready, recorded_in}
+use Rattle.cedar_store.proofs.Compacted.{failed_ready, on_each_err, recorded_in}
 use Rattle.cedar_store.proofs.FirstFaults.{first_handed, none_refused, nothing_told_of}
 use Rattle.cedar_store.proofs.Ordered.{stays_ordered}
 use Rattle.cedar_store.proofs.Payloads.{handed_on}
@@ -32,6 +33,9 @@ returns-then-is_empty-clause-faulty g c = λ _. subst (AllByRecursion IsFaultles
 
 pub returns-in-Ok-clause-nothing : goal.returns-in-Ok-clause-nothing
 returns-in-Ok-clause-nothing g c = λ none. absurd (false≢true (c.if-is_empty.ensures ∙ ap (λ l. nat_eq (length l) 0) none))
+
+pub returns-in_err-batch-clause-told : goal.returns-in_err-batch-clause-told
+returns-in_err-batch-clause-told g c = on_each_err c.from_residual.result (λ e. inl (refl, refl))
 
 pub returns-in_err-batch-clause-cause : goal.returns-in_err-batch-clause-cause
 returns-in_err-batch-clause-cause g c =
@@ -241,7 +245,8 @@ pub returns-clause-counted : goal.returns-clause-counted
 returns-clause-counted g c = λ was. c.acknowledge.ensures.counted was
 
 pub returns-in-Ok-clause-looked_after : goal.returns-in-Ok-clause-looked_after
-returns-in-Ok-clause-looked_after g c = λ _. c.in-Ok.ensures.looked_after
+returns-in-Ok-clause-looked_after g c = λ _.
+    subst (λ n. IsLookedAfter g.D.Device.seen g.D.Device.faults g.T.Words.state (end_behind c.args.self.now n) c.args.self.now c.acknowledge.new.self) c.in_ok-batch.ensures.length c.in-Ok.ensures.looked_after
 
 pub returns-then-is_empty-clause-looked_after : goal.returns-then-is_empty-clause-looked_after
 returns-then-is_empty-clause-looked_after g c = λ some. absurd (some (no_changes c.args.changes.now (sym c.if-is_empty.ensures)))

@@ -1,9 +1,10 @@
 use Rattle.std.specs.Prelude.{option_and_then, option_map}
-use Rattle.std.proofs.Common.{◌≡◌, [], ◌∷◌, false, length, ◌+◌, ◌∙◌, ap, rules}
+use Rattle.std.proofs.Common.{◌≡◌, [], ◌∷◌, false, length, ◌+◌, ◌∙◌, ap, inl, refl, rules, subst}
 use Rattle.cedar_journal.specs.Frames.{payload_of}
 use Rattle.cedarwood.specs.State.{after_erase}
 use Rattle.cedar_store.specs.Changes.{after, all_changed, erase_at}
-use Rattle.cedar_store.proofs.Compacted.{recorded_in}
+use Rattle.cedar_store.specs.Shortening.{end_behind, IsLookedAfter}
+use Rattle.cedar_store.proofs.Compacted.{on_each_err, recorded_in}
 use Rattle.cedar_store.proofs.Payloads.{handed_on}
 use Rattle.cedar_store.proofs.Unwritten.{erase_unwritten, leaves_so, ready_unwritten}
 use Rattle.cedar_store.proofs.store.Store.erase_bytes.Goals as goal
@@ -32,6 +33,13 @@ returns-in_err-acknowledge-clause-cause g c =
     let e = c.in_err-acknowledge.field-0.0 in
     handed_on c.from_residual-in_err-acknowledge.result e _ c.from_residual-in_err-acknowledge.ensures.1
     (erase_unwritten old.failed new.failed old.journal.end (length c.args.key.now + 1) (faults old.journal.device) (faults new.journal.device) e c.in_err-acknowledge.ensures.err)
+
+pub returns-in_err-erasure-clause-told : goal.returns-in_err-erasure-clause-told
+returns-in_err-erasure-clause-told g c = on_each_err c.from_residual-in_err-erasure.result (λ e. inl (refl, refl))
+
+pub returns-in_err-acknowledge-clause-told : goal.returns-in_err-acknowledge-clause-told
+returns-in_err-acknowledge-clause-told g c =
+    handed_on c.from_residual-in_err-acknowledge.result c.in_err-acknowledge.field-0.0 _ c.from_residual-in_err-acknowledge.ensures.1 c.in_err-acknowledge.ensures.told
 
 pub returns-in_err-acknowledge-clause-err : goal.returns-in_err-acknowledge-clause-err
 returns-in_err-acknowledge-clause-err g c =
@@ -67,4 +75,5 @@ pub returns-clause-counted : goal.returns-clause-counted
 returns-clause-counted g c = λ was. c.acknowledge.ensures.counted was
 
 pub returns-clause-looked_after : goal.returns-clause-looked_after
-returns-clause-looked_after g c = λ _. c.in_ok-acknowledge.ensures.looked_after
+returns-clause-looked_after g c = λ _.
+    subst (λ n. IsLookedAfter g.D.Device.seen g.D.Device.faults g.T.Words.state (end_behind c.args.self.now n) c.args.self.now c.acknowledge.new.self) c.in_ok-erasure.ensures.length c.in_ok-acknowledge.ensures.looked_after

@@ -1,5 +1,5 @@
 use Rattle.std.specs.Prelude.{option_and_then, option_map, FitsSigned, Some}
-use Rattle.std.proofs.Common.{◌≡◌, [], ◌∷◌, false, true, length, ◌+◌, ◌∙◌, ap, subst, sym, rules}
+use Rattle.std.proofs.Common.{◌≡◌, [], ◌∷◌, false, true, length, ◌+◌, ◌∙◌, ap, inl, refl, subst, sym, rules}
 use Rattle.std.proofs.lemmas.Bool.{false≢true}
 use Rattle.std.proofs.lemmas.Int.{to_z-of_z}
 use mir.Syntax.{w32}
@@ -8,9 +8,10 @@ use Rattle.cedar_journal.specs.Frames.{payload_of}
 use Rattle.cedarwood.specs.State.{after_put}
 use Rattle.cedar_store.specs.Changes.{after, all_changed, put_at}
 use Rattle.cedar_store.specs.Files.{IsEither}
+use Rattle.cedar_store.specs.Shortening.{end_behind, IsLookedAfter}
 use Rattle.cedar_store.specs.Undo.{IsPutOf}
 use Rattle.cedarwood.specs.Fault.{fault}
-use Rattle.cedar_store.proofs.Compacted.{failed_ready, recorded_in}
+use Rattle.cedar_store.proofs.Compacted.{failed_ready, on_each_err, recorded_in}
 use Rattle.cedar_store.proofs.Unwritten.{change_unwritten, has_failed, lacks_room, leaves_unwritten}
 use Rattle.cedar_store.proofs.store.Store.insert_bytes.Goals as goal
 
@@ -187,5 +188,9 @@ returns-then-self-2-clause-counted g c = λ was. c.acknowledge.ensures.counted w
 pub returns-in-Ok-clause-counted : goal.returns-in-Ok-clause-counted
 returns-in-Ok-clause-counted g c = λ was. c.acknowledge.ensures.counted was
 
+pub returns-in_err-held-clause-told : goal.returns-in_err-held-clause-told
+returns-in_err-held-clause-told g c = on_each_err c.from_residual.result (λ e. inl (refl, refl))
+
 pub returns-in-Ok-acknowledge-clause-looked_after : goal.returns-in-Ok-acknowledge-clause-looked_after
-returns-in-Ok-acknowledge-clause-looked_after g c = c.in-Ok-acknowledge.ensures.looked_after
+returns-in-Ok-acknowledge-clause-looked_after g c =
+    subst (λ n. IsLookedAfter g.D.Device.seen g.D.Device.faults g.T.Words.state (end_behind c.args.self.now n) c.args.self.now c.acknowledge.new.self) c.in-Ok.ensures.length c.in-Ok-acknowledge.ensures.looked_after

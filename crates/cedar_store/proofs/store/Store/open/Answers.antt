@@ -1,9 +1,10 @@
 use Rattle.std.specs.Prelude.{option_and_then, option_map}
 use Rattle.std.proofs.Common.{◌≡◌, ◌∙◌, ap, length, refl, rules, subst, sym}
-use Rattle.cedar_journal.specs.Files.{file_payloads, HasExtent}
+use Rattle.cedar_journal.specs.Files.{file_payloads, format_of, HasExtent}
 use Rattle.cedarwood.specs.State.{new_state}
 use Rattle.cedar_store.specs.Changes.{after_payloads}
-use Rattle.cedar_store.specs.Files.{record_count}
+use Rattle.cedar_store.specs.Files.{format_named, record_count}
+use Rattle.cedar_store.proofs.Opened.{format_there}
 use Rattle.cedar_store.proofs.Ordered.{is_ordered}
 use Rattle.cedar_store.proofs.States.{not_corrupt}
 use Rattle.cedar_store.proofs.store.Store.open.Goals as goal
@@ -23,6 +24,13 @@ returns-in-Ok-open_read-clause-ready g c =
         };
       },
     )
+
+pub returns-in-Ok-open_read-clause-format : goal.returns-in-Ok-open_read-clause-format
+returns-in-Ok-open_read-clause-format g c =
+    let seen = g.D.Device.seen in
+    c.in-Ok-open_read.ensures.format
+    ∙ format_there (seen c.read_words.new.device) c.in-Ok.extent c.in-Ok.ensures.extent
+    ∙ ap (λ f. format_named (format_of f)) c.read_words.ensures.seen
 
 pub count_records-records-requires : goal.count_records-records-requires
 count_records-records-requires g c =

@@ -74,6 +74,23 @@ returns-in-Ok-clause-counted g c = λ was usable.
     ap (option_map length) (replaced_stands d.seen d.may_leave c.replace.new.self image.bytes.items image.shape image.whole is)
     ∙ ap (λ n. Some n) (c.requires.count ∙ sym c.count-records.ensures.entries)
 
+pub returns-in-Ok-clause-each : goal.returns-in-Ok-clause-each
+returns-in-Ok-clause-each g c =
+    let d = g.D.Device in
+    let image = c.args.image.now in
+    let is = c.in-Ok.ensures.replaced ∙ c.bytes.ensures in
+    ap (option_map length) (replaced_stands d.seen d.may_leave c.replace.new.self image.bytes.items image.shape image.whole is)
+    ∙ ap (λ n. Some n) c.requires.count
+
+pub returns-in-Ok-clause-whole : goal.returns-in-Ok-clause-whole
+returns-in-Ok-clause-whole g c =
+    let image = c.args.image.now in
+    let is = c.in-Ok.ensures.replaced ∙ c.bytes.ensures in
+    let some = some_gate image.bytes.items image.shape in
+    let size = ap length c.bytes-in-Ok.ensures in
+    let long = ap length is in
+    omega (arith, some, size, long, c.saturating_sub-end.ensures)
+
 pub returns-in-Err-Kept-clause-counted : goal.returns-in-Err-Kept-clause-counted
 returns-in-Err-Kept-clause-counted g c = λ was usable.
     let seen = g.D.Device.seen in

@@ -1,0 +1,86 @@
+use Rattle.std.proofs.Common.{rules, ◌≡◌, ◌∷◌, [], ℤ, true, false, Option, Some, refl, ap, sym, subst, ◌∙◌, FitsSigned, to_z, of_z, w32}
+use Rattle.std.specs.Prelude.{filter}
+use Rattle.std.proofs.lemmas.Int.{to_z-of_z}
+use Rattle.cedar_tree.specs.Queries.{Entry}
+use Rattle.key_ranges.specs.Spans.{KeySpan}
+use Rattle.last_entries.specs.Nearness.{IsFirstOf}
+use Rattle.accepted_entries.specs.Accepted.{accepted_in, entries_in_span, LeavesKey}
+use Rattle.accepted_entries.proofs.AcceptLemmas.{behind_first, end_of_itself, end_over, first_left, passed_over}
+use Rattle.accepted_entries.proofs.next.next_accepted.Goals as goal
+
+pub returns-then-leave_first-clause-found : goal.returns-then-leave_first-clause-found
+returns-then-leave_first-clause-found g c =
+    let es = g.S.Ascending.entries c.args.source.now in
+    let accepts = g.M.Automaton.accepts c.args.automaton.now in
+    let old = c.loop-key.range in
+    let new = c.leave_first.new.range in
+    let key = c.first_in_range.new.key.items in
+    let value : ℤ = c.in-Some.value in
+    let first : IsFirstOf (entries_in_span old es) key (Some value) = subst (λ (o : Option ℤ). IsFirstOf (entries_in_span old es) key o) c.in-Some.is c.in_ok-value.ensures in
+    let ends : c.in_ok-leave_first.field-0 ≡ true = search rules in
+    let leaves : LeavesKey accepts key old new true = subst (λ b. LeavesKey accepts key old new b) ends c.in_ok-leave_first.ensures.left in
+    let fits : FitsSigned w32 value = search rules in
+    let number : to_z w32 (of_z w32 value) ≡ value = to_z-of_z w32 value fits in
+    sym c.loop-key.invariant.accepted
+    ∙ first_left accepts old new es key value first.0 c.requires first.1 leaves.0 leaves.1
+    ∙ ap (λ (n : ℤ). (key, n) ∷ accepted_in accepts new es) (sym number)
+
+pub returns-then-leave_first-clause-behind : goal.returns-then-leave_first-clause-behind
+returns-then-leave_first-clause-behind g c =
+    let es = g.S.Ascending.entries c.args.source.now in
+    let accepts = g.M.Automaton.accepts c.args.automaton.now in
+    let old = c.loop-key.range in
+    let new = c.leave_first.new.range in
+    let key = c.first_in_range.new.key.items in
+    let value : ℤ = c.in-Some.value in
+    let first : IsFirstOf (entries_in_span old es) key (Some value) = subst (λ (o : Option ℤ). IsFirstOf (entries_in_span old es) key o) c.in-Some.is c.in_ok-value.ensures in
+    let ends : c.in_ok-leave_first.field-0 ≡ true = search rules in
+    let leaves : LeavesKey accepts key old new true = subst (λ b. LeavesKey accepts key old new b) ends c.in_ok-leave_first.ensures.left in
+    behind_first c.args.range.now old new es key value first.0 c.loop-key.invariant.end first.1 leaves.1
+
+pub loop-key-init : goal.loop-key-init
+loop-key-init g c = record { accepted = refl; end = end_of_itself c.args.range.now }
+
+pub loop-key-preserved : goal.loop-key-preserved
+loop-key-preserved g c =
+    let es = g.S.Ascending.entries c.args.source.now in
+    let accepts = g.M.Automaton.accepts c.args.automaton.now in
+    let old = c.loop-key.range in
+    let new = c.leave_first.new.range in
+    let key = c.first_in_range.new.key.items in
+    let value : ℤ = c.in-Some.value in
+    let first : IsFirstOf (entries_in_span old es) key (Some value) = subst (λ (o : Option ℤ). IsFirstOf (entries_in_span old es) key o) c.in-Some.is c.in_ok-value.ensures in
+    let goes_on : c.in_ok-leave_first.field-0 ≡ false = search rules in
+    let leaves : LeavesKey accepts key old new false = subst (λ b. LeavesKey accepts key old new b) goes_on c.in_ok-leave_first.ensures.left in
+    record {
+      accepted = sym (passed_over accepts old new es key value first.0 c.requires first.1 leaves).0 ∙ c.loop-key.invariant.accepted;
+      end = end_over accepts c.args.range.now old new key c.loop-key.invariant.end leaves;
+    }
+
+pub loop-key-smaller : goal.loop-key-smaller
+loop-key-smaller g c =
+    let es = g.S.Ascending.entries c.args.source.now in
+    let accepts = g.M.Automaton.accepts c.args.automaton.now in
+    let old = c.loop-key.range in
+    let new = c.leave_first.new.range in
+    let key = c.first_in_range.new.key.items in
+    let value : ℤ = c.in-Some.value in
+    let first : IsFirstOf (entries_in_span old es) key (Some value) = subst (λ (o : Option ℤ). IsFirstOf (entries_in_span old es) key o) c.in-Some.is c.in_ok-value.ensures in
+    let goes_on : c.in_ok-leave_first.field-0 ≡ false = search rules in
+    let leaves : LeavesKey accepts key old new false = subst (λ b. LeavesKey accepts key old new b) goes_on c.in_ok-leave_first.ensures.left in
+    (passed_over accepts old new es key value first.0 c.requires first.1 leaves).1
+
+pub returns-clause-found : goal.returns-clause-found
+returns-clause-found g c =
+    let es = g.S.Ascending.entries c.args.source.now in
+    let accepts = g.M.Automaton.accepts c.args.automaton.now in
+    let range = c.loop-key.range in
+    let none : entries_in_span range es ≡ [] = search rules in
+    let gone : accepted_in accepts range es ≡ [] = ap (filter (λ (e : Entry). accepts e.0)) none in
+    (sym c.loop-key.invariant.accepted ∙ gone, gone)
+
+pub returns-in_err-leave_first-clause-refused : goal.returns-in_err-leave_first-clause-refused
+returns-in_err-leave_first-clause-refused g c =
+    let es = g.S.Ascending.entries c.args.source.now in
+    let accepts = g.M.Automaton.accepts c.args.automaton.now in
+    ap (λ (range : KeySpan). accepted_in accepts range es) c.in_err-leave_first.ensures.refused ∙ c.loop-key.invariant.accepted

@@ -1,0 +1,3 @@
+pub mod HeapLemmas
+pub mod OrderLemmas
+pub mod TurnLemmas

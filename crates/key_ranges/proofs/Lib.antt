@@ -1,0 +1,2 @@
+pub mod EntryRangeLemmas
+pub mod SpanLemmas

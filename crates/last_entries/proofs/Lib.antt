@@ -1,0 +1,3 @@
+pub mod EndLemmas
+pub mod NearLemmas
+pub mod PathLemmas
