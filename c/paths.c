@@ -12,7 +12,7 @@
 #include <unistd.h>
 
 /* A load within its limit of memory takes fewer bytes than the limit and a header: so one byte more tells that a file isn't such. */
-enum { HEADER_LENGTH = 88, FIRST_ROOM = 1 << 16, SLOT_BYTES = 11 };
+enum { HEADER_LENGTH = 88, FIRST_ROOM = 1 << 16 };
 
 /* How many bytes a name has at most, what is kept of one that has no room for a suffix, how many names are tried for a new file, and how
  * many bytes the system takes of a path, with its byte 0. */
@@ -236,17 +236,11 @@ uint32_t cedar_replace_file(const char *path, const uint8_t *bytes, size_t lengt
 
 /* The bytes of the dictionary's file, in memory that the caller frees, also after an error. */
 static uint32_t save_bytes(const cedar_dictionary *d, bool is_full, uint8_t **bytes, size_t *length) {
-    /* This is enough, also where all slots are listed; were it not, the library would tell how much is. */
-    size_t room = FIRST_ROOM + SLOT_BYTES * cedar_capacity(d);
-    uint32_t status;
-    do {
-        free(*bytes);
-        *bytes = calloc(room, 1);
-        if (*bytes == NULL) return CEDAR_MEMORY;
-        status = cedar_save(d, is_full, *bytes, room, length);
-        room = *length;
-    } while (status == CEDAR_NO_ROOM);
-    return status;
+    uint8_t none = 0;
+    uint32_t status = cedar_save(d, is_full, &none, 0, length);
+    if (status != CEDAR_NO_ROOM) return status;
+    *bytes = malloc(*length);
+    return *bytes == NULL ? CEDAR_MEMORY : cedar_save(d, is_full, *bytes, *length, length);
 }
 
 uint32_t cedar_save_file(const cedar_dictionary *d, bool is_full, const char *path) {

@@ -136,9 +136,9 @@ uint32_t cedar_load_reduced(cedar_dictionary *d, const uint8_t *bytes, size_t le
 uint32_t cedar_load_any(cedar_dictionary *d, const uint8_t *bytes, size_t length, size_t memory_limit);
 
 /* Writes the file of *d to the beginning of a buffer, and its number of bytes to *needed; the other elements keep their content. The file
- * lists the slots and blocks in use, or all of them if is_full, as format 1.0 does. Returns CEDAR_OK; CEDAR_IS_CLOSED; CEDAR_NO_ROOM if the
- * file has more than room bytes (call with room 0 to learn how many); or CEDAR_MEMORY, since it allocates a copy of the file. After an
- * error the buffer is as it was. */
+ * lists the slots and blocks in use, or all of them if is_full, as format 1.0 does. Returns CEDAR_OK; CEDAR_IS_CLOSED; or CEDAR_NO_ROOM if
+ * the file has more than room bytes: a call with room 0 says how many, and looks at no slot. It allocates nothing. After an error the
+ * buffer is as it was. */
 uint32_t cedar_save(const cedar_dictionary *d, bool is_full, uint8_t *buffer, size_t room, size_t *needed);
 
 /* Writes the text of a status to the beginning of a buffer, as far as there is room, and returns how many bytes the text has. It writes no

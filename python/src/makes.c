@@ -6,7 +6,7 @@
 #include <string.h>
 
 /* Where a file's header has the settings: docs/FORMAT.md. */
-enum { FILE_FLAGS = 14, FILE_MAX_TRIAL = 16, FILE_CAPACITY = 64, FILE_HEADER = 88, FIRST_FILE = 1 << 16 };
+enum { FILE_FLAGS = 14, FILE_MAX_TRIAL = 16, FILE_CAPACITY = 64, FILE_HEADER = 88 };
 
 typedef struct Settings {
     int is_text;
@@ -587,21 +587,19 @@ PyObject *core_has_failed(Core *core, PyObject *nothing) {
     return PyBool_FromLong(cedar_store_failed(&core->store));
 }
 
-/* The file's bytes. They are written once more where the first guess at their number was too low. */
+/* The file's bytes. The first call says how many there are. */
 PyObject *core_dump(Core *core, PyObject *given) {
     Turn turn;
     int is_full = PyObject_IsTrue(given);
     if (is_full < 0 || core_ready(core) < 0 || turn_begin(core, READS, is_long_table(core), &turn) < 0) return NULL;
     turn_yield(&turn);
-    size_t room = FIRST_FILE, needed = 0;
-    uint32_t status;
-    uint8_t *buffer = NULL;
-    do {
-        uint8_t *grown = realloc(buffer, room);
-        status = grown ? cedar_save(turn.dictionary, is_full, grown, room, &needed) : CEDAR_MEMORY;
-        if (grown) buffer = grown;
-        room = needed;
-    } while (status == CEDAR_NO_ROOM);
+    size_t needed = 0;
+    uint8_t none = 0, *buffer = NULL;
+    uint32_t status = cedar_save(turn.dictionary, is_full, &none, 0, &needed);
+    if (status == CEDAR_NO_ROOM) {
+        buffer = malloc(needed);
+        status = buffer ? cedar_save(turn.dictionary, is_full, buffer, needed, &needed) : CEDAR_MEMORY;
+    }
     turn_end(&turn);
     PyObject *data = NULL;
     if (status == CEDAR_OK) data = PyBytes_FromStringAndSize((const char *)buffer, (Py_ssize_t)needed);

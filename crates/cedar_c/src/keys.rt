@@ -29,6 +29,8 @@ pub extern "C" fn cedar_keys(
     ensures written { result ≡ OK → buffer.new ≡ keys_in (walk (shown_tree handle.old)) ++ drop needed.new buffer.old }
     ensures needed { (result ≡ OK) ⊎ (result ≡ NO_ROOM) → needed.new ≡ length (keys_in (walk (shown_tree handle.old))) }
     ensures room { (result ≡ OK → needed.new ≤ length buffer.old) × (result ≡ NO_ROOM → length buffer.old < needed.new) }
+
+    //= Otherwise `cedar_keys` returns `MEMORY`.
     ensures refused { (result ≡ OK) ⊎ (((result ≡ CLOSED) ⊎ (result ≡ MEMORY) ⊎ (result ≡ NO_ROOM)) × (buffer.new ≡ buffer.old)) }
     ensures kept { handle.new ≡ handle.old }
 {

@@ -1,31 +1,30 @@
 //! A dictionary's file, written into a buffer of the caller's.
 
-ghost use Rattle.std.specs.Prelude.{◌++◌, ◌<◌, ◌↔◌, ◌≡◌, ◌≤◌, ◌⊎◌, drop, IfSome};
-ghost use Rattle.std.specs.Prelude.{length, None, take};
+ghost use Rattle.std.specs.Prelude.{◌++◌, ◌<◌, ◌↔◌, ◌≡◌, ◌≤◌, ◌⊎◌, drop, IfSome, length, None};
+ghost use Rattle.std.specs.Prelude.{take};
 ghost use Rattle.cedar_c.specs.Words.{file_in, minor_of, shown_in, table_bytes};
 
 use crate::any::AnyCedar;
 use crate::reading::Reading;
-use crate::status::{CLOSED, MEMORY, NO_ROOM, OK};
-use cedarwood::{Layout, Trie, Watched};
+use crate::status::{CLOSED, NO_ROOM, OK};
+use cedarwood::{Layout, Trie};
 use std::alloc::Global;
 
 /// Writes the dictionary's file into the first elements of a buffer, and how many bytes it has. The file lists the slots and blocks that
-/// are in use, or all of them if `is_full`, as format 1.0 does. It allocates a copy of the file.
+/// are in use, or all of them if `is_full`, as format 1.0 does. It allocates nothing, and without room it looks at no slot.
 ///
 /// # Errors
-/// `CLOSED` if the handle is closed, `NO_ROOM` if the file has more bytes than the buffer has elements: then it writes how many; `MEMORY`
-/// if an allocation was refused. After an error the buffer is as it was.
+/// `CLOSED` if the handle is closed, `NO_ROOM` if the file has more bytes than the buffer has elements: then it writes how many. After an
+/// error the buffer is as it was.
 #[unsafe(no_mangle)]
 pub extern "C" fn cedar_save(
     handle: &mut Reading,
-    alloc: Global,
     is_full: bool,
     buffer: &mut [u8],
     needed: &mut usize,
 ) -> u32
-    //= Both return `CLOSED` exactly if the handle is closed, `OK` only if all fits, `NO_ROOM` only if it doesn't, and otherwise `MEMORY`.
-    //  After any error the buffer is as it was. [with room, refused; also cedar_keys]
+    //= Both return `CLOSED` exactly if the handle is closed, `OK` only if all fits, and `NO_ROOM` only if it doesn't. After any error the
+    //  buffer is as it was. [with room, refused; also cedar_keys]
     ensures closed { (result ≡ CLOSED) ↔ (shown_in handle.old ≡ None) }
 
     //= A save writes the bytes of the dictionary's table, in 1.1 or in 1.0, into the first elements of a buffer, and doesn't change the
@@ -33,7 +32,9 @@ pub extern "C" fn cedar_save(
     ensures saved { result ≡ OK → IfSome (shown_in handle.old) (λ a. buffer.new ≡ file_in is_full a ++ drop needed.new buffer.old) }
     ensures needed { (result ≡ OK) ⊎ (result ≡ NO_ROOM) → IfSome (shown_in handle.old) (λ a. needed.new ≡ length (file_in is_full a)) }
     ensures room { (result ≡ OK → needed.new ≤ length buffer.old) × (result ≡ NO_ROOM → length buffer.old < needed.new) }
-    ensures refused { (result ≡ OK) ⊎ (((result ≡ CLOSED) ⊎ (result ≡ MEMORY) ⊎ (result ≡ NO_ROOM)) × (buffer.new ≡ buffer.old)) }
+
+    //= `cedar_save` fails in no other way than these two.
+    ensures refused { (result ≡ OK) ⊎ (((result ≡ CLOSED) ⊎ (result ≡ NO_ROOM)) × (buffer.new ≡ buffer.old)) }
     ensures kept { handle.new ≡ handle.old }
 {
     if !handle.is_open() {
@@ -43,74 +44,81 @@ pub extern "C" fn cedar_save(
         .shown
         .see()
         .dictionary()
-        .save(alloc, is_full, buffer, needed)
+        .save(is_full, buffer, needed)
 }
 
 impl AnyCedar {
     /// Writes the dictionary's file into the first elements of a buffer, and how many bytes it has.
-    fn save(&self, alloc: Global, is_full: bool, buffer: &mut [u8], needed: &mut usize) -> u32
+    fn save(&self, is_full: bool, buffer: &mut [u8], needed: &mut usize) -> u32
         ensures saved { result ≡ OK → buffer.new ≡ file_in is_full self.now ++ drop needed.new buffer.old }
-        ensures needed { (result ≡ OK) ⊎ (result ≡ NO_ROOM) → needed.new ≡ length (file_in is_full self.now) }
+        ensures needed { needed.new ≡ length (file_in is_full self.now) }
         ensures room { (result ≡ OK → needed.new ≤ length buffer.old) × (result ≡ NO_ROOM → length buffer.old < needed.new) }
-        ensures refused { (result ≡ OK) ⊎ (((result ≡ MEMORY) ⊎ (result ≡ NO_ROOM)) × (buffer.new ≡ buffer.old)) }
-    {
-        match self.file(alloc, is_full) {
-            Some(file) => copy_whole(file.as_slice(), buffer, needed),
-            None => MEMORY,
-        }
-    }
-
-    fn file(&self, alloc: Global, is_full: bool) -> Option<Vec<u8, Global>>
-        ensures { IfSome result (λ file. file.items ≡ file_in is_full self.now) }
+        ensures refused { (result ≡ OK) ⊎ ((result ≡ NO_ROOM) × (buffer.new ≡ buffer.old)) }
     {
         match self {
-            AnyCedar::Default(cedar) => either_file(cedar, alloc, is_full),
-            AnyCedar::Reduced(cedar) => either_file(cedar, alloc, is_full),
+            AnyCedar::Default(cedar) => save_either(cedar, is_full, buffer, needed),
+            AnyCedar::Reduced(cedar) => save_either(cedar, is_full, buffer, needed),
         }
     }
 }
 
-/// The bytes of a dictionary's file in either version, or `None` if an allocation is refused.
-fn either_file<L: Layout, const SLOTS: usize>(
+/// Writes a dictionary's file in either version into the first elements of a buffer, if it has room for all, and how many bytes it has.
+fn save_either<L: Layout, const SLOTS: usize>(
     trie: &Trie<L, SLOTS, Global>,
-    alloc: Global,
     is_full: bool,
-) -> Option<Vec<u8, Global>>
-    ensures { IfSome result (λ file. file.items ≡ table_bytes (minor_of is_full) trie.now.table) }
+    buffer: &mut [u8],
+    needed: &mut usize,
+) -> u32
+    ensures saved { result ≡ OK → buffer.new ≡ table_bytes (minor_of is_full) trie.now.table ++ drop needed.new buffer.old }
+    ensures needed { needed.new ≡ length (table_bytes (minor_of is_full) trie.now.table) }
+    ensures room { (result ≡ OK → needed.new ≤ length buffer.old) × (result ≡ NO_ROOM → length buffer.old < needed.new) }
+    ensures refused { (result ≡ OK) ⊎ ((result ≡ NO_ROOM) × (buffer.new ≡ buffer.old)) }
 {
     if is_full {
-        file_v1_0(trie, alloc)
+        save_v1_0(trie, buffer, needed)
     } else {
-        file_of(trie, alloc)
+        save_v1_1(trie, buffer, needed)
     }
 }
 
 /// The same in format 1.1.
-fn file_of<L: Layout, const SLOTS: usize>(
+fn save_v1_1<L: Layout, const SLOTS: usize>(
     trie: &Trie<L, SLOTS, Global>,
-    alloc: Global,
-) -> Option<Vec<u8, Global>>
-    ensures { IfSome result (λ file. file.items ≡ table_bytes 1 trie.now.table) }
+    buffer: &mut [u8],
+    needed: &mut usize,
+) -> u32
+    ensures saved { result ≡ OK → buffer.new ≡ table_bytes 1 trie.now.table ++ drop needed.new buffer.old }
+    ensures needed { needed.new ≡ length (table_bytes 1 trie.now.table) }
+    ensures room { (result ≡ OK → needed.new ≤ length buffer.old) × (result ≡ NO_ROOM → length buffer.old < needed.new) }
+    ensures refused { (result ≡ OK) ⊎ ((result ≡ NO_ROOM) × (buffer.new ≡ buffer.old)) }
 {
-    let mut writer = Watched::new(Vec::new(alloc));
-    match trie.save_to_writer(&mut writer) {
-        Ok(()) => Some(writer.into_inner()),
-        Err(_) => None,
+    let len = trie.saved_len();
+    *needed = len;
+    if buffer.len() < len {
+        return NO_ROOM;
     }
+    *needed = trie.save_to_slice(buffer);
+    OK
 }
 
 /// The same in format 1.0.
-fn file_v1_0<L: Layout, const SLOTS: usize>(
+fn save_v1_0<L: Layout, const SLOTS: usize>(
     trie: &Trie<L, SLOTS, Global>,
-    alloc: Global,
-) -> Option<Vec<u8, Global>>
-    ensures { IfSome result (λ file. file.items ≡ table_bytes 0 trie.now.table) }
+    buffer: &mut [u8],
+    needed: &mut usize,
+) -> u32
+    ensures saved { result ≡ OK → buffer.new ≡ table_bytes 0 trie.now.table ++ drop needed.new buffer.old }
+    ensures needed { needed.new ≡ length (table_bytes 0 trie.now.table) }
+    ensures room { (result ≡ OK → needed.new ≤ length buffer.old) × (result ≡ NO_ROOM → length buffer.old < needed.new) }
+    ensures refused { (result ≡ OK) ⊎ ((result ≡ NO_ROOM) × (buffer.new ≡ buffer.old)) }
 {
-    let mut writer = Watched::new(Vec::new(alloc));
-    match trie.save_v1_0_to_writer(&mut writer) {
-        Ok(()) => Some(writer.into_inner()),
-        Err(_) => None,
+    let len = trie.saved_v1_0_len();
+    *needed = len;
+    if buffer.len() < len {
+        return NO_ROOM;
     }
+    *needed = trie.save_v1_0_to_slice(buffer);
+    OK
 }
 
 /// Writes some bytes into the first elements of a buffer, if it has room for all, and how many they are.

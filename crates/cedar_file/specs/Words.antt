@@ -9,7 +9,8 @@ pub use Rattle.cedar_file.specs.TreeWalk.{walk_start}
 pub use Rattle.cedar_format.specs.Format.{CountsWithin, IsFile, need, trial_refusal}
 pub use Rattle.cedar_format.specs.Reading.{IsIo, IsLack, TellsBreaks}
 pub use Rattle.cedar_format.specs.Refusal.{CorruptData, refusal, refusal_of}
-pub use Rattle.cedar_format.specs.Tables.{file_fields, FitsTable, header_of, table_bytes}
+pub use Rattle.cedar_format.specs.Tables.{file_fields, FitsTable, header_of, slots_listed}
+pub use Rattle.cedar_format.specs.Tables.{table_bytes}
 pub use Rattle.cedar_format.specs.WatchedDevice.{device_of, has_failed}
 pub use Rattle.cedar_model.specs.Meaning.Family.{base_in, base_of}
 pub use Rattle.cedar_model.specs.Meaning.WellFormed.{is_value, IsWellFormed}

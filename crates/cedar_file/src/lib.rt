@@ -8,4 +8,4 @@ mod save;
 
 pub use check::{check_places, check_tree, check_well_formed};
 pub use load::load_table;
-pub use save::write_table;
+pub use save::{put_table, table_len, write_table};

@@ -12,7 +12,7 @@ use Rattle.std.specs.List.{flat_map, range_with_len, starts_with}
 use lib.Count.{ones_step}
 use Rattle.cedar_model.specs.Table.Cells.{is_held}
 use Rattle.cedar_model.specs.Table.Layouts.{layout_byte}
-use Rattle.cedar_slots.specs.Places.{IsPowerOfTwo}
+use Rattle.cedar_slots.specs.Places.{IsPowerOfTwo, Shaped}
 use Rattle.cedar_model.specs.Meaning.Reading.{tree_read}
 use Rattle.cedar_model.specs.Table.TableFields.{Fields, size_of}
 use Rattle.cedar_model.specs.Meaning.WellFormed.{cells_in, IsWellFormed, tree_of}
@@ -122,12 +122,12 @@ sizes_pass version slots limit T formed within =
     let needed : nat_le (need h) limit ≡ true = le-leb (need h) limit within in
     rw (array, power, least, most, whole, some, inside, blocks, reject, entries, needed) refl
 
-body_has : (version slots : ℕ) (T : Fields) → IsWellFormed slots T → length (table_bytes version T) ≡ file_len (header_of version T)
-body_has version slots T formed =
+-- how many bytes the file of a table has
+pub length-table_bytes : (version : ℕ) (T : Fields) → Shaped T.places → length (table_bytes version T) ≡ file_len (header_of version T)
+length-table_bytes version T shaped =
     let h = header_of version T in
     let n = slots_listed version T in
-    let sound = formed.table.sound in
-    let within = listed_fits version T sound.shaped in
+    let within = listed_fits version T shaped in
     let listed_nodes = take n T.places.slots.nodes in
     let listed_infos = take n T.places.slots.infos in
     let listed_blocks = take (n / 256) T.places.blocks.records in
@@ -140,8 +140,8 @@ body_has version slots T formed =
     let first = length-append nodes (infos ++ (blocks ++ reject)) in
     let second = length-append infos (blocks ++ reject) in
     let third = length-append blocks reject in
-    let nodes_taken : length listed_nodes ≡ n = length-take-le n T.places.slots.nodes (omega (arith, sound.shaped.nodes)) in
-    let infos_taken : length listed_infos ≡ n = length-take-le n T.places.slots.infos (omega (arith, sound.shaped.nodes, sound.shaped.infos)) in
+    let nodes_taken : length listed_nodes ≡ n = length-take-le n T.places.slots.nodes (omega (arith, shaped.nodes)) in
+    let infos_taken : length listed_infos ≡ n = length-take-le n T.places.slots.infos (omega (arith, shaped.nodes, shaped.infos)) in
     let blocks_taken : length listed_blocks ≡ n / 256 = length-take-le (n / 256) T.places.blocks.records (omega arith) in
     let nodes_len = length-flat_map_same node_bytes 8 node_len listed_nodes in
     let infos_len = length-flat_map_same info_bytes 2 info_len listed_infos in
@@ -174,4 +174,4 @@ tables_pass version slots limit T known formed fits within =
     let again : header_at (take 88 bytes) ≡ h = ap header_at front ∙ read_again byte h fits.header in
     none_of_four (header_refusal byte (take 88 bytes)) (size_refusal slots limit (header_at (take 88 bytes))) (body_refusal (header_at (take 88 bytes)) bytes) (trial_refusal (header_at (take 88 bytes)))
     (ap (header_refusal byte) front ∙ header_passes byte h known) (ap (size_refusal slots limit) again ∙ sizes_pass version slots limit T formed within)
-    (ap (λ k. body_refusal k bytes) again ∙ body_passes (file_len h) (length bytes) (body_has version slots T formed)) (ap trial_refusal again ∙ trials_pass h formed.table.sound.pruned.max_trial)
+    (ap (λ k. body_refusal k bytes) again ∙ body_passes (file_len h) (length bytes) (length-table_bytes version T formed.table.sound.shaped)) (ap trial_refusal again ∙ trials_pass h formed.table.sound.pruned.max_trial)

@@ -1,6 +1,6 @@
 //! The tables of a file.
 
-ghost use Rattle.std.specs.Prelude.{◌+◌, ◌/◌, ◌<◌, ◌^◌, ◌≡◌, ◌≤◌, [], false, IfErr, IfOk};
+ghost use Rattle.std.specs.Prelude.{◌*◌, ◌+◌, ◌/◌, ◌<◌, ◌^◌, ◌≡◌, ◌≤◌, [], false, IfErr, IfOk};
 ghost use Rattle.std.specs.Prelude.{length, OnOk, true, vec_capacity};
 ghost use Rattle.cedar_format.specs.Words.{Appends, blank_block, blank_info, blank_node};
 ghost use Rattle.cedar_format.specs.Words.{body_bytes, body_len, Consumes, CountsWithin, DecodesBy};
@@ -12,7 +12,8 @@ ghost use Rattle.cedar_format.specs.Words.{TellsBreaks, Trails};
 use crate::buffer::BUFFER_LEN;
 use crate::error::CedarPersistenceError;
 use crate::header::{Header, check_sizes, read_header};
-use crate::listing::{fill_up, read_records, write_filled, write_records};
+use crate::listing::{fill_up, put_filled, put_records, read_records, write_filled, write_records};
+use crate::record::Record;
 use crate::reserve::reserve_counted;
 use crate::source::Source;
 use crate::watched::Watched;
@@ -279,4 +280,38 @@ pub fn write_lists<W: Write>(
     let blanks = slots / BLOCK_SIZE;
     write_filled(writer, &mut buffer, blocks, blanks, BlockRecord::BLANK)?;
     write_records(writer, &mut buffer, reject)
+}
+
+/// Fills some bytes with those of the four lists of a file, one after another. `slots` is how many slots the file lists. Those that the
+/// lists lack, and their blocks, are blank. It allocates nothing.
+pub fn put_lists(
+    bytes: &mut [u8],
+    slots: usize,
+    nodes: &[NodeRecord],
+    n_infos: &[NInfoRecord],
+    blocks: &[BlockRecord],
+    reject: &[i16],
+)
+    requires nodes { length nodes.now ≤ slots }
+    requires n_infos { length n_infos.now ≤ slots }
+    requires blocks { length blocks.now ≤ slots / 256 }
+    requires len { length bytes.old ≡ slots * 8 + (slots * 2 + (slots / 256 * 20 + length reject.now * 2)) }
+
+    //= The four lists of a table are put into memory as exactly their bytes, with blanks after the first three up to the number of slots
+    //  that the file lists.
+    ensures { bytes.new ≡ filled_bytes slots nodes.now n_infos.now blocks.now reject.now }
+{
+    let (of_nodes, behind_nodes) = bytes.split_at_mut(slots * NodeRecord::LEN);
+    put_filled(nodes, NodeRecord::BLANK, slots - nodes.len(), of_nodes);
+    let (of_n_infos, behind_n_infos) = behind_nodes.split_at_mut(slots * NInfoRecord::LEN);
+    put_filled(
+        n_infos,
+        NInfoRecord::BLANK,
+        slots - n_infos.len(),
+        of_n_infos,
+    );
+    let listed = slots / BLOCK_SIZE;
+    let (of_blocks, of_reject) = behind_n_infos.split_at_mut(listed * BlockRecord::LEN);
+    put_filled(blocks, BlockRecord::BLANK, listed - blocks.len(), of_blocks);
+    put_records(reject, of_reject);
 }

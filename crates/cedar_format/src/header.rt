@@ -291,19 +291,10 @@ fn invalid(field: &'static str, value: usize) -> CedarPersistenceError
     }
 }
 
-/// Writes the header of a file of this layout, in the version that it names.
-pub fn write_header<W: Write>(
-    writer: &mut Watched<W>,
-    layout: u8,
-    header: Header,
-) -> Result<(), CedarPersistenceError>
-    //= A header is written as exactly its bytes, in the version that it names. [with err]
-    ensures bytes { OnOk result (Appends (W.contents (device_of writer.old)) (W.contents (device_of writer.new)) (header_bytes layout header)) }
-
-    //= Each number of a header fits its field.
+/// Returns the bytes of a header of this layout, in the version that it names.
+fn header_buffer(layout: u8, header: Header) -> Buffer
+    ensures bytes { result.items ≡ header_bytes layout header }
     ensures fits { FitsHeader header }
-    ensures err { IfErr result (λ e. IsIo e × (has_failed writer.new ≡ true)) }
-    ensures failed { has_failed writer.old ≡ true → has_failed writer.new ≡ true }
 {
     let mut bytes = Buffer::new();
     put_bytes(&mut bytes, &MAGIC);
@@ -322,5 +313,34 @@ pub fn write_header<W: Write>(
     put_usize(&mut bytes, header.capacity);
     put_usize(&mut bytes, header.size);
     put_usize(&mut bytes, header.entries);
+    bytes
+}
+
+/// Fills some bytes with those of the header of a file of this layout, in the version that it names.
+pub fn put_header(bytes: &mut [u8], layout: u8, header: Header)
+    requires len { length bytes.old ≡ 88 }
+
+    //= A header is put into memory as exactly its bytes, in the version that it names.
+    ensures { bytes.new ≡ header_bytes layout header }
+{
+    let buffer = header_buffer(layout, header);
+    bytes.copy_from_slice(buffer.as_slice());
+}
+
+/// Writes the header of a file of this layout, in the version that it names.
+pub fn write_header<W: Write>(
+    writer: &mut Watched<W>,
+    layout: u8,
+    header: Header,
+) -> Result<(), CedarPersistenceError>
+    //= A header is written as exactly its bytes, in the version that it names. [with err]
+    ensures bytes { OnOk result (Appends (W.contents (device_of writer.old)) (W.contents (device_of writer.new)) (header_bytes layout header)) }
+
+    //= Each number of a header fits its field.
+    ensures fits { FitsHeader header }
+    ensures err { IfErr result (λ e. IsIo e × (has_failed writer.new ≡ true)) }
+    ensures failed { has_failed writer.old ≡ true → has_failed writer.new ≡ true }
+{
+    let bytes = header_buffer(layout, header);
     write_bytes(writer, bytes.as_slice())
 }

@@ -16,12 +16,12 @@ mod source;
 mod texts;
 mod watched;
 
-pub use body::{Decoded, decode, decode_counted, write_lists};
+pub use body::{Decoded, decode, decode_counted, put_lists, write_lists};
 pub use cedar_slots::{BlockRecord, NInfoRecord, NodeRecord};
 pub use error::CedarPersistenceError;
 pub use header::{
     FLAG_ORDERED, FULL_MINOR, HEADER_LEN, Header, LAYOUT, LITTLE_ENDIAN, MAGIC, MAJOR, MINOR,
-    REDUCED_LAYOUT, listed_slots, read_header, write_header,
+    REDUCED_LAYOUT, listed_slots, put_header, read_header, write_header,
 };
 pub use laws::{headers_are_read_again, one_table_for_its_bytes, well_formed_tables_pass};
 pub use numbers::{

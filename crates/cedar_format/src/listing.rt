@@ -186,6 +186,16 @@ fn write_piece_of<W: Write, T: Record>(
     write_bytes(writer, bytes)
 }
 
+/// Fills some bytes with those of records, and with those of a given number of blanks after them.
+pub(crate) fn put_filled<T: Record>(records: &[T], blank: T, count: usize, bytes: &mut [u8])
+    requires len { length bytes.old ≡ length records.now * T.LEN + count * T.LEN }
+    ensures { bytes.new ≡ flat_map T.bytes_of (records.now ++ replicate count blank) }
+{
+    let (front, back) = bytes.split_at_mut(records.len() * T::LEN);
+    put_records(records, front);
+    put_blanks(blank, count, back);
+}
+
 /// Fills some bytes with those of a given number of blanks.
 fn put_blanks<T: Record>(blank: T, count: usize, bytes: &mut [u8])
     requires len { length bytes.old ≡ count * T.LEN }
@@ -200,7 +210,7 @@ fn put_blanks<T: Record>(blank: T, count: usize, bytes: &mut [u8])
 }
 
 /// Fills some bytes with those of records. No room is tested for a single record.
-fn put_records<T: Record>(records: &[T], bytes: &mut [u8])
+pub(crate) fn put_records<T: Record>(records: &[T], bytes: &mut [u8])
     requires len { length bytes.old ≡ length records.now * T.LEN }
     ensures bytes { bytes.new ≡ flat_map T.bytes_of records.now }
     ensures fits { All T.Fits records.now }

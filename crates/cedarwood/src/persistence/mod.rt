@@ -5,6 +5,7 @@ mod outcome;
 mod paths;
 mod replace;
 mod save;
+mod slice;
 mod unplaced;
 
 pub use outcome::{SaveFailed, Saved};
