@@ -15,7 +15,7 @@ use Rattle.key_ranges.proofs.EntryRangeLemmas.{filter_twice, held_behind, Rises,
 use Rattle.key_ranges.proofs.SpanLemmas.{all_follow, before_both, ge_is, never_before, prefixed}
 use Rattle.last_entries.specs.Nearness.{AscendByKeys, before_end, from_on, GoesOnFrom}
 use Rattle.last_entries.proofs.EndLemmas.{within_is}
-use Rattle.last_entries.proofs.NearLemmas.{all_paths, first_passes, some_of}
+use Rattle.last_entries.proofs.NearLemmas.{all_paths, first_passes}
 use Rattle.last_entries.proofs.PathLemmas.{apart, behind_both, gt_from_less, less_from_gt, same_front}
 use Rattle.accepted_entries.specs.Accepted.{accepted_in, entries_in_span, HoldsEnd, IsDeadEnd, PassesOver, SaysOf, verdict_of}
 
@@ -114,6 +114,14 @@ few_pass test (e ∷ es) =
       | false ↦ omega (arith, few)
     ]
 
+-- what holds of all entries holds of those that pass a test
+some_hold : (P : Entry → Type 0) (test : List ℕ → Bool) (es : List Entry) → AllByRecursion P es → AllByRecursion P (filter (λ e. test e.0) es)
+some_hold P test [] all = tt
+some_hold P test (e ∷ es) all = elim (test e.0) as (λ b. AllByRecursion P (cond b (e ∷ filter (λ x. test x.0) es) (filter (λ x. test x.0) es))) [
+  | true ↦ (all.0, some_hold P test es all.1)
+  | false ↦ some_hold P test es all.1
+]
+
 -- ---- a range goes on
 
 -- what is looked up is what is in the range
@@ -127,7 +135,7 @@ past_front accepts old new es key value rest len listed is dead past =
     let front = take len key in
     let held = entries_in_span old es in
     let up : Rises ((key, value) ∷ rest) = subst Rises is (some_rise (holds old) es (rises es listed.0)) in
-    let paths : AllByRecursion (λ e. IsPath e.0) ((key, value) ∷ rest) = subst (AllByRecursion (λ e. IsPath e.0)) is (some_of (λ e. IsPath e.0) (holds old) es (all_paths es listed.1)) in
+    let paths : AllByRecursion (λ e. IsPath e.0) ((key, value) ∷ rest) = subst (AllByRecursion (λ e. IsPath e.0)) is (some_hold (λ e. IsPath e.0) (holds old) es (all_paths es listed.1)) in
     let itself : is_ge (slice_cmp nat_cmp key key) ≡ true = ap is_ge (tied_itself nat_list_cmp_total key) in
     let follow = all_follow_front accepts front key ((key, value) ∷ rest) dead (key_at_front key len) paths (itself, all_at key rest up.0) in
     let all : AllByRecursion (λ e. accepts e.0 ≡ true → follows_prefix front e.0 ≡ true) held = subst (AllByRecursion (λ e. accepts e.0 ≡ true → follows_prefix front e.0 ≡ true)) (sym is) follow in

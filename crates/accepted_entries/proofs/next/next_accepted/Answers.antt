@@ -8,8 +8,8 @@ use Rattle.accepted_entries.specs.Accepted.{accepted_in, entries_in_span, Leaves
 use Rattle.accepted_entries.proofs.AcceptLemmas.{behind_first, end_of_itself, end_over, first_left, passed_over}
 use Rattle.accepted_entries.proofs.next.next_accepted.Goals as goal
 
-pub returns-then-leave_first-clause-found : goal.returns-then-leave_first-clause-found
-returns-then-leave_first-clause-found g c =
+pub returns-then-branch-clause-found : goal.returns-then-branch-clause-found
+returns-then-branch-clause-found g c =
     let es = g.S.Ascending.entries c.args.source.now in
     let accepts = g.M.Automaton.accepts c.args.automaton.now in
     let old = c.loop-key.range in
@@ -26,8 +26,8 @@ returns-then-leave_first-clause-found g c =
     ∙ first_left accepts old new es key value first.0 c.requires first.1 leaves.0 leaves.1
     ∙ ap (λ (n : ℤ). (key, n) ∷ accepted_in accepts new es) (sym number)
 
-pub returns-then-leave_first-clause-behind : goal.returns-then-leave_first-clause-behind
-returns-then-leave_first-clause-behind g c =
+pub returns-then-branch-clause-behind : goal.returns-then-branch-clause-behind
+returns-then-branch-clause-behind g c =
     let es = g.S.Ascending.entries c.args.source.now in
     let accepts = g.M.Automaton.accepts c.args.automaton.now in
     let old = c.loop-key.range in
@@ -87,4 +87,6 @@ pub returns-in_err-leave_first-clause-refused : goal.returns-in_err-leave_first-
 returns-in_err-leave_first-clause-refused g c =
     let es = g.S.Ascending.entries c.args.source.now in
     let accepts = g.M.Automaton.accepts c.args.automaton.now in
-    ap (λ (range : KeySpan). accepted_in accepts range es) c.in_err-leave_first.ensures.refused ∙ c.loop-key.invariant.accepted
+    let same : accepted_in accepts c.leave_first.new.range es ≡ accepted_in accepts c.args.range.now es =
+    ap (λ (range : KeySpan). accepted_in accepts range es) c.in_err-leave_first.ensures.refused ∙ c.loop-key.invariant.accepted in
+    search (rules, same)
