@@ -36,7 +36,7 @@ begins text place n some within key =
     (omega (arith, within, some), λ here high. let low = lead (omega (arith, first, high)) in omega (arith, first, low))
 
 -- and where it ends, one does, or the text ends
-ends : (text : List ℕ) (place n : ℕ) → IsUtf8 text → IsCharBoundary text place → place + n ≤ length text → IsUtf8 (take n (drop place text)) → IsCharBoundary text (place + n)
+pub ends : (text : List ℕ) (place n : ℕ) → IsUtf8 text → IsCharBoundary text place → place + n ≤ length text → IsUtf8 (take n (drop place text)) → IsCharBoundary text (place + n)
 ends text place n utf8 begin within key =
     let left = length-drop place text in
     IsCharBoundary-from_rest text place n begin.0 (IsCharBoundary-from_take (drop place text) n (IsUtf8-drop text place utf8 begin) (omega (arith, within, left)) key)

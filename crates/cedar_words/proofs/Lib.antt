@@ -1,8 +1,13 @@
 pub mod CharacterLemmas
 pub mod CutLemmas
+pub mod InstanceLemmas
+pub mod LatticeLemmas
 pub mod LongestLemmas
 pub mod MarkLemmas
+pub mod ModelCutLemmas
+pub mod ModelStepLemmas
 pub mod OneLemmas
+pub mod RunLemmas
 pub mod SpotLemmas
 pub mod StepLemmas
 pub mod TokenLemmas

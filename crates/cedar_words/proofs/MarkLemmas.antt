@@ -6,10 +6,8 @@ use Rattle.std.proofs.lemmas.Int.{to_z_pos}
 use Rattle.cedarwood.specs.Tree.{Tree, number_at}
 use Rattle.cedarwood.specs.Queries.{front}
 use Rattle.cedar_words.specs.Cuts.{price}
-use Rattle.cedar_words.specs.Steps.{AreCosts, AreMarks, AreMarksOver, best_of, cost_at, cut_along, IsMark, mark_at, step_at}
-use Rattle.cedar_words.specs.declared.costs.Step.{Step}
+use Rattle.cedar_words.specs.Steps.{AreCosts, AreMarks, AreMarksOver, best_of, cost_at, IsMark, mark_at, step_at}
 use Rattle.cedar_words.proofs.CutLemmas.{step_is}
-use Rattle.cedar_words.proofs.StepLemmas.{along_step}
 
 -- one byte more
 pub marks_more : (t : Tree) (u : ℕ → ℕ) (text costs marks : List ℕ) (cost mark left : ℕ) → 0 < left → length costs ≡ left → length marks ≡ left
@@ -77,14 +75,6 @@ pub told_key : (t : Tree) (u : ℕ → ℕ) (text costs : List ℕ) → AreCosts
 told_key t u text costs are left mark some within is key low =
     let at = step_is t u text costs are left some within in
     key_is costs left (step_at t u text costs left).len mark (u (length text - left)) (step_at t u text costs left).value key low at.within is at.cost
-
--- the token at a position comes first, where it is known by its bytes and its number
-pub along_told : (steps : ℕ → Step) (place left len : ℕ) (value : Option ℤ) → 0 < left → len ≡ (steps left).len → value ≡ (steps left).value → 0 < len
-    → cut_along steps 0 place left ≡ (place, len, value) ∷ cut_along steps 0 (place + len) (left - len)
-along_told steps place left len value some bytes number go =
-    along_step steps place left (steps left) some refl (subst (λ n. 0 < n) bytes go)
-    ∙ ap (λ n. (place, n, (steps left).value) ∷ cut_along steps 0 (place + n) (left - n)) (sym bytes)
-    ∙ ap (λ v. (place, len, v) ∷ cut_along steps 0 (place + len) (left - len)) (sym number)
 
 -- the same of the mark at a position of a text
 pub key_at : (t : Tree) (u : ℕ → ℕ) (text costs marks : List ℕ) (place mark : ℕ) → place < length text → AreCosts t u text costs → AreMarks t u text costs marks → mark ≡ mark_at marks (length text - place)

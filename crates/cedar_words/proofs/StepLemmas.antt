@@ -1,5 +1,5 @@
 -- Steps over the last bytes of a text: how they are found, and where they lead.
-use Rattle.std.proofs.Common.{◌≡◌, ℕ, zero, suc, ◌+◌, ◌-◌, ◌^◌, ◌<◌, ◌≤◌, ◌⊎◌, min, nat_le, cond, true, false, ℤ, unsigned_abs, List, [], ◌∷◌, ◌++◌, length, take, drop, Some, None, option_map, MatchOption, refl, sym, ap, subst, ◌∙◌, arith, inl, inr}
+use Rattle.std.proofs.Common.{◌≡◌, ℕ, zero, suc, ◌+◌, ◌-◌, ◌^◌, ◌<◌, ◌≤◌, ◌⊎◌, min, nat_le, cond, true, false, ℤ, unsigned_abs, List, [], ◌∷◌, ◌++◌, length, take, drop, Option, Some, None, option_map, MatchOption, refl, sym, ap, subst, ◌∙◌, arith, inl, inr}
 use Rattle.std.specs.List.{Contains, filter_map, cons_option, range_with_len}
 use Rattle.std.proofs.lemmas.List.{get_or_append_left, get_or_push, length_push, take-append-le, take_all}
 use Rattle.std.proofs.lemmas.Bool.Decides.{eqb_tells, leb_tells}
@@ -46,6 +46,14 @@ along_step steps place (suc left) step some is h =
     ∙ ap (λ p. cut_along steps 0 p (left - (step.len - 1))) behind
     ∙ ap (λ n. cut_along steps 0 (place + step.len) n) less)
 
+-- the token at a position comes first, where it is known by its bytes and its number
+pub along_told : (steps : ℕ → Step) (place left len : ℕ) (value : Option ℤ) → 0 < left → len ≡ (steps left).len → value ≡ (steps left).value → 0 < len
+    → cut_along steps 0 place left ≡ (place, len, value) ∷ cut_along steps 0 (place + len) (left - len)
+along_told steps place left len value some bytes number go =
+    along_step steps place left (steps left) some refl (subst (λ n. 0 < n) bytes go)
+    ∙ ap (λ n. (place, n, (steps left).value) ∷ cut_along steps 0 (place + n) (left - n)) (sym bytes)
+    ∙ ap (λ v. (place, len, v) ∷ cut_along steps 0 (place + len) (left - len)) (sym number)
+
 -- one byte more
 pub costs_more : (t : Tree) (u : ℕ → ℕ) (text costs : List ℕ) (cost left : ℕ) → 0 < left → length costs ≡ left
     → cost ≡ (best_of (u (length text - left)) costs (front t (drop (length text - left) text))).cost → AreCostsOver t u text costs → AreCostsOver t u text (costs ++ cost ∷ [])
@@ -75,13 +83,13 @@ best_is P later best (found ∷ fronts) here keys =
     let better : P (better_of best (key_step later found)) = elim (nat_le (key_step later found).cost best.cost) as (λ b. P (cond b (key_step later found) best)) [ true ↦ first | false ↦ here ] in
     best_is P later (better_of best (key_step later found)) fronts better (λ f c. keys f (contains_later found fronts f c))
 
-better_first : (a b : Step) → (better_of a b).cost ≤ a.cost
+pub better_first : (a b : Step) → (better_of a b).cost ≤ a.cost
 better_first a b = elim (leb_tells b.cost a.cost) [
   | inl is ↦ rw is.0 is.1
   | inr isnt ↦ rw isnt.0 (omega arith)
 ]
 
-better_second : (a b : Step) → (better_of a b).cost ≤ b.cost
+pub better_second : (a b : Step) → (better_of a b).cost ≤ b.cost
 better_second a b = elim (leb_tells b.cost a.cost) [
   | inl is ↦ rw is.0 (omega arith)
   | inr isnt ↦ let less = isnt.1 in rw isnt.0 (omega (arith, less))
@@ -140,7 +148,7 @@ abbrev pub Ascend : ℕ → List (ℤ × ℕ) → Type 0
 Ascend low [] = Unit {0}
 Ascend low (found ∷ fronts) = (low ≤ found.1) × Ascend (found.1 + 1) fronts
 
-ascend_higher : (a b : ℕ) (fronts : List (ℤ × ℕ)) → a ≤ b → Ascend b fronts → Ascend a fronts
+pub ascend_higher : (a b : ℕ) (fronts : List (ℤ × ℕ)) → a ≤ b → Ascend b fronts → Ascend a fronts
 ascend_higher a b [] low h = tt
 ascend_higher a b (found ∷ fronts) low h = let first = h.0 in (omega (arith, low, first), h.1)
 

@@ -2,6 +2,10 @@ pub use Rattle.cedarwood.specs.Tree
 pub use Rattle.cedarwood.specs.Queries
 pub mod Characters
 pub mod Cuts
+pub mod Lattice
+pub mod Models
+pub mod ModelSteps
+pub mod Runs
 pub mod Spots
 pub mod Steps
 pub mod Tokens

@@ -1,22 +1,22 @@
 //! The cut of least cost: a key costs its value, and each byte without a value costs the same.
 
 ghost use Rattle.std.specs.Prelude.{◌+◌, ◌-◌, ◌<◌, ◌^◌, ◌∷◌, ◌≡◌, ◌≤◌, [], IfOk, length};
-ghost use Rattle.std.specs.Prelude.{List, MatchOption, ℕ, ℤ};
+ghost use Rattle.std.specs.Prelude.{List, MatchOption, unsigned_abs, ℕ, ℤ};
 ghost use Rattle.cedar_words.specs.Words.{AreCosts, AreMarks, AreWithin, best_cut, best_of};
-ghost use Rattle.cedar_words.specs.Words.{better_of, character_price, front, IsAheadCapped};
-ghost use Rattle.cedar_words.specs.Words.{IsCheapest, IsCheapestBy, IsCut, IsFoundBy};
-ghost use Rattle.cedar_words.specs.Words.{IsLeastCapped, IsMark, key_step, step_at, step_over};
-ghost use Rattle.cedar_words.specs.Words.{Tree};
+ghost use Rattle.cedar_words.specs.Words.{better_of, byte_run, character_price, front};
+ghost use Rattle.cedar_words.specs.Words.{IsAheadCapped, IsBestCut, IsCheapest, IsCheapestBy};
+ghost use Rattle.cedar_words.specs.Words.{IsCut, IsFoundBy, IsLeastCapped, IsMark, key_step};
+ghost use Rattle.cedar_words.specs.Words.{step_at, step_over, Tree};
 
 use cedarwood::{Layout, PrefixIter, Trie, Walked};
 use std::alloc::{AllocError, Allocator};
 
 /// The first token of a cheapest cut of some bytes, and what the whole of that cut costs, or 2^64 - 1 if it costs more.
 #[derive(Clone, Copy)]
-struct Step {
-    cost: u64,
-    len: usize,
-    value: Option<i32>,
+pub(crate) struct Step {
+    pub(crate) cost: u64,
+    pub(crate) len: usize,
+    pub(crate) value: Option<i32>,
 }
 
 /// What a byte without a value costs, at each position of a text.
@@ -124,7 +124,7 @@ fn over_key(later: &[u64], front: (i32, usize)) -> Step
 }
 
 /// The step over some bytes at a price.
-fn over(later: &[u64], price: u32, len: usize, value: Option<i32>) -> Step
+pub(crate) fn over(later: &[u64], price: u32, len: usize, value: Option<i32>) -> Step
     requires some { 0 < len }
     requires within { len ≤ length later.now }
     ensures { result ≡ step_over later.now price len value }
@@ -138,7 +138,7 @@ fn over(later: &[u64], price: u32, len: usize, value: Option<i32>) -> Step
 }
 
 /// The cheaper of two steps, and of two that cost the same the second.
-fn cheaper(first: Step, second: Step) -> Step
+pub(crate) fn cheaper(first: Step, second: Step) -> Step
     ensures { result ≡ better_of first second }
 {
     if second.cost <= first.cost {
@@ -270,8 +270,8 @@ fn cut_by<T: FirstStep, P: BytePrice, B: Allocator + Copy>(
 /// that cost the same it is the one with the longer token where they first differ, and with a key rather than a byte. So one dictionary and
 /// text have one result, in both layouts.
 ///
-/// A sum above 2^64 - 1 counts as 2^64 - 1. The least sum of a text of fewer than 2^32 bytes is below that. If every cut of a longer text
-/// costs 2^64 or more, it is some cut of it.
+/// A sum above 2^64 - 1 counts as 2^64 - 1, for what is left from each token on. The least sum of a text of fewer than 2^32 bytes is below
+/// that.
 ///
 /// It allocates nine bytes for each byte of the text and nine more, in two allocations, and frees them when it ends; the result grows as
 /// any vector does. Each position costs a prefix walk.
@@ -304,6 +304,9 @@ pub fn cheapest<L: Layout, const SLOTS: usize, A: Allocator + Copy, B: Allocator
     //= In a text of any length, of the cuts that cost as little and no more than 2^64 - 1, it is the one with the longer token where
     //  lengths first differ, which has each key that the other has before that. [by IsAheadCapped]
     ensures ahead { IfOk result (λ tokens. IsAheadCapped trie.now.state.tree (λ _. unknown) text.now tokens.items) }
+
+    //= It is what `cheapest_by` returns by the model `ValueIsCost` and `OneByte`, in a text of any length. [by IsBestCut]
+    ensures best { IfOk result (λ tokens. IsBestCut trie.now.state.tree unsigned_abs (λ _. byte_run unknown) text.now tokens.items) }
 {
     cut_by(alloc, trie, text, &EachByte { cost: unknown })
 }
@@ -344,6 +347,9 @@ pub fn cheapest_by_characters<
 
     //= By characters too it comes first among those of any text that cost as little and no more than 2^64 - 1. [by IsAheadCapped]
     ensures ahead { IfOk result (λ tokens. IsAheadCapped trie.now.state.tree (character_price unknown text.now) text.now tokens.items) }
+
+    //= It is what `cheapest_by` returns by the model `ValueIsCost` and `CharacterBytes`, in a text of any length. [by IsBestCut]
+    ensures best { IfOk result (λ tokens. IsBestCut trie.now.state.tree unsigned_abs (λ place. byte_run (character_price unknown text.now place)) text.now tokens.items) }
 {
     cut_by(alloc, trie, text, &EachCharacter { cost: unknown })
 }

@@ -3,12 +3,17 @@
 ghost use Rattle.std.specs.Prelude.{◌+◌, ◌↔◌, ◌<◌, ◌^◌, ◌≡◌, ◌≤◌, [], All, Bool, Contains};
 ghost use Rattle.std.specs.Prelude.{drop, IsUtf8, length, List, ℕ, ℤ};
 ghost use Rattle.cedar_words.specs.Words.{all_stored, AreAdjacent, AreWholeCharacters, bytes_in};
-ghost use Rattle.cedar_words.specs.Words.{cost_by, cut, empty_tree, Entry, HasOneCheapest};
-ghost use Rattle.cedar_words.specs.Words.{HasUtf8Keys, IsAheadCapped, IsCheapestBy, IsCut, IsKeyIn};
-ghost use Rattle.cedar_words.specs.Words.{IsLeastCapped, IsLeftmost, IsLongest, IsSoundBelow};
-ghost use Rattle.cedar_words.specs.Words.{keywords_from, keywords_in, PartsNoCharacter, put};
-ghost use Rattle.cedar_words.specs.Words.{segments, Spot, spots_from, State, Token, tokens_behind};
-ghost use Rattle.cedar_words.specs.Words.{TokensGoOn, Tree};
+ghost use Rattle.cedar_words.specs.Words.{character_run, class_run, cost_by, cost_with, cut};
+ghost use Rattle.cedar_words.specs.Words.{edges_from, empty_tree, Entry, HasOneBestCut};
+ghost use Rattle.cedar_words.specs.Words.{HasOneCheapest, HasUtf8Keys, IsAheadCapped, IsBestCut};
+ghost use Rattle.cedar_words.specs.Words.{IsCheapestBy, IsCheapestByModel, IsCut, IsCutBy};
+ghost use Rattle.cedar_words.specs.Words.{IsEdgeOf, IsKeyIn, IsLeastCapped, IsLeftmost, IsLongest};
+ghost use Rattle.cedar_words.specs.Words.{IsSoundBelow, keywords_from, keywords_in};
+ghost use Rattle.cedar_words.specs.Words.{only_without_key, PartsNoCharacter, put};
+ghost use Rattle.cedar_words.specs.Words.{RunsKeepCharacters, segments, Spot, spots_from, State};
+ghost use Rattle.cedar_words.specs.Words.{Token, tokens_behind, TokensGoOn, Tree};
+ghost use Rattle.cedar_words.specs.declared.edges.Edge.{Edge};
+ghost use Rattle.cedar_words.specs.declared.models.UnknownRun.{UnknownRun};
 
 /// The tokens of a text cover it in order: each begins where the one before it ended, has one byte or more, and together they have
 /// the bytes of the text.
@@ -105,4 +110,47 @@ pub fn utf8_keys_stay()
     ensures stored { (tree : Tree) (ordered : Bool) (key : List ℕ) (number : ℤ) → HasUtf8Keys tree → IsUtf8 key → HasUtf8Keys (put tree ordered key number) }
     ensures built { (state : State) (pairs : List Entry) → HasUtf8Keys state.tree → All (λ pair. IsUtf8 pair.0) pairs → HasUtf8Keys (all_stored state pairs).tree }
     ensures erased { (tree : Tree) (key : List ℕ) → IsSoundBelow tree.children → HasUtf8Keys tree → HasUtf8Keys (cut tree key) }
+{}
+
+/// The tokens of any cut by a model cover the text in order, as those of `segment` do: so `&text[start..start + len]` exists for each.
+pub fn model_cuts_cover()
+    //= The tokens of any cut by a model cover the text: each begins where the one before it ended, the first at 0, has one byte or more, and
+    //  the last one ends with the text.
+    ensures { (tree : Tree) (run : ℕ → UnknownRun) (text : List ℕ) (tokens : List Token) → IsCutBy tree run text tokens → AreAdjacent tokens 0 (length text) }
+{}
+
+/// The lattice of a text has exactly the tokens that cuts of it may have.
+pub fn lattice_has_all_tokens()
+    //= A token is in the lattice of a text by a model exactly if a cut may have it: its bytes, one or more, are a key with its value, or the
+    //  unknown run at its position, which stands beside keys only if the model says so. It has its cost.
+    ensures { (tree : Tree) (key : ℤ → ℕ) (run : ℕ → UnknownRun) (text : List ℕ) (edge : Edge) → Contains (edges_from tree key run 0 text) edge ↔ IsEdgeOf tree key run text edge }
+{}
+
+/// One text has one best cut by a model: so the result depends on the tree and the model alone, and is the same in both layouts.
+pub fn best_cut_is_one()
+    //= Two cuts by one model that are both the best are the same, in a text of any length.
+    ensures { (tree : Tree) (key : ℤ → ℕ) (run : ℕ → UnknownRun) (text : List ℕ) → HasOneBestCut tree key run text }
+{}
+
+/// The best cut by a model is the cheapest, if it costs less than 2^64. No cut of a text of fewer than 2^32 bytes costs as much.
+pub fn best_cut_is_cheapest()
+    //= The best cut by a model is the cheapest of all, and first among those that cost as little, if it costs less than 2^64.
+    ensures { (tree : Tree) (key : ℤ → ℕ) (run : ℕ → UnknownRun) (text : List ℕ) (tokens : List Token) → IsBestCut tree key run text tokens → cost_with key run tokens < 2 ^ 64 → IsCheapestByModel tree key run text tokens }
+{}
+
+/// In a text that is UTF-8, over keys that are, each token of a cut by a model of whole characters is whole characters: so it is
+/// `&text[start..start + len]` of a `&str` too, also where it has no value.
+pub fn model_cuts_part_no_character()
+    //= In a text that is UTF-8, over keys that are, no token of a cut parts a character, if the model's unknown runs don't: each token begins
+    //  and ends where characters do, or with the text. [by RunsKeepCharacters]
+    ensures { (tree : Tree) (run : ℕ → UnknownRun) (text : List ℕ) (tokens : List Token) → IsUtf8 text → HasUtf8Keys tree → RunsKeepCharacters run text → IsCutBy tree run text tokens → All (λ token. AreWholeCharacters text token.0 token.1) tokens }
+{}
+
+/// The rules `OneCharacter` and `OneClass` part no character, and `WhereNoKeyBegins` keeps what its rule keeps.
+pub fn runs_keep_characters()
+    //= A run of one character, or of characters of one class, that begins where a character does ends where one does, or with the text. So do
+    //  runs that stand only where no key begins, if those of their rule do. [with classes, only]
+    ensures characters { (text : List ℕ) (cost : ℕ) → RunsKeepCharacters (character_run cost text) text }
+    ensures classes { (text : List ℕ) (alike : ℕ → ℕ → Bool) (most cost : ℕ) → RunsKeepCharacters (class_run alike most cost text) text }
+    ensures only { (text : List ℕ) (run : ℕ → UnknownRun) → RunsKeepCharacters run text → RunsKeepCharacters (λ place. only_without_key (run place)) text }
 {}

@@ -1,7 +1,7 @@
 use Rattle.std.proofs.Common.{◌≡◌, ◌∙◌, ◌+◌, ◌-◌, ◌<◌, ◌≤◌, ◌∷◌, ◌++◌, [], ap, arith, length, sym}
 use Rattle.std.proofs.lemmas.List.{append_assoc}
 use Rattle.cedar_words.specs.Steps.{cut_along, step_at}
-use Rattle.cedar_words.proofs.MarkLemmas.{along_told}
+use Rattle.cedar_words.proofs.StepLemmas.{along_told}
 use Rattle.cedar_words.proofs.costs.tokens_along.Goals as goal
 
 pub loop-place-preserved : goal.loop-place-preserved
