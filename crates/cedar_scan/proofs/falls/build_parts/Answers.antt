@@ -1,0 +1,35 @@
+use Rattle.std.proofs.Common.{◌≡◌, ◌∙◌, ◌<◌, ℕ, ap, length, refl, rules, subst, sym, vec_len}
+use Rattle.std.proofs.lemmas.List.Sorted.{IsNonDecreasingBy-from_sort_by_key}
+use Rattle.cedar_scan.specs.Automata.{AreByDepth, AreLaid, AreLinkedFirst, AreNodes, AreSlotsWithin, IsGoto}
+use Rattle.cedar_scan.specs.declared.state.PlacedNode.{PlacedNode}
+use Rattle.cedar_scan.proofs.LinkLemmas.{first_links, sorted_nodes}
+use Rattle.cedar_scan.proofs.ListLemmas.{whole_front}
+use Rattle.cedar_scan.proofs.falls.build_parts.Goals as goal
+
+pub place_nodes-requires-clause-nodes : goal.place_nodes-requires-clause-nodes
+place_nodes-requires-clause-nodes g c =
+    let t = g.T.Placed.tree c.args.trie.now in
+    let slots = g.T.Placed.slot_of c.args.trie.now in
+    subst (AreNodes t slots) (sym c.deref-2.ensures.value) (sorted_nodes t slots c.in_ok-nodes.nodes.items c.sort_by_key.new.self.items c.sort_by_key.ensures.permutation c.in_ok-nodes.ensures.nodes)
+
+pub add_falls-requires-clause-nodes : goal.add_falls-requires-clause-nodes
+add_falls-requires-clause-nodes g c =
+    let t = g.T.Placed.tree c.args.trie.now in
+    let slots = g.T.Placed.slot_of c.args.trie.now in
+    subst (AreNodes t slots) (sym c.deref-3.ensures.value) (sorted_nodes t slots c.in_ok-nodes.nodes.items c.sort_by_key.new.self.items c.sort_by_key.ensures.permutation c.in_ok-nodes.ensures.nodes)
+
+pub add_falls-requires-clause-sorted : goal.add_falls-requires-clause-sorted
+add_falls-requires-clause-sorted g c =
+    subst AreByDepth (sym c.deref-3.ensures.value) (IsNonDecreasingBy-from_sort_by_key (λ (n : PlacedNode). n.depth) c.sort_by_key.new.self.items c.in_ok-sort_by_key.ensures.sorted (λ a r q k. search rules))
+
+pub add_falls-requires-clause-goto : goal.add_falls-requires-clause-goto
+add_falls-requires-clause-goto g c =
+    let t = g.T.Placed.tree c.args.trie.now in
+    let slots = g.T.Placed.slot_of c.args.trie.now in
+    let nodes = c.sort_by_key.new.self.items in
+    let size : length c.place_nodes.new.states ≡ c.slots_of-slots.result = c.place_nodes.auto.states ∙ c.deref_mut.ensures.len ∙ c.in_ok-states.ensures.len in
+    let same : c.deref-4.result.now ≡ c.place_nodes.new.states = c.deref-4.ensures.value ∙ whole_front _ c.place_nodes.new.states _ (sym (c.place_nodes.auto.states ∙ c.deref_mut.ensures.len)) in
+    let laid : AreLaid t slots nodes (length nodes) c.place_nodes.new.states = subst (λ ns. AreLaid t slots ns (length ns) c.place_nodes.new.states) c.deref-2.ensures.value c.place_nodes.ensures in
+    subst (IsGoto t slots) (sym same)
+    (first_links t slots c.nodes.ensures.placed nodes (sorted_nodes t slots c.in_ok-nodes.nodes.items nodes c.sort_by_key.ensures.permutation c.in_ok-nodes.ensures.nodes) c.slots_of-slots.result c.slots_of-slots.ensures.some
+    (subst (AreSlotsWithin c.slots_of-slots.result) c.deref.ensures.value c.slots_of-slots.ensures.within) c.place_nodes.new.states size laid).goto
