@@ -135,15 +135,15 @@ module _ (t : Tree) (slot_of : List ℕ → ℕ) (states : List State) (falls : 
 
   -- a single byte
   pub passes_byte : n.parent ≡ 0 → FallsTo t slot_of n old 0 old
-  passes_byte zero =
-      let empty : can.is.path ≡ [] = can.placing.one can.is.path [] above_node refl (sym can.is.parent ∙ zero ∙ sym can.placing.root) in
+  passes_byte root_is =
+      let empty : can.is.path ≡ [] = can.placing.one can.is.path [] above_node refl (sym can.is.parent ∙ root_is ∙ sym can.placing.root) in
       record {
         rest = [];
         at = sym can.placing.root;
         pops = [];
         adds = adds_nothing old;
         fall = λ is.
-            let same : is.path ≡ [] = can.placing.one is.path [] (node_front t is.path (n.label ∷ []) is.node) refl (sym is.parent ∙ zero ∙ sym can.placing.root) in
+            let same : is.path ≡ [] = can.placing.one is.path [] (node_front t is.path (n.label ∷ []) is.node) refl (sym is.parent ∙ root_is ∙ sym can.placing.root) in
             subst (λ w. IsFall t (w ++ n.label ∷ []) [] []) (sym same) (fall_of_byte t n.label (ap (λ w. number_at t (w ++ n.label ∷ [])) (sym empty) ∙ no_number));
       }
 
@@ -241,8 +241,8 @@ module _ (t : Tree) (slot_of : List ℕ → ℕ) (states : List State) (falls : 
           ]) (sym child_is ∙ missed)
 
       pub ends_at_root : child_in states (fall_at falls slot).to n.label ≡ None → (fall_at falls slot).to ≡ 0 → FallsTo t slot_of n old 0 new
-      ends_at_root missed zero =
-          let empty : own.rest ≡ [] = can.placing.one own.rest [] own.fall.node refl (sym to_is ∙ zero ∙ sym can.placing.root) in
+      ends_at_root missed root_is =
+          let empty : own.rest ≡ [] = can.placing.one own.rest [] own.fall.node refl (sym to_is ∙ root_is ∙ sym can.placing.root) in
           let pops : List Spot = so_far.pops ++ map (popped_at (length can.is.path - length so_far.path)) (pops_of (fall_at falls (slot_of so_far.path)) old) in
           record {
             rest = [];

@@ -20,11 +20,14 @@ last_added [] x d = refl
 last_added (y ∷ xs) x d = last_added xs x d
 
 module _ (t : Tree) (slot_of : List ℕ → ℕ) (p : IsPlacing t slot_of) (nodes : List PlacedNode) (all : AreNodes t slot_of nodes) (sorted : AreByDepth nodes) where
-  pub none_least : (least : List (Option ℤ)) → ((s : ℕ) → least_in least s ≡ None) → AreLeast t slot_of nodes 0 least
-  none_least least free = record { root = free (slot_of []); each = λ k d less w node slot. absurd (omega (arith, less)) }
+  pub none_least : (least : List (Option ℤ)) → 0 < length least → ((s : ℕ) → s < length least → least_in least s ≡ None) → AreLeast t slot_of nodes 0 least
+  none_least least some free = record {
+    root = let root = p.root in free (slot_of []) (omega (arith, root, some));
+    each = λ k d less w node slot. absurd (omega (arith, less));
+  }
 
-  pub none_first : AreFirst t slot_of nodes 0 []
-  none_first = record { size = refl; each = All-nil (IsListedNode (first_tree t) slot_of); slots = λ k d less. absurd (omega (arith, less)) }
+  pub none_first : (first : List PlacedNode) → first ≡ [] → AreFirst t slot_of nodes 0 first
+  none_first first e = subst (AreFirst t slot_of nodes 0) (sym e) (record { size = refl; each = All-nil (IsListedNode (first_tree t) slot_of); slots = λ k d less. absurd (omega (arith, less)) })
 
   module _ (i : ℕ) (d : PlacedNode) (inside : i < length nodes) (least : List (Option ℤ)) (so_far : AreLeast t slot_of nodes i least) where
     own : IsListedNode t slot_of (get_or nodes i d)
@@ -32,6 +35,13 @@ module _ (t : Tree) (slot_of : List ℕ → ℕ) (p : IsPlacing t slot_of) (node
 
     above_node : is_node t own.path ≡ true
     above_node = node_front t own.path ((get_or nodes i d).label ∷ []) own.node
+
+    -- its slot and that of the node above it are inside
+    pub above_below : (slots : ℕ) → 0 < slots → AreSlotsWithin slots nodes → (get_or nodes i d).parent < slots
+    above_below slots some within =
+        let low = slots_inside t slot_of p nodes all slots some within own.path above_node in
+        let at = own.parent in
+        omega (arith, low, at)
 
     by_path : (w : List ℕ) → own.path ≡ w → least_in least (slot_of w) ≡ least_on None t w
     by_path [] e = so_far.root

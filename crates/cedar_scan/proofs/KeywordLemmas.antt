@@ -135,15 +135,15 @@ module _ (t : Tree) (slot_of : List ℕ → ℕ) (states : List State) (falls : 
     -- or passes a byte that begins no key
     pub passes_byte : child_in states c.slot (get_or text c.place 0) ≡ None → c.slot ≡ 0 → (new : KeywordCursor) → new ≡ record { place = c.place + 1; slot = c.slot; base = c.base; next = c.next; last = c.last }
         → (before after : ℕ) → after ≡ before + 1 → StepsOn t slot_of states popped text c new before after
-    passes_byte is zero new new_is before after one =
+    passes_byte is root_is new new_is before after one =
         let b = get_or text c.place 0 in
-        let empty : at.path ≡ [] = h.placing.one at.path [] at.node refl (sym at.at ∙ zero ∙ sym h.placing.root) in
+        let empty : at.path ≡ [] = h.placing.one at.path [] at.node refl (sym at.at ∙ root_is ∙ sym h.placing.root) in
         let gone : is_node t (b ∷ []) ≡ false = ap (λ w. is_node t (w ++ b ∷ [])) (sym empty) ∙ missed is in
         let next : KeywordCursor = record { place = c.place + 1; slot = c.slot; base = c.base; next = c.next; last = c.last } in
         let cursor : IsKeywordCursor t slot_of states popped text next = record {
           path = [];
           node = refl;
-          at = zero ∙ sym h.placing.root;
+          at = root_is ∙ sym h.placing.root;
           here = sym (let whole : length (take (c.place + 1) text) - 0 ≡ length (take (c.place + 1) text) = omega arith in ap (λ n. drop n (take (c.place + 1) text)) whole ∙ drop-length (take (c.place + 1) text));
           short = omega arith;
           within = omega (arith, less);
@@ -244,8 +244,8 @@ module _ (t : Tree) (slot_of : List ℕ → ℕ) (states : List State) (falls : 
   -- ---- the end, and a key that is given
 
   pub all_given : (c : KeywordCursor) (at : IsKeywordCursor t slot_of states popped text c) → c.next ≡ c.last → length text ≤ c.place → c.slot ≡ 0 → keywords_left t states popped text c ≡ []
-  all_given c at none past zero =
-      let empty : at.path ≡ [] = h.placing.one at.path [] at.node refl (sym at.at ∙ zero ∙ sym h.placing.root) in
+  all_given c at none past root_is =
+      let empty : at.path ≡ [] = h.placing.one at.path [] at.node refl (sym at.at ∙ root_is ∙ sym h.placing.root) in
       left_alone c at none
       ∙ ap (λ w. keywords_from t (c.place - length w) (w ++ drop c.place text)) empty
       ∙ ap (keywords_from t (c.place - 0)) (drop_all c.place text past)
@@ -303,6 +303,7 @@ module _ (t : Tree) (slot_of : List ℕ → ℕ) (states : List State) (falls : 
   root_deep = ap (λ s. (state_at states s).depth) (sym h.placing.root) ∙ h.goto.depth [] refl
 
   pub first_left : keywords_left t states popped text (record { place = 0; slot = 0; base = 0; next = 0; last = 0 }) ≡ keywords_in t text
+  unfolding first_cursor
   first_left =
       left_alone (record { place = 0; slot = 0; base = 0; next = 0; last = 0 }) first_cursor refl
 

@@ -66,6 +66,10 @@ placing_kept t slot_of p = record {
   small = λ w node. p.small w (sym (node_kept t w) ∙ node);
 }
 
+pub placing_for : (kind : MatchKind) (t : Tree) (slot_of : List ℕ → ℕ) → IsPlacing t slot_of → IsPlacing (keys_for kind t) slot_of
+placing_for LeftmostLongest t slot_of p = p
+placing_for LeftmostFirst t slot_of p = placing_kept t slot_of p
+
 -- ---- of the keys that a text begins with, the longest that can count is the one that counts
 
 abbrev found_at : Tree → List ℕ → ℕ → Option (ℤ × ℕ)

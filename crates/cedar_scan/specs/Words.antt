@@ -12,7 +12,7 @@ pub use Rattle.cedar_scan.specs.Laws.{AreByEnd, IsLongestHeld, PiecesJoin}
 pub use Rattle.cedar_scan.specs.Leftmost.{popped_at}
 pub use Rattle.cedar_scan.specs.Plain.{all_beginning, OccursIn}
 pub use Rattle.cedar_scan.specs.Preferred.{first_tree, FirstIsLongestLeft, if_less, leftmost}
-pub use Rattle.cedar_scan.specs.Preferred.{keys_for, lesser, LongestAreKeywords}
+pub use Rattle.cedar_scan.specs.Preferred.{keys_for, least_in, lesser, LongestAreKeywords}
 pub use Rattle.cedar_scan.specs.Scanners.{LeftmostKeys, leftmost_code}
 pub use Rattle.cedar_scan.specs.Scans.{ReadsByte, CostsNext, CostsStep, GivesNext, IsCursor}
 pub use Rattle.cedar_scan.specs.Scans.{all_left, steps_left, TakesFound}

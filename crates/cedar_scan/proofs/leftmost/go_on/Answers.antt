@@ -5,8 +5,8 @@ use Rattle.cedar_scan.proofs.leftmost.go_on.Goals as goal
 pub returns-then-cursor-text : goal.returns-then-cursor-text
 returns-then-cursor-text g c = ends_or_leaves (g.T.Placed.tree c.args.trie.now) (g.T.Placed.slot_of c.args.trie.now) c.args.states.now c.args.falls.now c.args.popped.now c.requires.automaton c.args.text.now c.args.cursor.now c.leave_last.result c.leave_last.new.cursor c.args.ticks.now c.leave_last.ensures
 
-pub child_of-child-requires : goal.child_of-child-requires
-child_of-child-requires g c = slot_inside (g.T.Placed.tree c.args.trie.now) (g.T.Placed.slot_of c.args.trie.now) c.args.states.now c.args.falls.now c.args.popped.now c.requires.automaton c.args.text.now c.args.cursor.now c.requires.cursor
+pub child_of-requires : goal.child_of-requires
+child_of-requires g c = slot_inside (g.T.Placed.tree c.args.trie.now) (g.T.Placed.slot_of c.args.trie.now) c.args.states.now c.args.falls.now c.args.popped.now c.requires.automaton c.args.text.now c.args.cursor.now c.requires.cursor
 
 pub returns-in-Some : goal.returns-in-Some
 returns-in-Some g c =
