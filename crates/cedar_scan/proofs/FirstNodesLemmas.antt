@@ -67,21 +67,21 @@ module _ (t : Tree) (slot_of : List ℕ → ℕ) (p : IsPlacing t slot_of) (node
         let n = get_or nodes i d in
         let now : Option ℤ = lesser (least_in least n.parent) n.number in
         let now_is : now ≡ least_on None t (own.path ++ n.label ∷ []) =
-            ap (λ (o : Option ℤ). lesser o n.number) above_is ∙ ap (lesser (least_on None t own.path)) own.number ∙ sym (least_next None t own.path n.label) in
+        ap (λ (o : Option ℤ). lesser o n.number) above_is ∙ ap (lesser (least_on None t own.path)) own.number ∙ sym (least_next None t own.path n.label) in
         let here : (w : List ℕ) → is_node t w ≡ true → n.slot ≡ slot_of w → least_in (slice_set least n.slot now) (slot_of w) ≡ least_on None t w = λ w node slot.
-            let same : own.path ++ n.label ∷ [] ≡ w = p.one (own.path ++ n.label ∷ []) w own.node node (sym own.slot ∙ slot) in
-            ap (least_in (slice_set least n.slot now)) (sym slot) ∙ get_or-set_same least n.slot now None own_inside ∙ now_is ∙ ap (least_on None t) same in
+        let same : own.path ++ n.label ∷ [] ≡ w = p.one (own.path ++ n.label ∷ []) w own.node node (sym own.slot ∙ slot) in
+        ap (least_in (slice_set least n.slot now)) (sym slot) ∙ get_or-set_same least n.slot now None own_inside ∙ now_is ∙ ap (least_on None t) same in
         let other_root : slot_of [] ≡ n.slot → ⊥ = λ e. snoc_not_empty own.path n.label (p.one (own.path ++ n.label ∷ []) [] own.node refl (sym own.slot ∙ sym e)) in
         record {
           root = get_or-set_other least n.slot (slot_of []) now None other_root ∙ so_far.root;
           each = λ k x less w node slot. elim (eqb_tells (slot_of w) n.slot) [
             | inl same ↦ here w node (sym same.1)
             | inr other ↦ elim (eqb_tells k i) [
-                | inl last ↦ absurd (other.1 (sym slot ∙ ap (λ (m : PlacedNode). m.slot) (ap (λ j. get_or nodes j x) last.1 ∙ get_or_default nodes i x d inside)))
-                | inr before ↦
-                    let differ = before.1 in
-                    get_or-set_other least n.slot (slot_of w) now None other.1 ∙ so_far.each k x (omega (arith, less, differ)) w node slot
-              ]
+              | inl last ↦ absurd (other.1 (sym slot ∙ ap (λ (m : PlacedNode). m.slot) (ap (λ j. get_or nodes j x) last.1 ∙ get_or_default nodes i x d inside)))
+              | inr before ↦
+                  let differ = before.1 in
+                  get_or-set_other least n.slot (slot_of w) now None other.1 ∙ so_far.each k x (omega (arith, less, differ)) w node slot
+            ]
           ];
         }
 

@@ -89,10 +89,10 @@ module _ (t : Tree) (slot_of : List ℕ → ℕ) (states : List State) (falls : 
     goes_to_child child found new is before after one =
         let b = get_or text c.place 0 in
         let there : is_node t (at.path ++ b ∷ []) ≡ true =
-            (elim (is_node t (at.path ++ b ∷ [])) as (λ x. cond x (Some (slot_of (at.path ++ b ∷ []))) None ≡ Some child → x ≡ true) [
-              | true ↦ λ _. refl
-              | false ↦ λ e. absurd (none_some child e)
-            ]) (sym child_is ∙ found) in
+        (elim (is_node t (at.path ++ b ∷ [])) as (λ x. cond x (Some (slot_of (at.path ++ b ∷ []))) None ≡ Some child → x ≡ true) [
+          | true ↦ λ _. refl
+          | false ↦ λ e. absurd (none_some child e)
+        ]) (sym child_is ∙ found) in
         let slot : child ≡ slot_of (at.path ++ b ∷ []) = some_is child (slot_of (at.path ++ b ∷ [])) (sym found ∙ child_is ∙ ap (λ x. cond x (Some (slot_of (at.path ++ b ∷ []))) None) there) in
         let long = length-append at.path (b ∷ []) in
         let read = read_long c at in
@@ -197,8 +197,8 @@ module _ (t : Tree) (slot_of : List ℕ → ℕ) (states : List State) (falls : 
           let short = at.short in
           let read = read_long c at in
           let suffix : own.rest ≡ last_of (length own.rest) (take c.place text) =
-              sym (last_behind_front own.fall.front own.rest) ∙ ap (last_of (length own.rest)) (sym own.fall.whole ∙ at.here)
-              ∙ last_last (length own.rest) (length at.path) (take c.place text) (omega (arith, less)) (omega (arith, short, read)) in
+          sym (last_behind_front own.fall.front own.rest) ∙ ap (last_of (length own.rest)) (sym own.fall.whole ∙ at.here)
+          ∙ last_last (length own.rest) (length at.path) (take c.place text) (omega (arith, less)) (omega (arith, short, read)) in
           let cursor : IsKeywordCursor t slot_of states popped text next = record {
             path = own.rest;
             node = own.fall.node;

@@ -86,7 +86,7 @@ one_more (Some found) None n kept all later = later (Some found) refl
 one_more None (Some v) n kept all later = later (Some (v, n)) refl
 one_more (Some found) (Some v) n kept all later =
     (elim (int_le found.0 v) as (λ b. ((next : Option (ℤ × ℕ)) → number_found next ≡ cond b (Some found.0) (Some v) → last_or next kept ≡ least_first next all)
-        → last_or (Some found) (cons_option (option_map (λ (x : ℤ). (x, n)) (cond b None (Some v))) kept) ≡ least_first (Some (cond b found (v, n))) all) [
+    → last_or (Some found) (cons_option (option_map (λ (x : ℤ). (x, n)) (cond b None (Some v))) kept) ≡ least_first (Some (cond b found (v, n))) all) [
       | true ↦ λ k. k (Some found) refl
       | false ↦ λ k. k (Some (v, n)) refl
     ]) later
@@ -99,11 +99,11 @@ least_from t q (suc n) a so_far e is =
     let more : take (a + 1) q ≡ take a q ++ get_or q a 0 ∷ [] = take_more q a 0 less in
     let own : Option ℤ = number_at t (take (a + 1) q) in
     let kept : number_at (first_tree t) (take (a + 1) q) ≡ if_less (number_found so_far) own =
-        ap (number_at (first_tree t)) more ∙ number_kept t (take a q) (get_or q a 0)
-        ∙ ap (λ w. if_less (least_on None t (take a q)) (number_at t w)) (sym more) ∙ ap (λ (o : Option ℤ). if_less o own) (sym is) in
+    ap (number_at (first_tree t)) more ∙ number_kept t (take a q) (get_or q a 0)
+    ∙ ap (λ w. if_less (least_on None t (take a q)) (number_at t w)) (sym more) ∙ ap (λ (o : Option ℤ). if_less o own) (sym is) in
     let next_least : lesser (number_found so_far) own ≡ least_on None t (take (a + 1) q) =
-        ap (λ (o : Option ℤ). lesser o own) is ∙ ap (λ w. lesser (least_on None t (take a q)) (number_at t w)) more
-        ∙ sym (least_next None t (take a q) (get_or q a 0)) ∙ ap (least_on None t) (sym more) in
+    ap (λ (o : Option ℤ). lesser o own) is ∙ ap (λ w. lesser (least_on None t (take a q)) (number_at t w)) more
+    ∙ sym (least_next None t (take a q) (get_or q a 0)) ∙ ap (least_on None t) (sym more) in
     ap (λ (o : Option ℤ). last_or so_far (cons_option (option_map (λ (v : ℤ). (v, a)) o) (filter_map (found_at (first_tree t) q) (range_with_len (a + 1) n)))) kept
     ∙ one_more so_far own a (filter_map (found_at (first_tree t) q) (range_with_len (a + 1) n)) (filter_map (found_at t q) (range_with_len (a + 1) n))
     (λ next same. least_from t q n (a + 1) next (omega (arith, e)) (same ∙ next_least))

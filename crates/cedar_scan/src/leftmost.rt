@@ -1,4 +1,4 @@
-//! Keywords of a text in linear time: keys that don't overlap, of those that begin first the longest.
+//! Leftmost matches of a text: keys that don't overlap, of those that begin first the longest.
 
 ghost use Rattle.std.specs.Prelude.{◌*◌, ◌+◌, ◌≡◌, ◌≤◌, ◌≢◌, length, ⊤};
 ghost use Rattle.cedar_scan.specs.Words.{CantGoOn, StepsOn, StepsOnOrEnds, IsBlankOf};
@@ -16,7 +16,7 @@ use std::iter::FusedIterator;
 use std::marker::{Brand, Model};
 use std::sync::ledger::{Blank, Ledger};
 
-/// Where a search for keywords is.
+/// Where a search for leftmost matches is.
 #[derive(Clone, Copy)]
 pub(crate) struct KeywordCursor {
     /// How many bytes of the text it has read.
@@ -106,7 +106,7 @@ fn go_on<T: Placed, C: Ledger>(
     true
 }
 
-/// Gives the next keyword, or that none is left.
+/// Gives the next match, or that none is left.
 fn next_keyword<T: Placed, C: Ledger>(
     trie: &T,
     states: &[State],
@@ -134,10 +134,10 @@ fn next_keyword<T: Placed, C: Ledger>(
     Some((start, key.len as usize, key.value))
 }
 
-/// Keywords of a text in their order: for each where it begins, how many bytes it has, and its value. It allocates nothing, and a clone goes
-/// on from the same position.
+/// Leftmost matches of a text in their order: for each where it begins, how many bytes it has, and its value. It allocates nothing, and a
+/// clone goes on from the same position.
 ///
-/// A contract sees the keywords that are left, and how many steps they take at most.
+/// A contract sees the matches that are left, and how many steps they take at most.
 #[derive(Drop)]
 pub struct Leftmost<'a, T: Placed> {
     trie: &'a T,
@@ -191,17 +191,17 @@ impl<'a, T: Placed> Leftmost<'a, T> {
         }
     }
 
-    /// The next keyword. It counts each test of a child: at most two for each byte of the text, whatever the keys and the text are.
+    /// The next match. It counts each test of a child: at most two for each byte of the text, whatever the keys and the text are.
     ///
     /// ```
     /// let mut found = longest.leftmost(b"she");
     /// assert_eq!(rt; found.next_counted(&mut ticks), Some((0, 3, 2)));
     /// ```
     pub fn next_counted<C: Ledger>(&mut self, ticks: &mut Ticks<C>) -> Option<(usize, usize, i32)>
-        //= A counted step of keywords gives the next one. [also uncounted_keyword]
+        //= A counted step of leftmost matches gives the next one. [also uncounted_keyword]
         ensures gives { YieldsFirst (λ (walk : KeywordsLeft). walk.rest) self.old result self.new }
 
-        //= It takes at most the steps that were to come less those that are then.
+        //= It takes at most the steps that were to come less those that are then: a match itself takes none.
         ensures cost { ticks.new + self.new.steps ≤ ticks.old + self.old.steps }
     {
         next_keyword(
@@ -217,7 +217,7 @@ impl<'a, T: Placed> Leftmost<'a, T> {
 }
 
 impl<'a, T: Placed> Clone for Leftmost<'a, T> {
-    //= Keywords that have ended stay ended, and a clone goes on from the same position. [with is_infallible; by FusedIterator]
+    //= Leftmost matches that have ended stay ended, and a clone goes on from the same position. [with is_infallible; by FusedIterator]
     ghost is_clone = { λ it copy. copy ≡ it };
 
     ghost is_infallible = { λ _. ⊤ };
