@@ -30,7 +30,7 @@ module _ (t : Tree) (slot_of : List ℕ → ℕ) (p : IsPlacing t slot_of) (node
   none_first first e = subst (AreFirst t slot_of nodes 0) (sym e) (record { size = refl; each = All-nil (IsListedNode (first_tree t) slot_of); slots = λ k d less. absurd (omega (arith, less)) })
 
   module _ (i : ℕ) (d : PlacedNode) (inside : i < length nodes) (least : List (Option ℤ)) (so_far : AreLeast t slot_of nodes i least) where
-    own : IsListedNode t slot_of (get_or nodes i d)
+    pub own : IsListedNode t slot_of (get_or nodes i d)
     own = all.each i d inside
 
     above_node : is_node t own.path ≡ true

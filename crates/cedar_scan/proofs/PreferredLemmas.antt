@@ -21,12 +21,12 @@ below_least above t = record { number = if_less above t.number; children = first
 
 label_kept : (above : Option ℤ) (f : Forest) (l : ℕ) → has_label (first_below above f) l ≡ has_label f l
 label_kept above none l = refl
-label_kept above (child m n below rest) l = ap (λ b. (l == m) || b) (label_kept above rest l)
+label_kept above (child m n below rest) l = ap (λ b. (m == l) || b) (label_kept above rest l)
 
 subtree_below : (above : Option ℤ) (f : Forest) (l : ℕ) → subtree (first_below above f) l ≡ below_least above (subtree f l)
 subtree_below above none l = refl
 subtree_below above (child m n below rest) l =
-    (elim (l == m) as (λ b. cond b (record { number = if_less above n; children = first_below (lesser above n) below }) (subtree (first_below above rest) l) ≡ below_least above (cond b (record { number = n; children = below }) (subtree rest l))) [
+    (elim (m == l) as (λ b. cond b (record { number = if_less above n; children = first_below (lesser above n) below }) (subtree (first_below above rest) l) ≡ below_least above (cond b (record { number = n; children = below }) (subtree rest l))) [
       | true ↦ refl
       | false ↦ subtree_below above rest l
     ])
@@ -110,7 +110,7 @@ least_from t q (suc n) a so_far e is =
 
 pub key_is_longest : (kind : MatchKind) (t : Tree) (text : List ℕ) → longest (keys_for kind t) text ≡ key_for kind t text
 key_is_longest LeftmostLongest t text = refl
-key_is_longest LeftmostFirst t text = least_from t text (length text) 0 None refl refl
+key_is_longest LeftmostFirst t text = least_from t text (length text) 0 None (omega arith) refl
 
 -- ---- so the keywords by them are the keys that count
 
