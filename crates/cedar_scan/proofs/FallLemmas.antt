@@ -1,5 +1,5 @@
 -- How nodes get their falls.
-use Rattle.std.proofs.Common.{◌≡◌, ◌⊎◌, inl, inr, ℕ, zero, suc, ◌+◌, ◌-◌, ◌^◌, ◌<◌, ◌≤◌, Bool, true, false, cond, ℤ, List, [], ◌∷◌, ◌++◌, add-one, append_assoc, drop, get_or, length, length-append, map, take, Option, Some, None, refl, sym, ap, subst, ◌∙◌, arith}
+use Rattle.std.proofs.Common.{◌≡◌, inl, inr, ℕ, suc, ◌+◌, ◌-◌, ◌^◌, ◌<◌, ◌≤◌, true, false, cond, ℤ, List, [], ◌∷◌, ◌++◌, append_assoc, drop, get_or, length, length-append, map, take, Some, None, refl, sym, ap, subst, ◌∙◌, arith}
 use Rattle.std.specs.Prelude.{slice_set}
 use Rattle.std.proofs.Math.Seq.{drop-length, take-suc}
 use Rattle.std.proofs.lemmas.Bool.Decides.{eqb_tells, leb_tells}
@@ -10,13 +10,12 @@ use Rattle.cedar_scan.specs.declared.falls.Fall.{Fall}
 use Rattle.cedar_scan.specs.declared.falls.Popped.{Popped}
 use Rattle.cedar_scan.specs.declared.state.PlacedNode.{PlacedNode}
 use Rattle.cedar_scan.specs.declared.state.State.{State}
-use Rattle.cedar_scan.specs.Automata.{AreByDepth, AreNodes, child_in, IsGoto, IsListedNode, IsPlacing, state_at}
+use Rattle.cedar_scan.specs.Automata.{AreByDepth, AreNodes, child_in, IsGoto, IsPlacing, state_at}
 use Rattle.cedar_scan.specs.Falls.{AddsFall, AddsPopped, AreFalls, AreFallsFirst, CanFall, fall_at, FallsTo, HasFall, popped_key, pops_of}
 use Rattle.cedar_scan.specs.Leftmost.{IsFall, IsFallOn, popped_at}
 use Rattle.cedar_scan.specs.Suffixes.{is_node}
 use Rattle.cedar_scan.proofs.LeftmostLemmas.{fall_of_byte, fall_of_key, fall_to_child, fall_to_root, falls_further, falls_on}
-use Rattle.cedar_scan.proofs.LinkLemmas.{IsListed, listed}
-use Rattle.cedar_scan.proofs.ListLemmas.{same_front}
+use Rattle.cedar_scan.proofs.LinkLemmas.{listed}
 use Rattle.cedar_scan.proofs.SuffixLemmas.{node_front}
 
 -- ---- lists of keys that grow

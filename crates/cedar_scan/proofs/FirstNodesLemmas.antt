@@ -1,16 +1,15 @@
 -- How the nodes are listed with those numbers alone that can count.
-use Rattle.std.proofs.Common.{◌≡◌, ℕ, ◌+◌, ◌<◌, ◌≤◌, true, ℤ, List, [], ◌∷◌, ◌++◌, get_or, length, length-append, Option, Some, None, refl, sym, ap, subst, ◌∙◌, arith, inl, inr}
+use Rattle.std.proofs.Common.{◌≡◌, ℕ, ◌+◌, ◌<◌, ◌≤◌, true, ℤ, List, [], ◌∷◌, ◌++◌, get_or, length, length-append, Option, None, refl, sym, ap, subst, ◌∙◌, arith, inl, inr}
 use Rattle.std.specs.Prelude.{slice_set}
-use Rattle.std.specs.List.{All, Contains}
 use Rattle.std.proofs.lemmas.Bool.Decides.{eqb_tells, leb_tells}
 use Rattle.std.proofs.lemmas.List.{get_or-set_other, get_or-set_same, get_or_append_left, get_or_default}
 use Rattle.std.proofs.lemmas.List.Elements.{All-append, All-cons, All-nil}
-use Rattle.cedar_tree.specs.Tree.{number_at, Tree}
+use Rattle.cedar_tree.specs.Tree.{Tree}
 use Rattle.cedar_scan.specs.declared.state.PlacedNode.{PlacedNode}
 use Rattle.cedar_scan.specs.Automata.{AreByDepth, AreNodes, AreSlotsWithin, IsListedNode, IsPlacing}
 use Rattle.cedar_scan.specs.Preferred.{AreFirst, AreLeast, first_tree, if_less, least_on, lesser, least_in}
 use Rattle.cedar_scan.specs.Suffixes.{is_node}
-use Rattle.cedar_scan.proofs.LinkLemmas.{IsListed, listed, slots_inside}
+use Rattle.cedar_scan.proofs.LinkLemmas.{listed, slots_inside}
 use Rattle.cedar_scan.proofs.ListLemmas.{snoc_not_empty}
 use Rattle.cedar_scan.proofs.PreferredLemmas.{least_next, node_kept, number_kept}
 use Rattle.cedar_scan.proofs.SuffixLemmas.{node_front}

@@ -1,5 +1,5 @@
 -- How a search for keywords goes on, and what it gives.
-use Rattle.std.proofs.Common.{◌≡◌, ◌⊎◌, inl, inr, ℕ, zero, suc, ◌+◌, ◌-◌, ◌*◌, ◌<◌, ◌≤◌, Bool, true, false, cond, ℤ, List, [], ◌∷◌, ◌++◌, add-one, append_assoc, drop, get_or, length, length-append, map, take, Option, Some, None, refl, sym, ap, subst, ◌∙◌, arith}
+use Rattle.std.proofs.Common.{◌≡◌, inl, inr, ℕ, suc, ◌+◌, ◌-◌, ◌*◌, ◌<◌, ◌≤◌, Bool, true, false, cond, List, [], ◌∷◌, ◌++◌, add-one, append_assoc, drop, get_or, length, length-append, map, take, Some, None, refl, sym, ap, subst, ◌∙◌, arith}
 use Rattle.std.specs.List.{All}
 use Rattle.std.proofs.Math.Seq.{drop-cons, drop-length, take-suc}
 use Rattle.std.proofs.lemmas.List.{append-nil, drop-append-le, drop_all, length-take-le}
@@ -14,7 +14,7 @@ use Rattle.cedar_scan.specs.declared.state.State.{State}
 use Rattle.cedar_scan.specs.Automata.{child_in, state_at}
 use Rattle.cedar_scan.specs.Falls.{fall_at, HasFall, popped_key, pops_of}
 use Rattle.cedar_scan.specs.Keywords.{CantGoOn, StepsOn, IsKeywordAutomaton, IsKeywordCursor, keywords_left, read_path, pending_of, StepsOnOrEnds, tests_left}
-use Rattle.cedar_scan.specs.Leftmost.{IsFall, popped_at}
+use Rattle.cedar_scan.specs.Leftmost.{popped_at}
 use Rattle.cedar_scan.specs.Scans.{last_of}
 use Rattle.cedar_scan.specs.Suffixes.{is_node}
 use Rattle.cedar_scan.proofs.LeftmostLemmas.{byte_passed, longest_stops}

@@ -1,13 +1,13 @@
 -- Keys that don't overlap, leftmost longest: what is left once a path can't go on.
-use Rattle.std.proofs.Common.{◌≡◌, ◌⊎◌, inl, inr, ℕ, zero, suc, ◌+◌, ◌-◌, ◌<◌, ◌≤◌, Bool, true, false, ℤ, List, [], ◌∷◌, ◌++◌, append_assoc, append-nil, drop, length, length-append, map, take, MatchOption, Option, Some, None, option_map, refl, sym, ap, subst, ◌∙◌, arith}
+use Rattle.std.proofs.Common.{◌≡◌, inl, inr, ℕ, zero, suc, ◌+◌, ◌-◌, ◌<◌, ◌≤◌, true, false, ℤ, List, [], ◌∷◌, ◌++◌, append_assoc, append-nil, drop, length, length-append, map, take, MatchOption, Option, Some, None, refl, sym, ap, ◌∙◌, arith}
 use Rattle.std.specs.List.{All}
 use Rattle.std.proofs.Math.Seq.{drop-length}
 use Rattle.std.proofs.lemmas.Bool.Decides.{eqb_tells, leb_tells}
 use Rattle.std.proofs.lemmas.List.Elements.{All-append, All-cons, All-head, All-nil, All-tail}
 use Rattle.std.proofs.lemmas.List.{drop-append-le, map-append, take-append-le, take_all}
 use Rattle.cedar_tree.specs.Tree.{number_at, Tree}
-use Rattle.cedar_words.specs.Spots.{keyword_of, keywords_from, keywords_of, Spot}
-use Rattle.cedar_words.specs.Tokens.{found_number, len_of, longest, Token, tokens_behind}
+use Rattle.cedar_words.specs.Spots.{keywords_from, keywords_of, Spot}
+use Rattle.cedar_words.specs.Tokens.{longest}
 use Rattle.cedar_words.proofs.LongestLemmas.{IsLast, longest_is}
 use Rattle.cedar_words.proofs.TokenLemmas.{tokens_next}
 use Rattle.cedar_scan.specs.Leftmost.{IsFall, IsFallOn, popped_at}

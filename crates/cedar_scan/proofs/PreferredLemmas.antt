@@ -1,12 +1,11 @@
 -- The keys that a kind of match can take, and what is found by them.
-use Rattle.std.proofs.Common.{◌≡◌, ℕ, zero, suc, ◌+◌, ◌-◌, ◌<◌, ◌≤◌, Bool, true, false, cond, ◌&&◌, ◌||◌, ◌==◌, ℤ, List, [], ◌∷◌, ◌++◌, get_or, length, take, Option, Some, None, option_map, refl, sym, ap, subst, ◌∙◌, arith}
+use Rattle.std.proofs.Common.{◌≡◌, ℕ, zero, suc, ◌+◌, ◌-◌, ◌<◌, true, false, cond, ◌&&◌, ◌||◌, ◌==◌, ℤ, List, [], ◌∷◌, ◌++◌, get_or, length, take, Option, Some, None, option_map, refl, sym, ap, ◌∙◌, arith}
 use Rattle.std.specs.Prelude.{int_le}
 use Rattle.std.specs.List.{cons_option, filter_map, last_or, range_with_len}
 use Rattle.std.proofs.lemmas.List.{take_more}
-use Rattle.cedar_tree.specs.Queries.{front}
-use Rattle.cedar_tree.specs.Tree.{child, empty_tree, Forest, has_label, none, number_at, subtree, Tree}
-use Rattle.cedar_words.specs.Spots.{keyword_of, keywords_from, keywords_in, keywords_of, spot, Spot}
-use Rattle.cedar_words.specs.Tokens.{found_number, len_of, longest, Token, tokens_behind}
+use Rattle.cedar_tree.specs.Tree.{child, Forest, has_label, none, number_at, subtree, Tree}
+use Rattle.cedar_words.specs.Spots.{keyword_of, keywords_in, keywords_of, spot, Spot}
+use Rattle.cedar_words.specs.Tokens.{found_number, len_of, longest, tokens_behind}
 use Rattle.cedar_scan.specs.Automata.{IsPlacing}
 use Rattle.cedar_scan.specs.Preferred.{first_below, first_tree, if_less, least_first, least_on, leftmost, leftmost_behind, lesser, key_for, keys_for}
 use Rattle.cedar_scan.specs.Suffixes.{is_node}

@@ -1,4 +1,4 @@
-use Rattle.std.proofs.Common.{◌≡◌, ◌∙◌, ◌<◌, ◌^◌, arith, length, refl}
+use Rattle.std.proofs.Common.{◌∙◌, arith, refl}
 use Rattle.cedar_scan.proofs.FallLemmas.{adds_fall, own_inside, to_small}
 use Rattle.cedar_scan.proofs.falls.add_fall.Goals as goal
 

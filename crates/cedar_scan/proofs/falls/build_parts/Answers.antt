@@ -1,10 +1,9 @@
-use Rattle.std.proofs.Common.{◌≡◌, ◌∙◌, ◌++◌, ◌<◌, ℕ, List, ap, drop, length, take, refl, rules, subst, sym, vec_len}
+use Rattle.std.proofs.Common.{◌≡◌, ◌∙◌, ◌++◌, List, ap, drop, length, take, rules, subst, sym}
 use Rattle.std.proofs.lemmas.List.Sorted.{IsNonDecreasingBy-from_sort_by_key}
-use Rattle.cedar_scan.specs.Automata.{AreByDepth, AreLaid, AreLinkedFirst, AreNodes, AreSlotsWithin, IsGoto}
+use Rattle.cedar_scan.specs.Automata.{AreByDepth, AreLaid, AreNodes, AreSlotsWithin, IsGoto}
 use Rattle.cedar_scan.specs.declared.state.PlacedNode.{PlacedNode}
 use Rattle.cedar_scan.specs.Falls.{AreFalls}
 use Rattle.cedar_scan.specs.declared.falls.Fall.{Fall}
-use Rattle.cedar_scan.specs.declared.state.State.{State}
 use Rattle.cedar_scan.proofs.LinkLemmas.{first_links, sorted_nodes}
 use Rattle.cedar_scan.proofs.ListLemmas.{whole_front}
 use Rattle.cedar_scan.proofs.falls.build_parts.Goals as goal
