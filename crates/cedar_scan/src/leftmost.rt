@@ -1,7 +1,7 @@
 //! Leftmost matches of a text: keys that don't overlap, of those that begin first the longest.
 
 ghost use Rattle.std.specs.Prelude.{◌*◌, ◌+◌, ◌≡◌, ◌≤◌, ◌≢◌, length, ⊤};
-ghost use Rattle.cedar_scan.specs.Words.{CantGoOn, StepsOn, StepsOnOrEnds, IsBlankOf};
+ghost use Rattle.cedar_scan.specs.Words.{CantGoOn, ScansOn, ScansOnOrEnds, IsBlankOf};
 ghost use Rattle.cedar_scan.specs.Words.{IsKeywordAutomaton, IsKeywordCursor, item_count};
 ghost use Rattle.cedar_scan.specs.Words.{keyword_code, KeywordsLeft};
 ghost use Rattle.cedar_scan.specs.Words.{keywords_in, keywords_left, tests_left, YieldsFirst};
@@ -43,7 +43,7 @@ fn fall<T: Placed>(
     requires none { cursor.old.next ≡ cursor.old.last }
     requires other { cursor.old.slot ≢ 0 }
     requires stops { CantGoOn states.now text.now cursor.old }
-    ensures { StepsOn (T.tree trie.now) (T.slot_of trie.now) states.now popped.now text.now cursor.old cursor.new 0 0 }
+    ensures { ScansOn (T.tree trie.now) (T.slot_of trie.now) states.now popped.now text.now cursor.old cursor.new 0 0 }
 {
     let fall = falls[cursor.slot];
     cursor.base = cursor.place - states[cursor.slot].depth as usize;
@@ -65,7 +65,7 @@ fn leave_last<T: Placed>(
     requires cursor { IsKeywordCursor (T.tree trie.now) (T.slot_of trie.now) states.now popped.now text.now cursor.old }
     requires none { cursor.old.next ≡ cursor.old.last }
     requires end { cursor.old.place ≡ length text.now }
-    ensures { StepsOnOrEnds (T.tree trie.now) (T.slot_of trie.now) states.now popped.now text.now cursor.old result cursor.new 0 0 }
+    ensures { ScansOnOrEnds (T.tree trie.now) (T.slot_of trie.now) states.now popped.now text.now cursor.old result cursor.new 0 0 }
 {
     if cursor.slot == 0 {
         return false;
@@ -87,7 +87,7 @@ fn go_on<T: Placed, C: Ledger>(
     requires automaton { IsKeywordAutomaton (T.tree trie.now) (T.slot_of trie.now) states.now falls.now popped.now }
     requires cursor { IsKeywordCursor (T.tree trie.now) (T.slot_of trie.now) states.now popped.now text.now cursor.old }
     requires none { cursor.old.next ≡ cursor.old.last }
-    ensures { StepsOnOrEnds (T.tree trie.now) (T.slot_of trie.now) states.now popped.now text.now cursor.old result cursor.new ticks.old ticks.new }
+    ensures { ScansOnOrEnds (T.tree trie.now) (T.slot_of trie.now) states.now popped.now text.now cursor.old result cursor.new ticks.old ticks.new }
 {
     if cursor.place == text.len() {
         return leave_last(trie, states, falls, popped, text, cursor);
