@@ -49,7 +49,7 @@ impl<'a, T: Placed, A: Allocator + Copy> LeftmostScanner<'a, T, A> {
     /// ```
     ///
     /// # Errors
-    /// If an allocation was refused.
+    /// If an allocation was refused, or if the lists would have 2^32 keys.
     pub fn new(trie: &'a T, kind: MatchKind, alloc: A) -> Result<Self, AllocError>
         //= A scanner for leftmost matches is made of a dictionary's tree and a kind of match.
         ensures { IfOk result (λ scanner. scanner ≡ record { kind = kind; tree = T.tree trie.now }) }
