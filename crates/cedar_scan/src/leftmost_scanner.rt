@@ -13,8 +13,8 @@ use std::marker::Model;
 /// up to that of its last node, and for each node 12 bytes for each key that its path gives where it can't go on: at most as many keys as
 /// the path has bytes.
 ///
-/// Where a path can't go on, its keys are known, and what is left of it that may still begin a key: so no byte is read twice. That is linear
-/// maximum matching (Song, Salcianu, Song, Dopson and Zhou, "Fast WordPiece Tokenization", 2021).
+/// Where a path can't go on, its keys are known, and what is left of it that may still begin a key: so a search never goes back in the text.
+/// That is linear maximum matching (Song, Salcianu, Song, Dopson and Zhou, "Fast WordPiece Tokenization", 2021).
 ///
 /// A contract sees the kind of match, and the labelled tree of the dictionary.
 #[derive(Drop)]
