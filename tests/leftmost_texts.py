@@ -6,7 +6,7 @@ MatchKind, or all. Run it as python3 tests/leftmost_texts.py > tests/leftmost_te
 import random
 import textwrap
 
-CASES = 120
+CASES = 50
 LETTERS = [b"a", b"ab", b"abc", b"ab\xe7\xbd\x91", b"a\x00b"]
 
 
@@ -54,7 +54,7 @@ def standard(keys, text):
 def drawn(rng):
     letters = rng.choice(LETTERS)
     word = lambda least, most: bytes(rng.choice(letters) for _ in range(rng.randint(least, most)))
-    text = word(0, 24)
+    text = word(0, 16)
     names = {word(1, 6).replace(b"\x00", b"a") for _ in range(rng.randint(0, 6))}
     for _ in range(rng.randint(0, 4)):
         start = rng.randrange(len(text) + 1)

@@ -1,5 +1,5 @@
 -- How nodes get their falls.
-use Rattle.std.proofs.Common.{◌≡◌, ◌⊎◌, inl, inr, ℕ, zero, suc, ◌+◌, ◌-◌, ◌^◌, ◌<◌, ◌≤◌, Bool, true, false, cond, ℤ, List, [], ◌∷◌, ◌++◌, add-one, append_assoc, drop, get_or, length, length-append, map, take, Option, Some, None, refl, sym, ap, subst, ◌∙◌, arith}
+use Rattle.std.proofs.Common.{◌≡◌, inl, inr, ℕ, suc, ◌+◌, ◌-◌, ◌^◌, ◌<◌, ◌≤◌, true, false, cond, ℤ, List, [], ◌∷◌, ◌++◌, append_assoc, drop, get_or, length, length-append, map, take, Some, None, refl, sym, ap, subst, ◌∙◌, arith}
 use Rattle.std.specs.Prelude.{slice_set}
 use Rattle.std.proofs.Math.Seq.{drop-length, take-suc}
 use Rattle.std.proofs.lemmas.Bool.Decides.{eqb_tells, leb_tells}
@@ -10,13 +10,12 @@ use Rattle.cedar_scan.specs.declared.falls.Fall.{Fall}
 use Rattle.cedar_scan.specs.declared.falls.Popped.{Popped}
 use Rattle.cedar_scan.specs.declared.state.PlacedNode.{PlacedNode}
 use Rattle.cedar_scan.specs.declared.state.State.{State}
-use Rattle.cedar_scan.specs.Automata.{AreByDepth, AreNodes, child_in, IsGoto, IsListedNode, IsPlacing, state_at}
+use Rattle.cedar_scan.specs.Automata.{AreByDepth, AreNodes, child_in, IsGoto, IsPlacing, state_at}
 use Rattle.cedar_scan.specs.Falls.{AddsFall, AddsPopped, AreFalls, AreFallsFirst, CanFall, fall_at, FallsTo, HasFall, popped_key, pops_of}
 use Rattle.cedar_scan.specs.Leftmost.{IsFall, IsFallOn, popped_at}
 use Rattle.cedar_scan.specs.Suffixes.{is_node}
 use Rattle.cedar_scan.proofs.LeftmostLemmas.{fall_of_byte, fall_of_key, fall_to_child, fall_to_root, falls_further, falls_on}
-use Rattle.cedar_scan.proofs.LinkLemmas.{IsListed, listed}
-use Rattle.cedar_scan.proofs.ListLemmas.{same_front}
+use Rattle.cedar_scan.proofs.LinkLemmas.{listed}
 use Rattle.cedar_scan.proofs.SuffixLemmas.{node_front}
 
 -- ---- lists of keys that grow
@@ -72,13 +71,13 @@ one_copied old fall shift index now key new_key new so_far low high inside is sa
     let here : key ≡ get_or old index key = is ∙ ap (λ (x : List Popped). get_or x index key) so_far.adds.whole ∙ get_or_append_left old so_far.adds.added key index (omega (arith, high, inside)) in
     let left = length-drop fall.first old in
     let at : get_or (drop fall.first old) (index - fall.first) key ≡ key =
-        get_or-drop fall.first old (index - fall.first) key ∙ (let sum : fall.first + (index - fall.first) ≡ index = omega (arith, low) in ap (λ n. get_or old n key) sum) ∙ sym here in
+    get_or-drop fall.first old (index - fall.first) key ∙ (let sum : fall.first + (index - fall.first) ≡ index = omega (arith, low) in ap (λ n. get_or old n key) sum) ∙ sym here in
     let next : index + 1 - fall.first ≡ suc (index - fall.first) = omega (arith, low) in
     let front : take (index + 1 - fall.first) (drop fall.first old) ≡ take (index - fall.first) (drop fall.first old) ++ key ∷ [] =
-        ap (λ n. take n (drop fall.first old)) next ∙ take-suc (drop fall.first old) (index - fall.first) key (omega (arith, left, low, high, inside)) ∙ ap (λ (x : Popped). take (index - fall.first) (drop fall.first old) ++ x ∷ []) at in
+    ap (λ n. take n (drop fall.first old)) next ∙ take-suc (drop fall.first old) (index - fall.first) key (omega (arith, left, low, high, inside)) ∙ ap (λ (x : Popped). take (index - fall.first) (drop fall.first old) ++ x ∷ []) at in
     let one : AddsPopped now (popped_at shift (popped_key key) ∷ []) new = record { added = new_key ∷ []; whole = whole; are = ap (λ (s : Spot). s ∷ []) same } in
     let all : map (popped_at shift) (map popped_key (take (index - fall.first) (drop fall.first old))) ++ popped_at shift (popped_key key) ∷ [] ≡ map (popped_at shift) (map popped_key (take (index + 1 - fall.first) (drop fall.first old))) =
-        sym (ap (λ (x : List Popped). map (popped_at shift) (map popped_key x)) front ∙ ap (map (popped_at shift)) (map-append popped_key (take (index - fall.first) (drop fall.first old)) (key ∷ [])) ∙ map-append (popped_at shift) (map popped_key (take (index - fall.first) (drop fall.first old))) (popped_key key ∷ [])) in
+    sym (ap (λ (x : List Popped). map (popped_at shift) (map popped_key x)) front ∙ ap (map (popped_at shift)) (map-append popped_key (take (index - fall.first) (drop fall.first old)) (key ∷ [])) ∙ map-append (popped_at shift) (map popped_key (take (index - fall.first) (drop fall.first old))) (popped_key key ∷ [])) in
     record { adds = subst (λ (x : List Spot). AddsPopped old x new) all (adds_more old (map (popped_at shift) (map popped_key (take (index - fall.first) (drop fall.first old)))) now (popped_at shift (popped_key key) ∷ []) new so_far.adds one) }
 
 -- ---- a node that is no key
@@ -217,10 +216,10 @@ module _ (t : Tree) (slot_of : List ℕ → ℕ) (states : List State) (falls : 
       pub ends_at_child : (child : ℕ) → child_in states (fall_at falls slot).to n.label ≡ Some child → FallsTo t slot_of n old child new
       ends_at_child child found =
           let there : is_node t (own.rest ++ n.label ∷ []) ≡ true =
-              (elim (is_node t (own.rest ++ n.label ∷ [])) as (λ b. cond b (Some (slot_of (own.rest ++ n.label ∷ []))) None ≡ Some child → b ≡ true) [
-                | true ↦ λ _. refl
-                | false ↦ λ e. absurd (none_some child e)
-              ]) (sym child_is ∙ found) in
+          (elim (is_node t (own.rest ++ n.label ∷ [])) as (λ b. cond b (Some (slot_of (own.rest ++ n.label ∷ []))) None ≡ Some child → b ≡ true) [
+            | true ↦ λ _. refl
+            | false ↦ λ e. absurd (none_some child e)
+          ]) (sym child_is ∙ found) in
           let at : child ≡ slot_of (own.rest ++ n.label ∷ []) = some_is child (slot_of (own.rest ++ n.label ∷ [])) (sym found ∙ child_is ∙ ap (λ b. cond b (Some (slot_of (own.rest ++ n.label ∷ []))) None) there) in
           record {
             rest = own.rest ++ n.label ∷ [];
@@ -323,7 +322,7 @@ module _ (t : Tree) (slot_of : List ℕ → ℕ) (states : List State) (falls : 
       here w node at =
           let same : can.is.path ++ n.label ∷ [] ≡ w = can.placing.one (can.is.path ++ n.label ∷ []) w can.is.node node (sym can.is.slot ∙ at) in
           let written : fall_at (slice_set falls n.slot own) (slot_of w) ≡ own =
-              ap (fall_at (slice_set falls n.slot own)) (sym at) ∙ get_or-set_same falls n.slot own (record { to = 0; first = 0; last = 0 }) own_inside in
+          ap (fall_at (slice_set falls n.slot own)) (sym at) ∙ get_or-set_same falls n.slot own (record { to = 0; first = 0; last = 0 }) own_inside in
           let more = grown in
           let low : own.first ≤ own.last = omega (arith, first, last, more) in
           let high : own.last ≤ length new = omega (arith, last) in

@@ -1,16 +1,15 @@
 -- How the nodes are listed with those numbers alone that can count.
-use Rattle.std.proofs.Common.{◌≡◌, ℕ, ◌+◌, ◌<◌, ◌≤◌, true, ℤ, List, [], ◌∷◌, ◌++◌, get_or, length, length-append, Option, Some, None, refl, sym, ap, subst, ◌∙◌, arith, inl, inr}
+use Rattle.std.proofs.Common.{◌≡◌, ℕ, ◌+◌, ◌<◌, ◌≤◌, true, ℤ, List, [], ◌∷◌, ◌++◌, get_or, length, length-append, Option, None, refl, sym, ap, subst, ◌∙◌, arith, inl, inr}
 use Rattle.std.specs.Prelude.{slice_set}
-use Rattle.std.specs.List.{All, Contains}
 use Rattle.std.proofs.lemmas.Bool.Decides.{eqb_tells, leb_tells}
 use Rattle.std.proofs.lemmas.List.{get_or-set_other, get_or-set_same, get_or_append_left, get_or_default}
 use Rattle.std.proofs.lemmas.List.Elements.{All-append, All-cons, All-nil}
-use Rattle.cedar_tree.specs.Tree.{number_at, Tree}
+use Rattle.cedar_tree.specs.Tree.{Tree}
 use Rattle.cedar_scan.specs.declared.state.PlacedNode.{PlacedNode}
 use Rattle.cedar_scan.specs.Automata.{AreByDepth, AreNodes, AreSlotsWithin, IsListedNode, IsPlacing}
 use Rattle.cedar_scan.specs.Preferred.{AreFirst, AreLeast, first_tree, if_less, least_on, lesser, least_in}
 use Rattle.cedar_scan.specs.Suffixes.{is_node}
-use Rattle.cedar_scan.proofs.LinkLemmas.{IsListed, listed, slots_inside}
+use Rattle.cedar_scan.proofs.LinkLemmas.{listed, slots_inside}
 use Rattle.cedar_scan.proofs.ListLemmas.{snoc_not_empty}
 use Rattle.cedar_scan.proofs.PreferredLemmas.{least_next, node_kept, number_kept}
 use Rattle.cedar_scan.proofs.SuffixLemmas.{node_front}
@@ -30,7 +29,7 @@ module _ (t : Tree) (slot_of : List ℕ → ℕ) (p : IsPlacing t slot_of) (node
   none_first first e = subst (AreFirst t slot_of nodes 0) (sym e) (record { size = refl; each = All-nil (IsListedNode (first_tree t) slot_of); slots = λ k d less. absurd (omega (arith, less)) })
 
   module _ (i : ℕ) (d : PlacedNode) (inside : i < length nodes) (least : List (Option ℤ)) (so_far : AreLeast t slot_of nodes i least) where
-    own : IsListedNode t slot_of (get_or nodes i d)
+    pub own : IsListedNode t slot_of (get_or nodes i d)
     own = all.each i d inside
 
     above_node : is_node t own.path ≡ true
@@ -67,21 +66,21 @@ module _ (t : Tree) (slot_of : List ℕ → ℕ) (p : IsPlacing t slot_of) (node
         let n = get_or nodes i d in
         let now : Option ℤ = lesser (least_in least n.parent) n.number in
         let now_is : now ≡ least_on None t (own.path ++ n.label ∷ []) =
-            ap (λ (o : Option ℤ). lesser o n.number) above_is ∙ ap (lesser (least_on None t own.path)) own.number ∙ sym (least_next None t own.path n.label) in
+        ap (λ (o : Option ℤ). lesser o n.number) above_is ∙ ap (lesser (least_on None t own.path)) own.number ∙ sym (least_next None t own.path n.label) in
         let here : (w : List ℕ) → is_node t w ≡ true → n.slot ≡ slot_of w → least_in (slice_set least n.slot now) (slot_of w) ≡ least_on None t w = λ w node slot.
-            let same : own.path ++ n.label ∷ [] ≡ w = p.one (own.path ++ n.label ∷ []) w own.node node (sym own.slot ∙ slot) in
-            ap (least_in (slice_set least n.slot now)) (sym slot) ∙ get_or-set_same least n.slot now None own_inside ∙ now_is ∙ ap (least_on None t) same in
+        let same : own.path ++ n.label ∷ [] ≡ w = p.one (own.path ++ n.label ∷ []) w own.node node (sym own.slot ∙ slot) in
+        ap (least_in (slice_set least n.slot now)) (sym slot) ∙ get_or-set_same least n.slot now None own_inside ∙ now_is ∙ ap (least_on None t) same in
         let other_root : slot_of [] ≡ n.slot → ⊥ = λ e. snoc_not_empty own.path n.label (p.one (own.path ++ n.label ∷ []) [] own.node refl (sym own.slot ∙ sym e)) in
         record {
           root = get_or-set_other least n.slot (slot_of []) now None other_root ∙ so_far.root;
           each = λ k x less w node slot. elim (eqb_tells (slot_of w) n.slot) [
             | inl same ↦ here w node (sym same.1)
             | inr other ↦ elim (eqb_tells k i) [
-                | inl last ↦ absurd (other.1 (sym slot ∙ ap (λ (m : PlacedNode). m.slot) (ap (λ j. get_or nodes j x) last.1 ∙ get_or_default nodes i x d inside)))
-                | inr before ↦
-                    let differ = before.1 in
-                    get_or-set_other least n.slot (slot_of w) now None other.1 ∙ so_far.each k x (omega (arith, less, differ)) w node slot
-              ]
+              | inl last ↦ absurd (other.1 (sym slot ∙ ap (λ (m : PlacedNode). m.slot) (ap (λ j. get_or nodes j x) last.1 ∙ get_or_default nodes i x d inside)))
+              | inr before ↦
+                  let differ = before.1 in
+                  get_or-set_other least n.slot (slot_of w) now None other.1 ∙ so_far.each k x (omega (arith, less, differ)) w node slot
+            ]
           ];
         }
 

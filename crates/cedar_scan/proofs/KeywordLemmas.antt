@@ -1,5 +1,5 @@
 -- How a search for keywords goes on, and what it gives.
-use Rattle.std.proofs.Common.{◌≡◌, ◌⊎◌, inl, inr, ℕ, zero, suc, ◌+◌, ◌-◌, ◌*◌, ◌<◌, ◌≤◌, Bool, true, false, cond, ℤ, List, [], ◌∷◌, ◌++◌, add-one, append_assoc, drop, get_or, length, length-append, map, take, Option, Some, None, refl, sym, ap, subst, ◌∙◌, arith}
+use Rattle.std.proofs.Common.{◌≡◌, inl, inr, ℕ, suc, ◌+◌, ◌-◌, ◌*◌, ◌<◌, ◌≤◌, Bool, true, false, cond, List, [], ◌∷◌, ◌++◌, add-one, append_assoc, drop, get_or, length, length-append, map, take, Some, None, refl, sym, ap, subst, ◌∙◌, arith}
 use Rattle.std.specs.List.{All}
 use Rattle.std.proofs.Math.Seq.{drop-cons, drop-length, take-suc}
 use Rattle.std.proofs.lemmas.List.{append-nil, drop-append-le, drop_all, length-take-le}
@@ -13,8 +13,8 @@ use Rattle.cedar_scan.specs.declared.leftmost.KeywordCursor.{KeywordCursor}
 use Rattle.cedar_scan.specs.declared.state.State.{State}
 use Rattle.cedar_scan.specs.Automata.{child_in, state_at}
 use Rattle.cedar_scan.specs.Falls.{fall_at, HasFall, popped_key, pops_of}
-use Rattle.cedar_scan.specs.Keywords.{CantGoOn, StepsOn, IsKeywordAutomaton, IsKeywordCursor, keywords_left, read_path, pending_of, StepsOnOrEnds, tests_left}
-use Rattle.cedar_scan.specs.Leftmost.{IsFall, popped_at}
+use Rattle.cedar_scan.specs.Keywords.{CantGoOn, ScansOn, IsKeywordAutomaton, IsKeywordCursor, keywords_left, read_path, pending_of, ScansOnOrEnds, tests_left}
+use Rattle.cedar_scan.specs.Leftmost.{popped_at}
 use Rattle.cedar_scan.specs.Scans.{last_of}
 use Rattle.cedar_scan.specs.Suffixes.{is_node}
 use Rattle.cedar_scan.proofs.LeftmostLemmas.{byte_passed, longest_stops}
@@ -85,14 +85,14 @@ module _ (t : Tree) (slot_of : List ℕ → ℕ) (states : List State) (falls : 
 
     -- it goes on to a child
     pub goes_to_child : (child : ℕ) → child_in states c.slot (get_or text c.place 0) ≡ Some child → (new : KeywordCursor) → new ≡ record { place = c.place + 1; slot = child; base = c.base; next = c.next; last = c.last }
-        → (before after : ℕ) → after ≡ before + 1 → StepsOn t slot_of states popped text c new before after
+        → (before after : ℕ) → after ≡ before + 1 → ScansOn t slot_of states popped text c new before after
     goes_to_child child found new is before after one =
         let b = get_or text c.place 0 in
         let there : is_node t (at.path ++ b ∷ []) ≡ true =
-            (elim (is_node t (at.path ++ b ∷ [])) as (λ x. cond x (Some (slot_of (at.path ++ b ∷ []))) None ≡ Some child → x ≡ true) [
-              | true ↦ λ _. refl
-              | false ↦ λ e. absurd (none_some child e)
-            ]) (sym child_is ∙ found) in
+        (elim (is_node t (at.path ++ b ∷ [])) as (λ x. cond x (Some (slot_of (at.path ++ b ∷ []))) None ≡ Some child → x ≡ true) [
+          | true ↦ λ _. refl
+          | false ↦ λ e. absurd (none_some child e)
+        ]) (sym child_is ∙ found) in
         let slot : child ≡ slot_of (at.path ++ b ∷ []) = some_is child (slot_of (at.path ++ b ∷ [])) (sym found ∙ child_is ∙ ap (λ x. cond x (Some (slot_of (at.path ++ b ∷ []))) None) there) in
         let long = length-append at.path (b ∷ []) in
         let read = read_long c at in
@@ -113,7 +113,7 @@ module _ (t : Tree) (slot_of : List ℕ → ℕ) (states : List State) (falls : 
         let begin : c.place - length at.path ≡ c.place + 1 - length (at.path ++ b ∷ []) = omega (arith, long) in
         let old = deep c at in
         let new_deep = deep next cursor in
-        subst (λ x. StepsOn t slot_of states popped text c x before after) (sym is) (record {
+        subst (λ x. ScansOn t slot_of states popped text c x before after) (sym is) (record {
           cursor = cursor;
           keywords =
               left_alone c at none
@@ -134,7 +134,7 @@ module _ (t : Tree) (slot_of : List ℕ → ℕ) (states : List State) (falls : 
 
     -- or passes a byte that begins no key
     pub passes_byte : child_in states c.slot (get_or text c.place 0) ≡ None → c.slot ≡ 0 → (new : KeywordCursor) → new ≡ record { place = c.place + 1; slot = c.slot; base = c.base; next = c.next; last = c.last }
-        → (before after : ℕ) → after ≡ before + 1 → StepsOn t slot_of states popped text c new before after
+        → (before after : ℕ) → after ≡ before + 1 → ScansOn t slot_of states popped text c new before after
     passes_byte is root_is new new_is before after one =
         let b = get_or text c.place 0 in
         let empty : at.path ≡ [] = h.placing.one at.path [] at.node refl (sym at.at ∙ root_is ∙ sym h.placing.root) in
@@ -156,7 +156,7 @@ module _ (t : Tree) (slot_of : List ℕ → ℕ) (states : List State) (falls : 
         let old = deep c at in
         let new_deep = deep next cursor in
         let short = ap length empty in
-        subst (λ x. StepsOn t slot_of states popped text c x before after) (sym new_is) (record {
+        subst (λ x. ScansOn t slot_of states popped text c x before after) (sym new_is) (record {
           cursor = cursor;
           keywords =
               left_alone c at none
@@ -180,10 +180,10 @@ module _ (t : Tree) (slot_of : List ℕ → ℕ) (states : List State) (falls : 
 
   pub falls_from : (c : KeywordCursor) (at : IsKeywordCursor t slot_of states popped text c) → c.next ≡ c.last → (c.slot ≡ 0 → ⊥) → CantGoOn states text c
       → (new : KeywordCursor) → new ≡ record { place = c.place; slot = (fall_at falls c.slot).to; base = c.place - (state_at states c.slot).depth; next = (fall_at falls c.slot).first; last = (fall_at falls c.slot).last }
-      → StepsOn t slot_of states popped text c new 0 0
+      → ScansOn t slot_of states popped text c new 0 0
   falls_from c at none other cant new new_is = by_path at.path refl
     where
-      by_path : (w : List ℕ) → at.path ≡ w → StepsOn t slot_of states popped text c new 0 0
+      by_path : (w : List ℕ) → at.path ≡ w → ScansOn t slot_of states popped text c new 0 0
       by_path [] e = absurd (other (at.at ∙ ap slot_of e ∙ h.placing.root))
       by_path (x ∷ u) e =
           let long = ap length e in
@@ -197,8 +197,8 @@ module _ (t : Tree) (slot_of : List ℕ → ℕ) (states : List State) (falls : 
           let short = at.short in
           let read = read_long c at in
           let suffix : own.rest ≡ last_of (length own.rest) (take c.place text) =
-              sym (last_behind_front own.fall.front own.rest) ∙ ap (last_of (length own.rest)) (sym own.fall.whole ∙ at.here)
-              ∙ last_last (length own.rest) (length at.path) (take c.place text) (omega (arith, less)) (omega (arith, short, read)) in
+          sym (last_behind_front own.fall.front own.rest) ∙ ap (last_of (length own.rest)) (sym own.fall.whole ∙ at.here)
+          ∙ last_last (length own.rest) (length at.path) (take c.place text) (omega (arith, less)) (omega (arith, short, read)) in
           let cursor : IsKeywordCursor t slot_of states popped text next = record {
             path = own.rest;
             node = own.fall.node;
@@ -212,7 +212,7 @@ module _ (t : Tree) (slot_of : List ℕ → ℕ) (states : List State) (falls : 
           } in
           let begin : c.place - length at.path + (length at.path - length own.rest) ≡ c.place - length own.rest = omega (arith, less, short) in
           let new_deep = deep next cursor in
-          subst (λ k. StepsOn t slot_of states popped text c k 0 0) (sym new_is) (record {
+          subst (λ k. ScansOn t slot_of states popped text c k 0 0) (sym new_is) (record {
             cursor = cursor;
             keywords =
                 left_alone c at none
@@ -226,18 +226,18 @@ module _ (t : Tree) (slot_of : List ℕ → ℕ) (states : List State) (falls : 
           })
 
   -- the tests before a fall are paid for by it
-  pub falls_paid : (c new : KeywordCursor) (before after : ℕ) → after ≤ before + 1 → StepsOn t slot_of states popped text c new 0 0 → StepsOn t slot_of states popped text c new before after
+  pub falls_paid : (c new : KeywordCursor) (before after : ℕ) → after ≤ before + 1 → ScansOn t slot_of states popped text c new 0 0 → ScansOn t slot_of states popped text c new before after
   falls_paid c new before after few goes = let fewer = goes.fewer in record { cursor = goes.cursor; keywords = goes.keywords; fewer = fewer; cost = omega (arith, few, fewer) }
 
   -- what is left of a search once it has gone on, or hasn't
-  pub went_on : (c : KeywordCursor) (told : Bool) (new : KeywordCursor) (before after : ℕ) → StepsOnOrEnds t slot_of states popped text c told new before after → told ≡ true → StepsOn t slot_of states popped text c new before after
-  went_on c told new before after goes e = subst (λ (b : Bool). StepsOnOrEnds t slot_of states popped text c b new before after) e goes
+  pub went_on : (c : KeywordCursor) (told : Bool) (new : KeywordCursor) (before after : ℕ) → ScansOnOrEnds t slot_of states popped text c told new before after → told ≡ true → ScansOn t slot_of states popped text c new before after
+  went_on c told new before after goes e = subst (λ (b : Bool). ScansOnOrEnds t slot_of states popped text c b new before after) e goes
 
-  pub ended : (c : KeywordCursor) (told : Bool) (new : KeywordCursor) (before after : ℕ) → StepsOnOrEnds t slot_of states popped text c told new before after → told ≡ false → (keywords_left t states popped text c ≡ []) × (new ≡ c) × (after ≡ before)
-  ended c told new before after goes e = subst (λ (b : Bool). StepsOnOrEnds t slot_of states popped text c b new before after) e goes
+  pub ended : (c : KeywordCursor) (told : Bool) (new : KeywordCursor) (before after : ℕ) → ScansOnOrEnds t slot_of states popped text c told new before after → told ≡ false → (keywords_left t states popped text c ≡ []) × (new ≡ c) × (after ≡ before)
+  ended c told new before after goes e = subst (λ (b : Bool). ScansOnOrEnds t slot_of states popped text c b new before after) e goes
 
   -- at the end of the text no test is made
-  pub ends_or_leaves : (c : KeywordCursor) (told : Bool) (new : KeywordCursor) (before : ℕ) → StepsOnOrEnds t slot_of states popped text c told new 0 0 → StepsOnOrEnds t slot_of states popped text c told new before before
+  pub ends_or_leaves : (c : KeywordCursor) (told : Bool) (new : KeywordCursor) (before : ℕ) → ScansOnOrEnds t slot_of states popped text c told new 0 0 → ScansOnOrEnds t slot_of states popped text c told new before before
   ends_or_leaves c true new before goes = falls_paid c new before before (omega arith) goes
   ends_or_leaves c false new before ends = (ends.0, ends.1, refl)
 

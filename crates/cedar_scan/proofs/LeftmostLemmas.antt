@@ -1,13 +1,13 @@
 -- Keys that don't overlap, leftmost longest: what is left once a path can't go on.
-use Rattle.std.proofs.Common.{◌≡◌, ◌⊎◌, inl, inr, ℕ, zero, suc, ◌+◌, ◌-◌, ◌<◌, ◌≤◌, Bool, true, false, ℤ, List, [], ◌∷◌, ◌++◌, append_assoc, append-nil, drop, length, length-append, map, take, MatchOption, Option, Some, None, option_map, refl, sym, ap, subst, ◌∙◌, arith}
+use Rattle.std.proofs.Common.{◌≡◌, inl, inr, ℕ, zero, suc, ◌+◌, ◌-◌, ◌<◌, ◌≤◌, true, false, ℤ, List, [], ◌∷◌, ◌++◌, append_assoc, append-nil, drop, length, length-append, map, take, MatchOption, Option, Some, None, refl, sym, ap, ◌∙◌, arith}
 use Rattle.std.specs.List.{All}
 use Rattle.std.proofs.Math.Seq.{drop-length}
 use Rattle.std.proofs.lemmas.Bool.Decides.{eqb_tells, leb_tells}
 use Rattle.std.proofs.lemmas.List.Elements.{All-append, All-cons, All-head, All-nil, All-tail}
-use Rattle.std.proofs.lemmas.List.{ drop-append-le, map-append, take-append-le, take_all}
+use Rattle.std.proofs.lemmas.List.{drop-append-le, map-append, take-append-le, take_all}
 use Rattle.cedar_tree.specs.Tree.{number_at, Tree}
-use Rattle.cedar_words.specs.Spots.{keyword_of, keywords_from, keywords_of, Spot}
-use Rattle.cedar_words.specs.Tokens.{found_number, len_of, longest, Token, tokens_behind}
+use Rattle.cedar_words.specs.Spots.{keywords_from, keywords_of, Spot}
+use Rattle.cedar_words.specs.Tokens.{longest}
 use Rattle.cedar_words.proofs.LongestLemmas.{IsLast, longest_is}
 use Rattle.cedar_words.proofs.TokenLemmas.{tokens_next}
 use Rattle.cedar_scan.specs.Leftmost.{IsFall, IsFallOn, popped_at}
@@ -45,12 +45,12 @@ is_last t q (Some found) v n is less held later = elim (eqb_tells found.1 n) [
       ap (λ (x : ℤ). Some (x, found.1)) (same_number found.0 v (sym is.1 ∙ ap (λ m. number_at t (take (m + 1) q)) same.1 ∙ held))
       ∙ ap (λ (m : ℕ). Some (v, m)) same.1
   | inr other ↦ elim (leb_tells (found.1 + 1) n) [
-      | inl below ↦ absurd (some_none v (sym held ∙ is.2 n below.1 less))
-      | inr above ↦
-          let differ = other.1 in
-          let high = above.1 in
-          absurd (some_none found.0 (sym is.1 ∙ later found.1 (omega (arith, differ, high)) is.0))
-    ]
+    | inl below ↦ absurd (some_none v (sym held ∙ is.2 n below.1 less))
+    | inr above ↦
+        let differ = other.1 in
+        let high = above.1 in
+        absurd (some_none found.0 (sym is.1 ∙ later found.1 (omega (arith, differ, high)) is.0))
+  ]
 ]
 
 pub longest_none : (t : Tree) (q : List ℕ) → NoneFrom t q 0 (length q) → longest t q ≡ None
@@ -91,7 +91,7 @@ longest_stops t p c y gone = longest_same t p (c ∷ y) (λ k low high. no_node_
         let one = length-append p (c ∷ []) in
         let split : p ++ c ∷ y ≡ (p ++ c ∷ []) ++ y = sym (append_assoc p (c ∷ []) y) in
         let more : take (k + 1) (p ++ c ∷ y) ≡ (p ++ c ∷ []) ++ take (k + 1 - length (p ++ c ∷ [])) y =
-            ap (take (k + 1)) split ∙ take_behind (p ++ c ∷ []) y (k + 1) (omega (arith, low, one)) in
+        ap (take (k + 1)) split ∙ take_behind (p ++ c ∷ []) y (k + 1) (omega (arith, low, one)) in
         ap (is_node t) more ∙ no_node_further t (p ++ c ∷ []) (take (k + 1 - length (p ++ c ∷ [])) y) gone
 
 -- a path that is no key begins with the longest key of its front

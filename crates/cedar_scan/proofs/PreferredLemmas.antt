@@ -1,12 +1,11 @@
 -- The keys that a kind of match can take, and what is found by them.
-use Rattle.std.proofs.Common.{◌≡◌, ℕ, zero, suc, ◌+◌, ◌-◌, ◌<◌, ◌≤◌, Bool, true, false, cond, ◌&&◌, ◌||◌, ◌==◌, ℤ, List, [], ◌∷◌, ◌++◌, get_or, length, take, Option, Some, None, option_map, refl, sym, ap, subst, ◌∙◌, arith}
+use Rattle.std.proofs.Common.{◌≡◌, ℕ, zero, suc, ◌+◌, ◌-◌, ◌<◌, true, false, cond, ◌&&◌, ◌||◌, ◌==◌, ℤ, List, [], ◌∷◌, ◌++◌, get_or, length, take, Option, Some, None, option_map, refl, sym, ap, ◌∙◌, arith}
 use Rattle.std.specs.Prelude.{int_le}
 use Rattle.std.specs.List.{cons_option, filter_map, last_or, range_with_len}
 use Rattle.std.proofs.lemmas.List.{take_more}
-use Rattle.cedar_tree.specs.Queries.{front}
-use Rattle.cedar_tree.specs.Tree.{child, empty_tree, Forest, has_label, none, number_at, subtree, Tree}
-use Rattle.cedar_words.specs.Spots.{keyword_of, keywords_from, keywords_in, keywords_of, spot, Spot}
-use Rattle.cedar_words.specs.Tokens.{found_number, len_of, longest, Token, tokens_behind}
+use Rattle.cedar_tree.specs.Tree.{child, Forest, has_label, none, number_at, subtree, Tree}
+use Rattle.cedar_words.specs.Spots.{keyword_of, keywords_in, keywords_of, spot, Spot}
+use Rattle.cedar_words.specs.Tokens.{found_number, len_of, longest, tokens_behind}
 use Rattle.cedar_scan.specs.Automata.{IsPlacing}
 use Rattle.cedar_scan.specs.Preferred.{first_below, first_tree, if_less, least_first, least_on, leftmost, leftmost_behind, lesser, key_for, keys_for}
 use Rattle.cedar_scan.specs.Suffixes.{is_node}
@@ -21,12 +20,12 @@ below_least above t = record { number = if_less above t.number; children = first
 
 label_kept : (above : Option ℤ) (f : Forest) (l : ℕ) → has_label (first_below above f) l ≡ has_label f l
 label_kept above none l = refl
-label_kept above (child m n below rest) l = ap (λ b. (l == m) || b) (label_kept above rest l)
+label_kept above (child m n below rest) l = ap (λ b. (m == l) || b) (label_kept above rest l)
 
 subtree_below : (above : Option ℤ) (f : Forest) (l : ℕ) → subtree (first_below above f) l ≡ below_least above (subtree f l)
 subtree_below above none l = refl
 subtree_below above (child m n below rest) l =
-    (elim (l == m) as (λ b. cond b (record { number = if_less above n; children = first_below (lesser above n) below }) (subtree (first_below above rest) l) ≡ below_least above (cond b (record { number = n; children = below }) (subtree rest l))) [
+    (elim (m == l) as (λ b. cond b (record { number = if_less above n; children = first_below (lesser above n) below }) (subtree (first_below above rest) l) ≡ below_least above (cond b (record { number = n; children = below }) (subtree rest l))) [
       | true ↦ refl
       | false ↦ subtree_below above rest l
     ])
@@ -86,7 +85,7 @@ one_more (Some found) None n kept all later = later (Some found) refl
 one_more None (Some v) n kept all later = later (Some (v, n)) refl
 one_more (Some found) (Some v) n kept all later =
     (elim (int_le found.0 v) as (λ b. ((next : Option (ℤ × ℕ)) → number_found next ≡ cond b (Some found.0) (Some v) → last_or next kept ≡ least_first next all)
-        → last_or (Some found) (cons_option (option_map (λ (x : ℤ). (x, n)) (cond b None (Some v))) kept) ≡ least_first (Some (cond b found (v, n))) all) [
+    → last_or (Some found) (cons_option (option_map (λ (x : ℤ). (x, n)) (cond b None (Some v))) kept) ≡ least_first (Some (cond b found (v, n))) all) [
       | true ↦ λ k. k (Some found) refl
       | false ↦ λ k. k (Some (v, n)) refl
     ]) later
@@ -99,18 +98,18 @@ least_from t q (suc n) a so_far e is =
     let more : take (a + 1) q ≡ take a q ++ get_or q a 0 ∷ [] = take_more q a 0 less in
     let own : Option ℤ = number_at t (take (a + 1) q) in
     let kept : number_at (first_tree t) (take (a + 1) q) ≡ if_less (number_found so_far) own =
-        ap (number_at (first_tree t)) more ∙ number_kept t (take a q) (get_or q a 0)
-        ∙ ap (λ w. if_less (least_on None t (take a q)) (number_at t w)) (sym more) ∙ ap (λ (o : Option ℤ). if_less o own) (sym is) in
+    ap (number_at (first_tree t)) more ∙ number_kept t (take a q) (get_or q a 0)
+    ∙ ap (λ w. if_less (least_on None t (take a q)) (number_at t w)) (sym more) ∙ ap (λ (o : Option ℤ). if_less o own) (sym is) in
     let next_least : lesser (number_found so_far) own ≡ least_on None t (take (a + 1) q) =
-        ap (λ (o : Option ℤ). lesser o own) is ∙ ap (λ w. lesser (least_on None t (take a q)) (number_at t w)) more
-        ∙ sym (least_next None t (take a q) (get_or q a 0)) ∙ ap (least_on None t) (sym more) in
+    ap (λ (o : Option ℤ). lesser o own) is ∙ ap (λ w. lesser (least_on None t (take a q)) (number_at t w)) more
+    ∙ sym (least_next None t (take a q) (get_or q a 0)) ∙ ap (least_on None t) (sym more) in
     ap (λ (o : Option ℤ). last_or so_far (cons_option (option_map (λ (v : ℤ). (v, a)) o) (filter_map (found_at (first_tree t) q) (range_with_len (a + 1) n)))) kept
     ∙ one_more so_far own a (filter_map (found_at (first_tree t) q) (range_with_len (a + 1) n)) (filter_map (found_at t q) (range_with_len (a + 1) n))
     (λ next same. least_from t q n (a + 1) next (omega (arith, e)) (same ∙ next_least))
 
 pub key_is_longest : (kind : MatchKind) (t : Tree) (text : List ℕ) → longest (keys_for kind t) text ≡ key_for kind t text
 key_is_longest LeftmostLongest t text = refl
-key_is_longest LeftmostFirst t text = least_from t text (length text) 0 None refl refl
+key_is_longest LeftmostFirst t text = least_from t text (length text) 0 None (omega arith) refl
 
 -- ---- so the keywords by them are the keys that count
 

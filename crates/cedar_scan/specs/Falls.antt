@@ -1,9 +1,9 @@
 -- What the falls of an automaton say.
-use Rattle.std.specs.Prelude.{◌≡◌, ℕ, ◌+◌, ◌-◌, ◌<◌, ◌≤◌, true, ℤ, List, [], ◌∷◌, ◌++◌, length, map, take, drop, slice_index_or}
+use Rattle.std.specs.Prelude.{◌≡◌, ℕ, ◌-◌, ◌<◌, ◌≤◌, true, List, [], ◌∷◌, ◌++◌, length, map, take, drop, slice_index_or}
 use Rattle.cedar_tree.specs.Tree.{Tree}
 use Rattle.cedar_words.specs.Spots.{Spot}
 use Rattle.cedar_scan.specs.Automata.{IsGoto, IsListedNode, IsPlacing}
-use Rattle.cedar_scan.specs.Leftmost.{IsFall, popped_at}
+use Rattle.cedar_scan.specs.Leftmost.{IsFall}
 use Rattle.cedar_scan.specs.Suffixes.{is_node}
 use Rattle.cedar_scan.specs.declared.falls.Fall.{Fall}
 use Rattle.cedar_scan.specs.declared.falls.Popped.{Popped}

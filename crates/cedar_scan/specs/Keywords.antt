@@ -1,5 +1,5 @@
 -- A search for the longest of the keys that begin first, while it is under way.
-use Rattle.std.specs.Prelude.{◌≡◌, ◌⊎◌, ℕ, ◌+◌, ◌-◌, ◌*◌, ◌<◌, ◌≤◌, None, slice_index, true, false, Bool, ℤ, List, [], ◌∷◌, ◌++◌, length, map, take, drop}
+use Rattle.std.specs.Prelude.{◌≡◌, ◌⊎◌, ℕ, ◌+◌, ◌-◌, ◌*◌, ◌<◌, ◌≤◌, None, slice_index, true, false, Bool, ℤ, List, [], ◌++◌, length, map, take, drop}
 use Rattle.std.specs.List.{All}
 use Rattle.std.specs.Coded.{Coded, code_by, coded×, coded_ℕ, coded_ℤ, coded_list}
 use Rattle.std.proofs.Common.{refl}
@@ -57,16 +57,16 @@ abbrev pub CantGoOn : List State → List ℕ → KeywordCursor → Type 0
 CantGoOn states text cursor = (length text ≤ cursor.place) ⊎ ((cursor.place < length text) × (child_in states cursor.slot (slice_index text cursor.place) ≡ None))
 
 -- it goes on where no key is to be given: nothing is lost, and fewer steps are to come
-pub record StepsOn (t : Tree) (slot_of : List ℕ → ℕ) (states : List State) (popped : List Popped) (text : List ℕ) (old new : KeywordCursor) (before after : ℕ) : Type 0 where
+pub record ScansOn (t : Tree) (slot_of : List ℕ → ℕ) (states : List State) (popped : List Popped) (text : List ℕ) (old new : KeywordCursor) (before after : ℕ) : Type 0 where
   pub cursor : IsKeywordCursor t slot_of states popped text new
   pub keywords : keywords_left t states popped text old ≡ keywords_left t states popped text new
   pub fewer : tests_left states text new < tests_left states text old
   pub cost : after + tests_left states text new ≤ before + tests_left states text old
 
 -- or nothing is left
-abbrev pub StepsOnOrEnds : Tree → (List ℕ → ℕ) → List State → List Popped → List ℕ → KeywordCursor → Bool → KeywordCursor → ℕ → ℕ → Type 0
-StepsOnOrEnds t slot_of states popped text old true new before after = StepsOn t slot_of states popped text old new before after
-StepsOnOrEnds t slot_of states popped text old false new before after = (keywords_left t states popped text old ≡ []) × (new ≡ old) × (after ≡ before)
+abbrev pub ScansOnOrEnds : Tree → (List ℕ → ℕ) → List State → List Popped → List ℕ → KeywordCursor → Bool → KeywordCursor → ℕ → ℕ → Type 0
+ScansOnOrEnds t slot_of states popped text old true new before after = ScansOn t slot_of states popped text old new before after
+ScansOnOrEnds t slot_of states popped text old false new before after = (keywords_left t states popped text old ≡ []) × (new ≡ old) × (after ≡ before)
 
 -- what a caller sees: the keywords that are left, and how many steps they take at most
 pub record KeywordsLeft : Type 0 where

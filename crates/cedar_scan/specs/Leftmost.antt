@@ -1,5 +1,5 @@
 -- What a path gives that can't go on, where the longest of the keys that begin first are looked for.
-use Rattle.std.specs.Prelude.{◌≡◌, ℕ, ◌+◌, ◌-◌, ◌<◌, ◌≤◌, true, ℤ, List, [], ◌∷◌, ◌++◌, length, map}
+use Rattle.std.specs.Prelude.{◌≡◌, ℕ, ◌+◌, ◌-◌, ◌<◌, ◌≤◌, true, List, ◌∷◌, ◌++◌, length, map}
 use Rattle.std.specs.List.{All}
 use Rattle.cedar_tree.specs.Tree.{Tree}
 use Rattle.cedar_words.specs.Spots.{keywords_from, Spot}

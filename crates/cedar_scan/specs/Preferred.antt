@@ -1,5 +1,5 @@
 -- Which of the keys that begin at one position counts, and the keys of a text that don't overlap by such a rule.
-use Rattle.std.specs.Prelude.{◌≡◌, ℕ, zero, suc, ◌+◌, ◌-◌, ◌<◌, true, ℤ, int_le, if◌then◌else◌, List, [], ◌∷◌, ◌++◌, length}
+use Rattle.std.specs.Prelude.{◌≡◌, ℕ, zero, suc, ◌+◌, ◌-◌, ◌<◌, true, ℤ, int_le, if◌then◌else◌, List, [], ◌∷◌, length}
 use Rattle.std.specs.Prelude.{Option, Some, None, option_map, slice_index_or}
 use Rattle.std.specs.List.{All, cons_option}
 use Rattle.cedar_tree.specs.Queries.{front}

@@ -1,5 +1,5 @@
 -- What a caller sees of a scanner for leftmost matches.
-use Rattle.std.specs.Prelude.{◌≡◌, Bool, true, false, if◌then◌else◌}
+use Rattle.std.specs.Prelude.{◌≡◌, Bool, true, false}
 use Rattle.std.specs.Coded.{Coded, code_by, coded×, coded_bool}
 use Rattle.std.proofs.Common.{refl, ap}
 use Rattle.cedar_tree.specs.Stored.{coded_tree}

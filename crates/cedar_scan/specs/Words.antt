@@ -7,7 +7,7 @@ pub use Rattle.cedar_scan.specs.Earliest.{CostsFirst, earliest, earliest_from, G
 pub use Rattle.cedar_scan.specs.Falls.{AddsFall, AddsPopped, AreFalls, CanFall, FallsTo, pops_of}
 pub use Rattle.cedar_scan.specs.Keywords.{CantGoOn, IsKeywordAutomaton, IsKeywordCursor}
 pub use Rattle.cedar_scan.specs.Keywords.{keyword_code, keywords_left, KeywordsLeft}
-pub use Rattle.cedar_scan.specs.Keywords.{StepsOn, StepsOnOrEnds, tests_left}
+pub use Rattle.cedar_scan.specs.Keywords.{ScansOn, ScansOnOrEnds, tests_left}
 pub use Rattle.cedar_scan.specs.Laws.{AreByEnd, IsLongestHeld, PiecesJoin}
 pub use Rattle.cedar_scan.specs.Leftmost.{popped_at}
 pub use Rattle.cedar_scan.specs.Plain.{all_beginning, OccursIn}

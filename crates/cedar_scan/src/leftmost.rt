@@ -1,7 +1,7 @@
-//! Keywords of a text in linear time: keys that don't overlap, of those that begin first the longest.
+//! Leftmost matches of a text: keys that don't overlap, of those that begin first the longest.
 
 ghost use Rattle.std.specs.Prelude.{◌*◌, ◌+◌, ◌≡◌, ◌≤◌, ◌≢◌, length, ⊤};
-ghost use Rattle.cedar_scan.specs.Words.{CantGoOn, StepsOn, StepsOnOrEnds, IsBlankOf};
+ghost use Rattle.cedar_scan.specs.Words.{CantGoOn, ScansOn, ScansOnOrEnds, IsBlankOf};
 ghost use Rattle.cedar_scan.specs.Words.{IsKeywordAutomaton, IsKeywordCursor, item_count};
 ghost use Rattle.cedar_scan.specs.Words.{keyword_code, KeywordsLeft};
 ghost use Rattle.cedar_scan.specs.Words.{keywords_in, keywords_left, tests_left, YieldsFirst};
@@ -16,7 +16,7 @@ use std::iter::FusedIterator;
 use std::marker::{Brand, Model};
 use std::sync::ledger::{Blank, Ledger};
 
-/// Where a search for keywords is.
+/// Where a search for leftmost matches is.
 #[derive(Clone, Copy)]
 pub(crate) struct KeywordCursor {
     /// How many bytes of the text it has read.
@@ -43,7 +43,7 @@ fn fall<T: Placed>(
     requires none { cursor.old.next ≡ cursor.old.last }
     requires other { cursor.old.slot ≢ 0 }
     requires stops { CantGoOn states.now text.now cursor.old }
-    ensures { StepsOn (T.tree trie.now) (T.slot_of trie.now) states.now popped.now text.now cursor.old cursor.new 0 0 }
+    ensures { ScansOn (T.tree trie.now) (T.slot_of trie.now) states.now popped.now text.now cursor.old cursor.new 0 0 }
 {
     let fall = falls[cursor.slot];
     cursor.base = cursor.place - states[cursor.slot].depth as usize;
@@ -65,7 +65,7 @@ fn leave_last<T: Placed>(
     requires cursor { IsKeywordCursor (T.tree trie.now) (T.slot_of trie.now) states.now popped.now text.now cursor.old }
     requires none { cursor.old.next ≡ cursor.old.last }
     requires end { cursor.old.place ≡ length text.now }
-    ensures { StepsOnOrEnds (T.tree trie.now) (T.slot_of trie.now) states.now popped.now text.now cursor.old result cursor.new 0 0 }
+    ensures { ScansOnOrEnds (T.tree trie.now) (T.slot_of trie.now) states.now popped.now text.now cursor.old result cursor.new 0 0 }
 {
     if cursor.slot == 0 {
         return false;
@@ -87,7 +87,7 @@ fn go_on<T: Placed, C: Ledger>(
     requires automaton { IsKeywordAutomaton (T.tree trie.now) (T.slot_of trie.now) states.now falls.now popped.now }
     requires cursor { IsKeywordCursor (T.tree trie.now) (T.slot_of trie.now) states.now popped.now text.now cursor.old }
     requires none { cursor.old.next ≡ cursor.old.last }
-    ensures { StepsOnOrEnds (T.tree trie.now) (T.slot_of trie.now) states.now popped.now text.now cursor.old result cursor.new ticks.old ticks.new }
+    ensures { ScansOnOrEnds (T.tree trie.now) (T.slot_of trie.now) states.now popped.now text.now cursor.old result cursor.new ticks.old ticks.new }
 {
     if cursor.place == text.len() {
         return leave_last(trie, states, falls, popped, text, cursor);
@@ -106,7 +106,7 @@ fn go_on<T: Placed, C: Ledger>(
     true
 }
 
-/// Gives the next keyword, or that none is left.
+/// Gives the next match, or that none is left.
 fn next_keyword<T: Placed, C: Ledger>(
     trie: &T,
     states: &[State],
@@ -134,10 +134,10 @@ fn next_keyword<T: Placed, C: Ledger>(
     Some((start, key.len as usize, key.value))
 }
 
-/// Keywords of a text in their order: for each where it begins, how many bytes it has, and its value. It allocates nothing, and a clone goes
-/// on from the same position.
+/// Leftmost matches of a text in their order: for each where it begins, how many bytes it has, and its value. It allocates nothing, and a
+/// clone goes on from the same position.
 ///
-/// A contract sees the keywords that are left, and how many steps they take at most.
+/// A contract sees the matches that are left, and how many steps they take at most.
 #[derive(Drop)]
 pub struct Leftmost<'a, T: Placed> {
     trie: &'a T,
@@ -191,17 +191,17 @@ impl<'a, T: Placed> Leftmost<'a, T> {
         }
     }
 
-    /// The next keyword. It counts each test of a child: at most two for each byte of the text, whatever the keys and the text are.
+    /// The next match. It counts each test of a child: at most two for each byte of the text, whatever the keys and the text are.
     ///
     /// ```
     /// let mut found = longest.leftmost(b"she");
     /// assert_eq!(rt; found.next_counted(&mut ticks), Some((0, 3, 2)));
     /// ```
     pub fn next_counted<C: Ledger>(&mut self, ticks: &mut Ticks<C>) -> Option<(usize, usize, i32)>
-        //= A counted step of keywords gives the next one. [also uncounted_keyword]
+        //= A counted step of leftmost matches gives the next one. [also uncounted_keyword]
         ensures gives { YieldsFirst (λ (walk : KeywordsLeft). walk.rest) self.old result self.new }
 
-        //= It takes at most the steps that were to come less those that are then.
+        //= It takes at most the steps that were to come less those that are then: a match itself takes none.
         ensures cost { ticks.new + self.new.steps ≤ ticks.old + self.old.steps }
     {
         next_keyword(
@@ -217,7 +217,7 @@ impl<'a, T: Placed> Leftmost<'a, T> {
 }
 
 impl<'a, T: Placed> Clone for Leftmost<'a, T> {
-    //= Keywords that have ended stay ended, and a clone goes on from the same position. [with is_infallible; by FusedIterator]
+    //= Leftmost matches that have ended stay ended, and a clone goes on from the same position. [with is_infallible; by FusedIterator]
     ghost is_clone = { λ it copy. copy ≡ it };
 
     ghost is_infallible = { λ _. ⊤ };

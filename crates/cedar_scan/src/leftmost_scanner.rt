@@ -13,8 +13,8 @@ use std::marker::Model;
 /// up to that of its last node, and for each node 12 bytes for each key that its path gives where it can't go on: at most as many keys as
 /// the path has bytes.
 ///
-/// Where a path can't go on, its keys are known, and what is left of it that may still begin a key: so no byte is read twice. That is linear
-/// maximum matching (Song, Salcianu, Song, Dopson and Zhou, "Fast WordPiece Tokenization", 2021).
+/// Where a path can't go on, its keys are known, and what is left of it that may still begin a key: so a search never goes back in the text.
+/// That is linear maximum matching (Song, Salcianu, Song, Dopson and Zhou, "Fast WordPiece Tokenization", 2021).
 ///
 /// A contract sees the kind of match, and the labelled tree of the dictionary.
 #[derive(Drop)]
@@ -49,7 +49,7 @@ impl<'a, T: Placed, A: Allocator + Copy> LeftmostScanner<'a, T, A> {
     /// ```
     ///
     /// # Errors
-    /// If an allocation was refused.
+    /// If an allocation was refused, or if the lists would have 2^32 keys.
     pub fn new(trie: &'a T, kind: MatchKind, alloc: A) -> Result<Self, AllocError>
         //= A scanner for leftmost matches is made of a dictionary's tree and a kind of match.
         ensures { IfOk result (λ scanner. scanner ≡ record { kind = kind; tree = T.tree trie.now }) }

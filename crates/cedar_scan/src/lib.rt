@@ -23,7 +23,9 @@ mod stream;
 
 pub use earliest::Earliest;
 pub use kind::MatchKind;
-pub use laws::{held_suffixes_are_longest, leftmost_are_plain, overlapping_are_all_keys, pieces_join};
+pub use laws::{
+    held_suffixes_are_longest, leftmost_are_plain, overlapping_are_all_keys, pieces_join,
+};
 pub use leftmost::Leftmost;
 pub use leftmost_scanner::LeftmostScanner;
 pub use overlapping::Overlapping;

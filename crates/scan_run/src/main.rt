@@ -15,8 +15,7 @@ use cedar_words::{leftmost_longest, matches};
 use cedarwood::Cedar;
 use found::Found;
 use std::alloc::Global;
-use std::env;
-use std::fs;
+use std::{env, fs};
 use watch::Clock;
 
 fn main(rt: HostRuntime) -> Result<()> {
@@ -28,9 +27,7 @@ fn main(rt: HostRuntime) -> Result<()> {
     let lines = read(&rt, folder.as_str(), "sorted.tsv")?;
     let text = read(&rt, folder.as_str(), "text.txt")?;
     let cedar = dictionary_of(rt.alloc(), &lines)?;
-    let clock = Clock {
-        runs: passes > 0,
-    };
+    let clock = Clock { runs: passes > 0 };
     all_searches(&rt, clock, passes.max(1), &cedar, &text)
 }
 

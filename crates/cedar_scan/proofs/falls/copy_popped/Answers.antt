@@ -1,6 +1,5 @@
-use Rattle.std.proofs.Common.{◌≡◌, ◌∙◌, ◌+◌, ◌-◌, ◌<◌, ◌≤◌, ℕ, ℤ, FitsSigned, ap, arith, length, rules, subst, sym, w32, to_z, of_z}
+use Rattle.std.proofs.Common.{◌≡◌, ◌∙◌, ◌+◌, ℕ, ℤ, FitsSigned, ap, arith, rules, w32, to_z, of_z}
 use Rattle.std.proofs.lemmas.Int.{to_z-of_z}
-use Rattle.cedar_scan.specs.Falls.{AddsPopped}
 use Rattle.cedar_scan.proofs.FallLemmas.{all_copied, copied_inside, none_copied, one_copied}
 use Rattle.cedar_scan.proofs.falls.copy_popped.Goals as goal
 

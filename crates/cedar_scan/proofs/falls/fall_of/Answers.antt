@@ -1,4 +1,4 @@
-use Rattle.std.proofs.Common.{◌≡◌, ◌++◌, ◌∷◌, [], ℕ, ℤ, FitsSigned, List, ap, refl, rules, subst, sym, w32}
+use Rattle.std.proofs.Common.{ℤ, FitsSigned, List, ap, rules, subst, sym, w32}
 use Rattle.std.proofs.lemmas.Int.{to_z-of_z}
 use Rattle.cedar_scan.specs.declared.falls.Popped.{Popped}
 use Rattle.cedar_scan.specs.Falls.{FallsTo}

@@ -1,4 +1,4 @@
-use Rattle.std.proofs.Common.{◌≡◌, ◌+◌, ◌-◌, ◌<◌, ◌≤◌, arith, length, refl, sym}
+use Rattle.std.proofs.Common.{arith, refl, sym}
 use Rattle.cedar_scan.proofs.FallLemmas.{ends_at_child, ends_at_root, fall_end, fall_inside, fall_range, falling, falls_down, falls_more, front_above, passes_byte, slot_inside, to_inside}
 use Rattle.cedar_scan.proofs.falls.fall_on.Goals as goal
 

@@ -1,4 +1,4 @@
-use Rattle.std.proofs.Common.{arith, refl}
+use Rattle.std.proofs.Common.{refl}
 use Rattle.cedar_scan.proofs.KeywordLemmas.{deep_within, fall_inside, falls_from, slot_inside}
 use Rattle.cedar_scan.proofs.leftmost.fall.Goals as goal
 

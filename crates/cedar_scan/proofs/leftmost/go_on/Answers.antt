@@ -1,4 +1,4 @@
-use Rattle.std.proofs.Common.{◌≡◌, ◌<◌, ◌≤◌, arith, inr, length, refl, sym, true, false}
+use Rattle.std.proofs.Common.{◌<◌, arith, inr, length, refl, sym}
 use Rattle.cedar_scan.proofs.KeywordLemmas.{ends_or_leaves, falls_paid, goes_to_child, passes_byte, slot_inside}
 use Rattle.cedar_scan.proofs.leftmost.go_on.Goals as goal
 

@@ -1,4 +1,4 @@
-use Rattle.std.proofs.Common.{◌≡◌, ◌≤◌, arith, inl, length, refl}
+use Rattle.std.proofs.Common.{◌≤◌, arith, inl, length, refl}
 use Rattle.cedar_scan.proofs.KeywordLemmas.{all_given}
 use Rattle.cedar_scan.proofs.leftmost.leave_last.Goals as goal
 

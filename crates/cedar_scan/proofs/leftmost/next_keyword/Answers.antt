@@ -1,10 +1,10 @@
-use Rattle.std.proofs.Common.{◌≡◌, ◌∙◌, ◌+◌, ◌<◌, ◌≤◌, ◌^◌, ◌∷◌, ℕ, ℤ, FitsSigned, ap, arith, get_or, length, pos, refl, rules, subst, sym, w32}
+use Rattle.std.proofs.Common.{◌≡◌, ◌∙◌, ◌+◌, ◌<◌, ◌^◌, ◌∷◌, ℤ, FitsSigned, ap, arith, get_or, length, pos, refl, rules, subst, sym, w32}
 use Rattle.std.proofs.lemmas.Int.{to_z-of_z}
 use Rattle.std.proofs.lemmas.List.{get_or_default}
 use Rattle.cedar_scan.specs.declared.falls.Popped.{Popped}
 use Rattle.cedar_scan.specs.declared.leftmost.KeywordCursor.{KeywordCursor}
 use Rattle.cedar_scan.specs.Keywords.{IsKeywordCursor, keywords_left, tests_left}
-use Rattle.cedar_scan.proofs.KeywordLemmas.{cursor_next, ended, gives_key, key_fits, same_tests, went_on}
+use Rattle.cedar_scan.proofs.KeywordLemmas.{cursor_next, ended, gives_key, key_fits, went_on}
 use Rattle.cedar_scan.proofs.leftmost.next_keyword.Goals as goal
 
 pub loop-cursor-init : goal.loop-cursor-init

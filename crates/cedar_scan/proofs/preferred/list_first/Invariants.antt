@@ -1,4 +1,3 @@
-use Rattle.std.proofs.Common.{◌≡◌, length}
 use Rattle.cedar_scan.specs.Preferred.{AreFirst, AreLeast}
 use Rattle.cedar_scan.proofs.preferred.list_first.Given as goal
 

@@ -1,4 +1,4 @@
-use Rattle.std.proofs.Common.{◌≡◌, ◌+◌, ◌≤◌, ap, arith, subst}
+use Rattle.std.proofs.Common.{ap, arith, subst}
 use Rattle.std.specs.Iterator.{YieldsFirst}
 use Rattle.cedar_scan.specs.Keywords.{keywords_left, KeywordsLeft, tests_left}
 use Rattle.cedar_scan.proofs.leftmost.Leftmost.next_counted.Goals as goal

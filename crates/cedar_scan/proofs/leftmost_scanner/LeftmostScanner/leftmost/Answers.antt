@@ -1,4 +1,4 @@
-use Rattle.std.proofs.Common.{◌≡◌, ◌∙◌, ap}
+use Rattle.std.proofs.Common.{◌∙◌, ap}
 use Rattle.cedar_scan.specs.Preferred.{leftmost}
 use Rattle.cedar_scan.specs.Scanners.{LeftmostKeys}
 use Rattle.cedar_scan.proofs.PreferredLemmas.{keywords_are_leftmost}
