@@ -23,12 +23,8 @@ pub struct MatchingEntries<'a, T: Nodes, M: Automaton + Drop, A: Allocator + Cop
     failed: bool,
 }
 
-impl<'a, T, M, A> Model for MatchingEntries<'a, T, M, A>
-where
-    T: Nodes,
-    M: Automaton + Drop,
-    A: Allocator + Copy,
-{
+impl<'a, T: Nodes, M: Automaton + Drop, A: Allocator + Copy> Model
+    for MatchingEntries<'a, T, M, A> {
     ghost Value = { MatchWalk };
 
     ghost coded = { match_walk_code };
@@ -99,9 +95,5 @@ where
     }
 }
 
-impl<'a, T, M, A> FusedIterator for MatchingEntries<'a, T, M, A>
-where
-    T: Nodes,
-    M: Automaton + Drop,
-    A: Allocator + Copy,
-{}
+impl<'a, T: Nodes, M: Automaton + Drop, A: Allocator + Copy> FusedIterator
+    for MatchingEntries<'a, T, M, A> {}

@@ -2,7 +2,8 @@
 
 use crate::commands::{COMMANDS, Said, arguments_of, said_of};
 use crate::shapes::{Argument, Form, Kind, Shape, shape_of};
-use clap::{Arg, ArgAction, Command, ValueParser, value_parser};
+use clap::builder::ValueParser;
+use clap::{Arg, ArgAction, Command, value_parser};
 use std::alloc::{AllocError, Global};
 
 /// The version, as `--version` prints it.

@@ -8,7 +8,7 @@ use byte_automata::{Automaton, Beginning, Within, WithinCharacters};
 use cedar_complete::{ByValue, best_matching, best_with_prefix};
 use cedar_match::cursor_matching;
 use cedarwood::{Layout, Trie, Watched};
-use std::alloc::Global;
+use std::alloc::{AllocError, Global};
 use std::io::Write;
 use std::str;
 use word_lists::write_entry;
@@ -48,15 +48,21 @@ fn complete_nearly<'m, L: Layout, W: Write>(
         };
         return complete_matching(alloc, trie, Beginning::new(near), asked, writer);
     };
-    let mut characters = Vec::new(alloc);
-    for character in text.chars() {
-        characters.push(character)?;
-    }
+    let characters = characters_of(alloc, text)?;
     let near = match edits {
         Edits::One => WithinCharacters::one(&characters),
         Edits::Two => WithinCharacters::two(&characters),
     };
     complete_matching(alloc, trie, Beginning::new(near), asked, writer)
+}
+
+/// The characters of a text.
+fn characters_of(alloc: Global, text: &str) -> Result<Vec<char>, AllocError> {
+    let mut characters = Vec::new(alloc);
+    for character in text.chars() {
+        characters.push(character)?;
+    }
+    Ok(characters)
 }
 
 /// Lists the words that an automaton accepts, and returns whether there is one.

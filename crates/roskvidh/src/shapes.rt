@@ -214,12 +214,12 @@ const BEST: Shape = Shape {
 /// How many edits the prefix may be away.
 const WITHIN: Shape = Shape {
     id: "within",
-    form: Form::Value("EDITS", Kind::OneOf(&EDITS)),
+    form: Form::Value("EDITS", Kind::OneOf(EDITS)),
     help: "List also words that begin with a text so many edits from PREFIX: a character put in, taken out or changed",
 };
 
 /// So many edits may be forgiven.
-const EDITS: [&str; 2] = ["1", "2"];
+const EDITS: &[&str] = &["1", "2"];
 
 const FROM: Shape = Shape {
     id: "from",
