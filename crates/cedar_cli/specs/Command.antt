@@ -115,6 +115,6 @@ abbrev pub bad_line_text : BadLine → List ℕ
 bad_line_text Empty = codes "it is empty, and has to begin with one of the signs + - = < > / * #"
 bad_line_text NoSign = codes "it has to begin with one of the signs + - = < > / * #"
 bad_line_text NoSpace = codes "a space and a key have to follow the sign"
-bad_line_text NoKey = codes "a key has to follow the space, and to end the line or, behind +, to end at a space: it is . or pairs of hexadecimal digits"
+bad_line_text NoKey = codes "a key has to follow the space: . or pairs of hexadecimal digits, to the end of the line or, behind +, to the next space"
 bad_line_text NoValue = codes "a space and a number from -2147483648 to 2147483647 have to follow the key"
 bad_line_text NotAlone = codes "the line has to end behind the sign"

@@ -68,7 +68,7 @@ impl BadLine {
             BadLine::NoSign => "it has to begin with one of the signs + - = < > / * #",
             BadLine::NoSpace => "a space and a key have to follow the sign",
             BadLine::NoKey => {
-                "a key has to follow the space, and to end the line or, behind +, to end at a space: it is . or pairs of hexadecimal digits"
+                "a key has to follow the space: . or pairs of hexadecimal digits, to the end of the line or, behind +, to the next space"
             }
             BadLine::NoValue => {
                 "a space and a number from -2147483648 to 2147483647 have to follow the key"
