@@ -1,6 +1,6 @@
 -- What one call more counts.
 use Rattle.std.specs.Prelude.{Ok, Err}
-use Rattle.std.proofs.Common.{◌≡◌, ℕ, suc, List, ◌∷◌, ◌∙◌, ap, arith, refl}
+use Rattle.std.proofs.Common.{◌≡◌, suc, List, ◌∷◌, ◌∙◌, ap, arith, refl}
 use Rattle.cedar_journal.specs.declared.device.DeviceError.TheVariants.{Failed}
 use Rattle.cedar_journal.specs.Device.{HasCause}
 use Rattle.cedar_journal.proofs.Causes.{caused}

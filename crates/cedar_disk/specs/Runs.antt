@@ -7,9 +7,9 @@ use Rattle.std_io.specs.declared.io.kind.ErrorKind.TheVariants.{FileTooLarge, In
 use Rattle.std_io.specs.declared.io.kind.ErrorKind.TheVariants.{QuotaExceeded, StorageFull}
 use Rattle.std_io.specs.IoError.{error_kind}
 use Rattle.cedar_journal.specs.Device.{Elapses, Follows, Torn}
-use Rattle.cedar_disk.specs.Calls.{Call, LeftSince, MayLeave, all_within, faults_in, full_call, full_in}
-use Rattle.cedar_disk.specs.Calls.{interrupted_call, is_named_after, is_usable_after, folder_sync_call}
-use Rattle.cedar_disk.specs.Calls.{overlay, rename_call, seen_after, write_call}
+use Rattle.cedar_disk.specs.Calls.{Call, LeftSince, MayLeave, all_within, faults_in, full_call}
+use Rattle.cedar_disk.specs.Calls.{full_in, interrupted_call, is_named_after, is_usable_after}
+use Rattle.cedar_disk.specs.Calls.{folder_sync_call, overlay, rename_call, seen_after, write_call}
 use Rattle.cedar_disk.specs.declared.wrote.Wrote.{Wrote}
 use Rattle.cedar_disk.specs.declared.wrote.Wrote.TheVariants.{Bytes, Nothing, Full, Failed}
 

@@ -3,8 +3,9 @@
 ghost use Rattle.std.specs.Prelude.{◌≡◌, ◌<◌, ◌≤◌, ◌⊎◌, ◌∷◌, [], false, IsErrOf, IsTrue, length};
 ghost use Rattle.std.specs.Prelude.{List, OnErr, OnOk, take, true, ℕ};
 ghost use Rattle.cedar_disk.specs.Words.{all_within, compaction_path, Cut, faults_in, Follows};
-ghost use Rattle.cedar_disk.specs.Words.{full_in, TimePasses, HasCause, is_locked_after, is_named_after};
-ghost use Rattle.cedar_disk.specs.Words.{is_usable_after, LeavesOnly, LeftSince, lock_call};
+ghost use Rattle.cedar_disk.specs.Words.{full_in, TimePasses, HasCause, is_locked_after};
+ghost use Rattle.cedar_disk.specs.Words.{is_named_after, is_usable_after, LeavesOnly, LeftSince};
+ghost use Rattle.cedar_disk.specs.Words.{lock_call};
 ghost use Rattle.cedar_disk.specs.Words.{MayLeave, Only, open_call, overlay, refused_call};
 ghost use Rattle.cedar_disk.specs.Words.{seen_after, Torn};
 ghost use Rattle.cedar_disk.specs.NotedFiles.{is_beside, noted_calls};

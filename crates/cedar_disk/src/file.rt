@@ -2,7 +2,8 @@
 
 ghost use Rattle.std.specs.Prelude.{◌≡◌, [], false, length, IfOk, true};
 ghost use Rattle.cedar_disk.specs.Words.{counts_now, faults_in, ForSome, full_in, is_locked_after};
-ghost use Rattle.cedar_disk.specs.Words.{is_named_after, LeftSince, MayLeave, Only, only_now, seen_after};
+ghost use Rattle.cedar_disk.specs.Words.{is_named_after, LeftSince, MayLeave, Only, only_now};
+ghost use Rattle.cedar_disk.specs.Words.{seen_after};
 ghost use Rattle.cedar_disk.specs.Accounts.{calls_of};
 
 use crate::noted::Place;

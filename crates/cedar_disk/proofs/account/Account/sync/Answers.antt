@@ -1,4 +1,4 @@
-use Rattle.std.proofs.Common.{[], List, true, false, refl, subst, sym, ◌∙◌, ap, arith}
+use Rattle.std.proofs.Common.{List, true, false, refl, subst, sym, ◌∙◌, ap}
 use Rattle.std.specs.Prelude.{IsTrue}
 use Rattle.std.proofs.lemmas.Bool.{false≢true, and_from}
 use Rattle.cedar_disk.specs.NotedFiles.{noted_calls}
