@@ -1,7 +1,7 @@
 -- The words that the contracts of this crate cite, from one place. `Accounts`, `FileDevices`, `NewFiles`, `NotedFiles`, `PathFiles` and `SpecialFiles` name structs whose ghost fields
 -- cite these words: they are imported beside it.
 pub use Rattle.cedar_disk.specs.Calls.{all_within, Call, call_of, call_with, faults_in}
-pub use Rattle.cedar_disk.specs.Calls.{folder_sync_call, is_locked_after, is_named_after}
+pub use Rattle.cedar_disk.specs.Calls.{folder_sync_call, full_in, is_locked_after, is_named_after}
 pub use Rattle.cedar_disk.specs.Calls.{is_usable_after, LeftSince, lock_call, MayLeave, open_call}
 pub use Rattle.cedar_disk.specs.Calls.{overlay, refused_call, rename_call, seen_after}
 pub use Rattle.cedar_disk.specs.Calls.{sync_call, took_name, truncate_call}

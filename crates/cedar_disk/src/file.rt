@@ -1,8 +1,9 @@
 //! A file of the operating system as a device.
 
-ghost use Rattle.std.specs.Prelude.{◌≡◌, [], length, IfOk, true};
-ghost use Rattle.cedar_disk.specs.Words.{counts_now, faults_in, ForSome, is_locked_after};
-ghost use Rattle.cedar_disk.specs.Words.{LeftSince, MayLeave, Only, only_now, seen_after};
+ghost use Rattle.std.specs.Prelude.{◌≡◌, [], false, length, IfOk, true};
+ghost use Rattle.cedar_disk.specs.Words.{counts_now, faults_in, ForSome, full_in, is_locked_after};
+ghost use Rattle.cedar_disk.specs.Words.{is_named_after, LeftSince, MayLeave, Only, only_now};
+ghost use Rattle.cedar_disk.specs.Words.{seen_after};
 ghost use Rattle.cedar_disk.specs.Accounts.{calls_of};
 
 use crate::noted::Place;
@@ -116,7 +117,7 @@ impl<F: Files + Drop, A: Allocator + Copy> Device for FileDevice<F, A> {
     ghost use Rattle.cedar_disk.specs.FileDevices.{device_calls};
 
     //= A file of the operating system is a device. The list of its calls, each noted with its result, gives what a read returns, and what a
-    //  crash may leave. [with may_leave, moment, left_since, faults]
+    //  crash may leave, and counts its failures and the writes that found no room. [with may_leave, moment, left_since, faults, full]
     ghost seen = { λ device. seen_after (device_calls device) };
 
     ghost may_leave = { λ device. MayLeave (device_calls device) };
@@ -126,6 +127,8 @@ impl<F: Files + Drop, A: Allocator + Copy> Device for FileDevice<F, A> {
     ghost left_since = { λ device. LeftSince (device_calls device) };
 
     ghost faults = { λ device. faults_in (device_calls device) };
+
+    ghost full = { λ device. full_in (device_calls device) };
 
     ghost counts_now = { λ device. counts_now (device_calls device) };
 
@@ -144,6 +147,14 @@ impl<F: Files + Drop, A: Allocator + Copy> Device for FileDevice<F, A> {
         }
         self.held = None;
         self.account.write(at, bytes)
+    }
+
+    fn write_over(&mut self, at: usize, bytes: &[u8]) -> Result<(), DeviceError> {
+        if !self.account.is_usable() {
+            return Err(self.account.refuse());
+        }
+        self.held = None;
+        self.account.write_over(at, bytes)
     }
 
     fn cut(&mut self, len: usize) -> Result<(), DeviceError> {
@@ -166,6 +177,12 @@ impl<F: Files + Drop, A: Allocator + Copy> ReplaceDevice for FileDevice<F, A>
 where
     F::File: LockFile,
 {
+    ghost use Rattle.cedar_disk.specs.FileDevices.{device_calls};
+
+    //= Which bytes a file of the operating system has isn't known once a call has failed that was to give its name to another one, or to put
+    //  that on the disk.
+    ghost is_lost = { λ device. is_named_after (device_calls device) ≡ false };
+
     fn replace(&mut self, bytes: &[u8]) -> Result<(), ReplaceError> {
         if !self.account.has_name() {
             self.account.refuse();

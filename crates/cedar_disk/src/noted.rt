@@ -45,6 +45,10 @@ const TOOK_NAME: u64 = 7;
 
 const LOCKED: u64 = 8;
 
+const FOUND_NO_ROOM: u64 = 9;
+
+const INTERRUPTED: u64 = 10;
+
 /// No file is longer.
 const MAX_OFFSET: usize = (1 << 63) - 1;
 
@@ -272,7 +276,8 @@ impl<T: Read + Write + Seek + OpenFile + Drop> Noted<T> {
     {
         match wrote {
             Wrote::Bytes(count) => self.note(WRITTEN, at, true, &bytes[..count]),
-            Wrote::Nothing | Wrote::Full(_) => self.refuse(),
+            Wrote::Nothing => self.note(INTERRUPTED, 0, true, &[]),
+            Wrote::Full(_) => self.note(FOUND_NO_ROOM, 0, false, &[]),
             Wrote::Failed(_) => self.note(WRITTEN, at, false, bytes),
         }
     }
