@@ -1,13 +1,14 @@
 //! A file of the operating system as a device.
 
-ghost use Rattle.std.specs.Prelude.{◌≡◌, [], false, length, IfOk, true};
+ghost use Rattle.std.specs.Prelude.{◌≡◌, ◌∷◌, [], false, length, IfOk, true};
 ghost use Rattle.cedar_disk.specs.Words.{counts_now, faults_in, ForSome, full_in, is_locked_after};
 ghost use Rattle.cedar_disk.specs.Words.{is_named_after, LeftSince, MayLeave, Only, only_now};
-ghost use Rattle.cedar_disk.specs.Words.{seen_after};
+ghost use Rattle.cedar_disk.specs.Words.{opened_any, opened_as, opened_existing, opened_new};
+ghost use Rattle.cedar_disk.specs.Words.{seen_after, way_of};
 ghost use Rattle.cedar_disk.specs.Accounts.{calls_of};
 
 use crate::noted::Place;
-use crate::system::Wanted;
+use crate::opening::Wanted;
 use crate::writes::make_file;
 use crate::{Account, LockFile, OpenError};
 use cedar_journal::{Device, DeviceError, ReplaceDevice, ReplaceError};
@@ -34,7 +35,7 @@ pub struct FileDevice<F: Files + Drop, A: Allocator> {
 }
 
 impl<F: Files + Drop, A: Allocator + Copy> FileDevice<F, A> {
-    ghost use Rattle.cedar_disk.specs.FileDevices.{device_calls};
+    ghost use Rattle.cedar_disk.specs.FileDevices.{device_calls, device_opening};
 
     /// Opens the file at `path`, or creates it, locks it, and puts it and its name on the disk. Then it is read.
     ///
@@ -51,6 +52,9 @@ impl<F: Files + Drop, A: Allocator + Copy> FileDevice<F, A> {
         ensures durable { IfOk result (λ device. Only (seen_after (device_calls device)) (MayLeave (device_calls device))) }
         //= It was locked before any other call on it. [also open_existing, create_new]
         ensures locked { IfOk result (λ device. is_locked_after (device_calls device) ≡ true) }
+        //= It was opened at the path that was given: with `open` whether it was there or not; with `open_existing` as one that was there;
+        //  and with `create_new` as one that the opening creates. [also open_existing, create_new]
+        ensures opening { IfOk result (λ device. device_opening device ≡ opened_any path.now ∷ []) }
     {
         FileDevice::open_wanted(files, alloc, path, Wanted::Any)
     }
@@ -64,6 +68,7 @@ impl<F: Files + Drop, A: Allocator + Copy> FileDevice<F, A> {
         F::File: LockFile,
         ensures durable { IfOk result (λ device. Only (seen_after (device_calls device)) (MayLeave (device_calls device))) }
         ensures locked { IfOk result (λ device. is_locked_after (device_calls device) ≡ true) }
+        ensures opening { IfOk result (λ device. device_opening device ≡ opened_existing path.now ∷ []) }
     {
         FileDevice::open_wanted(files, alloc, path, Wanted::Existing)
     }
@@ -77,6 +82,7 @@ impl<F: Files + Drop, A: Allocator + Copy> FileDevice<F, A> {
         F::File: LockFile,
         ensures durable { IfOk result (λ device. Only (seen_after (device_calls device)) (MayLeave (device_calls device))) }
         ensures locked { IfOk result (λ device. is_locked_after (device_calls device) ≡ true) }
+        ensures opening { IfOk result (λ device. device_opening device ≡ opened_new path.now ∷ []) }
         //= A file that was created is empty.
         ensures empty { IfOk result (λ device. seen_after (device_calls device) ≡ []) }
     {
@@ -99,6 +105,7 @@ impl<F: Files + Drop, A: Allocator + Copy> FileDevice<F, A> {
         F::File: LockFile,
         ensures durable { IfOk result (λ device. Only (seen_after (device_calls device)) (MayLeave (device_calls device))) }
         ensures locked { IfOk result (λ device. is_locked_after (device_calls device) ≡ true) }
+        ensures opening { IfOk result (λ device. device_opening device ≡ opened_as (way_of wanted) path.now ∷ []) }
     {
         let place = Place::find(files, alloc, path, wanted)?;
         let file = place.lock()?;
