@@ -21,7 +21,7 @@ use Rattle.cedar_cli.proofs.script.answer_input.Goals.{else-loop-turn-test, then
 use Rattle.cedar_cli.proofs.script.answer_input.Goals.{then-not-is_empty+in_ok-answer_with_room, else-not-is_empty}
 
 pub take_bytes-requires : goal.take_bytes-requires
-take_bytes-requires g c = (search rules, (c.loop-turn.invariant.3, c.loop-turn.invariant.9))
+take_bytes-requires g c = (search (rules, c.requires-raw), (c.loop-turn.invariant.3, c.loop-turn.invariant.9))
 
 pub loop-turn-init : goal.loop-turn-init
 loop-turn-init g c =
