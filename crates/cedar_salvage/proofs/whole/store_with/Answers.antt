@@ -31,8 +31,8 @@ returns-in-Ok-replace-clause-any_moment g c =
     (once_opened d.moment d.left_since (d.seen old) payloads old read opened (d.seen read) c.read_extent.ensures.seen c.read_extent.ensures.any_moment c.in-Ok-open_read.ensures.any_moment)
     c.replace.ensures.any_moment
 
-pub returns-in-Err-replace-clause-any_moment_err : goal.returns-in-Err-replace-clause-any_moment_err
-returns-in-Err-replace-clause-any_moment_err g c =
+pub returns-clause-any_moment_err : goal.returns-clause-any_moment_err
+returns-clause-any_moment_err g c =
     let d = g.D.Device in
     let old = c.args.device in
     let read = c.read_extent.new.device in
@@ -43,21 +43,21 @@ returns-in-Err-replace-clause-any_moment_err g c =
     (once_opened d.moment d.left_since (d.seen old) payloads old read opened (d.seen read) c.read_extent.ensures.seen c.read_extent.ensures.any_moment c.in-Ok-open_read.ensures.any_moment)
     c.replace.ensures.any_moment
 
-pub returns-in-Err-replace-clause-untouched : goal.returns-in-Err-replace-clause-untouched
-returns-in-Err-replace-clause-untouched g c = λ is. absurd (not_of_file c.in-Err-replace.error (subst IsOfFile c.restore_error.ensures is))
+pub returns-clause-untouched : goal.returns-clause-untouched
+returns-clause-untouched g c = λ is. absurd (not_of_file c.in-Err-replace.error (subst IsOfFile c.restore_error.ensures is))
 
-pub returns-in-Err-replace-clause-seen : goal.returns-in-Err-replace-clause-seen
-returns-in-Err-replace-clause-seen g c = λ is. absurd (not_of_file c.in-Err-replace.error (subst IsOfFile c.restore_error.ensures is))
+pub returns-clause-seen : goal.returns-clause-seen
+returns-clause-seen g c = λ is. absurd (not_of_file c.in-Err-replace.error (subst IsOfFile c.restore_error.ensures is))
 
-pub returns-in-Err-replace-clause-kept : goal.returns-in-Err-replace-clause-kept
-returns-in-Err-replace-clause-kept g c = λ is.
+pub returns-clause-kept : goal.returns-clause-kept
+returns-clause-kept g c = λ is.
     let d = g.D.Device in
     let opened = c.in-Ok-open_read.journal.device in
     let new = c.replace.new.self.device in
     let same = is_kept c.in-Err-replace.error (d.seen new ≡ d.seen opened) c.in-Err-replace.ensures.kept_bytes (subst IsOfRoom c.restore_error.ensures is) in
     ap file_payloads same ∙ c.in-Ok-open_read.ensures.settled.1 ∙ ap file_payloads c.read_extent.ensures.seen
 
-pub returns-in-Err-replace-clause-cause : goal.returns-in-Err-replace-clause-cause
-returns-in-Err-replace-clause-cause g c =
+pub returns-clause-cause : goal.returns-clause-cause
+returns-clause-cause g c =
     let file = g.D.Device.seen c.args.device in
     subst (λ e. RestoreCause file e) (sym c.restore_error.ensures) (unreplaced file c.in-Err-replace.error)
