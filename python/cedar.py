@@ -79,6 +79,7 @@ def _library(path=os.environ.get("CEDAR_LIBRARY", Path(__file__).parent / "libro
         ("cedar_cheapest", c_uint32, [handle, c_char_p, c_size_t, c_uint32, c_bool, POINTER(_Found), c_size_t, POINTER(c_size_t)]),
         ("cedar_keys", c_uint32, [handle, c_char_p, c_size_t, POINTER(c_size_t)]),
         ("cedar_len", c_size_t, [handle]),
+        ("cedar_count_prefix", c_size_t, [handle, c_char_p, c_size_t]),
         ("cedar_used_slots", c_size_t, [handle]),
         ("cedar_capacity", c_size_t, [handle]),
         ("cedar_reserve", c_uint32, [handle, c_size_t]),
@@ -355,6 +356,11 @@ class Cedar:
         """Returns the keys that begin with a text: for each its value, and how many bytes of it follow the text."""
         text = _bytes(text)
         return [(value, length - len(text)) for value, length in self._walk(_CEDAR.cedar_predictions, text)]
+
+    def count_prefix(self, prefix):
+        """Returns how many keys begin with a prefix."""
+        prefix = _bytes(prefix)
+        return _CEDAR.cedar_count_prefix(self._this, prefix, len(prefix))
 
     def _piece(self, walk, text, start, most):
         if start < 0:

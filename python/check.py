@@ -50,6 +50,7 @@ def check(reduced):
     assert list(cedar.items()) == sorted(plain.items()) and list(cedar) == sorted(plain) and list(Cedar()) == []
     for text in [b"", b"a", b"ab", b"zz"]:
         assert cedar.predictions(text) == [(plain[key], len(key) - len(text)) for key in sorted(plain) if key.startswith(text)]
+        assert cedar.count_prefix(text) == sum(key.startswith(text) for key in plain)
     pieces(cedar)
     refusals(cedar)
     room_ahead(reduced)

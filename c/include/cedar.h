@@ -236,6 +236,10 @@ size_t cedar_used_slots(const cedar_dictionary *d);
 size_t cedar_capacity(const cedar_dictionary *d);
 size_t cedar_spare_blocks(const cedar_dictionary *d);
 
+/* Returns how many keys begin with a prefix. It looks the prefix up and then visits each node below its own: so cedar_len, which says the
+ * same of the empty prefix, is far less work. It allocates nothing. Returns 0 if closed. */
+size_t cedar_count_prefix(const cedar_dictionary *d, const uint8_t *prefix, size_t length);
+
 /* Allocates ahead for so many blocks of 256 slots more than are in use, so that updates that take no more of them need no memory: an update
  * takes at most one for each byte of its key. If so many are spare already (cedar_spare_blocks), nothing changes; otherwise the slots
  * double until they are. Returns CEDAR_OK; CEDAR_IS_CLOSED; CEDAR_SLOT_LIMIT if there can't be so many blocks (2^22 in all), or else

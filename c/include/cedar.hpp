@@ -324,11 +324,10 @@ public:
         return walked(cedar_predictions_from, text, most);
     }
 
-    /// Returns how many keys begin with a text. It goes over all of them, and allocates nothing.
+    /// Returns how many keys begin with a text. It visits each node below the text's, and allocates nothing.
     std::size_t count_prefix(std::string_view prefix) const noexcept {
         const cedar_dictionary mine = inside_;
-        match none{};
-        return cedar_predictions(&mine, detail::bytes(prefix), prefix.size(), &none, 0);
+        return cedar_count_prefix(&mine, detail::bytes(prefix), prefix.size());
     }
 
     /// Returns a range over all keys with their values. It takes them in pages while it is gone through: so the first few cost the same in

@@ -56,7 +56,7 @@ pub use Rattle.cedarwood.specs.Fault.{fault, IsShortage}
 pub use Rattle.cedarwood.specs.OnTable.{IsOnTable}
 pub use Rattle.cedarwood.specs.Queries.{front, predict}
 pub use Rattle.cedarwood.specs.RangeWalks.{entries_left, IsRangePlace}
-pub use Rattle.cedarwood.specs.Ranges.{longest_front}
+pub use Rattle.cedarwood.specs.Ranges.{entries_with, longest_front}
 pub use Rattle.cedarwood.specs.Room.{LacksRoom, SetsSearchLimit}
 pub use Rattle.cedarwood.specs.Shrinking.{IsShrunk}
 pub use Rattle.cedarwood.specs.State.{after_erase, after_put}

@@ -89,6 +89,7 @@ reply_alike b s (question.EntriesWith k) (question.EntriesWith l) h = ap (λ x. 
 reply_alike b s (question.EntriesFrom k) (question.EntriesFrom l) h = ap (λ x. selected (in_order s.ordered (entries_since s.tree x))) h
 reply_alike b s (question.Range k l) (question.Range x y) h =
     ap (λ z. selected (in_order s.ordered (entries_between s.tree z l.now))) h.0 ∙ ap (λ z. selected (in_order s.ordered (entries_between s.tree x.now z))) h.1
+reply_alike b s (question.CountPrefix k) (question.CountPrefix l) h = ap (λ x. counted (length (entries_with s.tree x))) h
 reply_alike b s question.Len question.Len h = refl
 reply_alike b s (question.Figure f) (question.Figure g) h = ap (λ x. reply_says b s (question.Figure x)) h
 reply_alike b s question.IsEmpty question.IsEmpty h = refl

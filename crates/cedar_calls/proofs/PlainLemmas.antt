@@ -209,6 +209,7 @@ reply_goes b layout slots d (question.EntriesFrom key) (reply.Range (Ok o)) k h 
 reply_goes b layout slots d (question.EntriesFrom key) (reply.Range (Err e)) k h met = absurd (met (short e h.0))
 reply_goes b layout slots d (question.Range from to) (reply.Range (Ok o)) k h met = ap selected h
 reply_goes b layout slots d (question.Range from to) (reply.Range (Err e)) k h met = absurd (met (short e h.0))
+reply_goes b layout slots d (question.CountPrefix prefix) (reply.Count n) k h met = ap counted h
 reply_goes b layout slots d question.Len (reply.Len n) k h met = ap counted h
 reply_goes b layout slots d (question.Figure UsedSlots) (reply.Figure n) k h met = ap slots_held_of_tree (same_use b layout n (slots_of_tree d.state.tree) k h.1)
 reply_goes b layout slots d (question.Figure Capacity) (reply.Figure n) k h met = refl

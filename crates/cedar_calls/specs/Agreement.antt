@@ -47,6 +47,7 @@ IsSameQuestion question.TextEntries question.TextEntries = Unit {0}
 IsSameQuestion (question.EntriesWith k) (question.EntriesWith l) = k.now ≡ l.now
 IsSameQuestion (question.EntriesFrom k) (question.EntriesFrom l) = k.now ≡ l.now
 IsSameQuestion (question.Range a b) (question.Range c d) = (a.now ≡ c.now) × (b.now ≡ d.now)
+IsSameQuestion (question.CountPrefix k) (question.CountPrefix l) = k.now ≡ l.now
 IsSameQuestion question.Len question.Len = Unit {0}
 IsSameQuestion (question.Figure f) (question.Figure g) = f ≡ g
 IsSameQuestion question.IsEmpty question.IsEmpty = Unit {0}

@@ -87,6 +87,7 @@ IsReply layout slots d (question.EntriesFrom key) (reply.Range result) =
     CollectsRange result (λ v. map (λ e. (e.0.items, e.1)) v.items) d.state.ordered (entries_since d.state.tree key.now)
 IsReply layout slots d (question.Range from to) (reply.Range result) =
     CollectsRange result (λ v. map (λ e. (e.0.items, e.1)) v.items) d.state.ordered (entries_between d.state.tree from.now to.now)
+IsReply layout slots d (question.CountPrefix prefix) (reply.Count n) = n ≡ length (entries_with d.state.tree prefix.now)
 IsReply layout slots d question.Len (reply.Len n) = n ≡ length (walk d.state.tree)
 IsReply layout slots d (question.Figure which) (reply.Figure n) = IsFigure layout d which n
 IsReply layout slots d question.IsEmpty (reply.IsEmpty result) = IsTrue result ↔ (walk d.state.tree ≡ [])

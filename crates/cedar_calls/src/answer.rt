@@ -79,6 +79,8 @@ pub enum Reply<A: Allocator> {
     TextEntries(Result<Vec<Option<(String<A>, i32)>, A>, CedarError>),
     /// The keys that are held.
     Len(usize),
+    /// How many keys begin with the prefix.
+    Count(usize),
     /// The figure.
     Figure(usize),
     /// Whether no key is held.

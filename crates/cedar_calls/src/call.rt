@@ -120,6 +120,8 @@ pub enum Question<'a> {
     EntriesFrom { key: &'a [u8] },
     /// Which of these are before another key?
     Range { from: &'a [u8], to: &'a [u8] },
+    /// How many keys begin with the prefix?
+    CountPrefix { prefix: &'a [u8] },
     /// How many keys are held?
     Len,
     /// How many slots, blocks or bytes?

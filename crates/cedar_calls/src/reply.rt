@@ -35,6 +35,7 @@ pub(crate) fn reply<L: Layout, const SLOTS: usize, A: Allocator + Copy>(
         Question::EntriesWith { prefix } => Reply::Entries(beginning_with(trie, alloc, prefix)),
         Question::EntriesFrom { key } => Reply::Range(since(trie, alloc, key)),
         Question::Range { from, to } => Reply::Range(between(trie, alloc, from, to)),
+        Question::CountPrefix { prefix } => Reply::Count(trie.count_prefix_bytes(prefix)),
         Question::Len => Reply::Len(trie.len()),
         Question::Figure { figure } => Reply::Figure(figure_of(trie, *figure)),
         Question::IsEmpty => Reply::IsEmpty(trie.is_empty()),

@@ -12,7 +12,7 @@ use Rattle.cedar_cli.specs.declared.command.BadLine.TheVariants.{Empty, NoKey, N
 use Rattle.cedar_cli.specs.declared.command.BadLine.TheVariants.{NotAlone, NoValue}
 use Rattle.cedar_cli.specs.declared.command.Verb.{Verb}
 use Rattle.cedar_cli.specs.declared.command.Verb.TheVariants.{Put, Erase, Exact, Segment, Prefixes}
-use Rattle.cedar_cli.specs.declared.command.Verb.TheVariants.{Predict, Entries, Figures}
+use Rattle.cedar_cli.specs.declared.command.Verb.TheVariants.{Predict, Count, Entries, Figures}
 
 -- what a line asks for: what to do, and with which key
 abbrev pub Order : Type 0
@@ -51,7 +51,7 @@ with_key_and_value text =
 abbrev pub alone : ℕ → Option Order
 alone c = if c == 42 then Some (Entries, []) else if c == 35 then Some (Figures, []) else None
 
--- the order of a line: `+ K V`, `- K`, `= K`, `< K`, `> K`, `/ K`, or `*` or `#`, whose key is the empty one
+-- the order of a line: `+ K V`, `- K`, `= K`, `< K`, `> K`, `? K`, `/ K`, or `*` or `#`, whose key is the empty one
 abbrev pub order_of : List ℕ → Option Order
 order_of [] = None
 order_of (c ∷ []) = alone c
@@ -62,15 +62,16 @@ order_of (c ∷ space ∷ rest) =
     else if c == 61 then with_key Exact rest
     else if c == 60 then with_key Prefixes rest
     else if c == 62 then with_key Predict rest
+    else if c == 63 then with_key Count rest
     else if c == 47 then with_key Segment rest
     else None
     else None
 
 -- ---- why a line is no order
 
--- whether a byte is a sign that a space and a key have to follow: one of + - = < > /
+-- whether a byte is a sign that a space and a key have to follow: one of + - = < > ? /
 abbrev pub is_keyed_sign : ℕ → Bool
-is_keyed_sign c = c == 43 || c == 45 || c == 61 || c == 60 || c == 62 || c == 47
+is_keyed_sign c = c == 43 || c == 45 || c == 61 || c == 60 || c == 62 || c == 63 || c == 47
 
 -- whether a byte is a sign that has to be alone: * or #
 abbrev pub is_lone_sign : ℕ → Bool
@@ -106,14 +107,15 @@ bad_line_of (c ∷ space ∷ rest) =
     else if c == 61 then lone_key_fault rest
     else if c == 60 then lone_key_fault rest
     else if c == 62 then lone_key_fault rest
+    else if c == 63 then lone_key_fault rest
     else if c == 47 then lone_key_fault rest
     else Some (form_fault (c ∷ space ∷ rest))
     else Some (form_fault (c ∷ space ∷ rest))
 
 -- what has to be in a line that is bad for this reason, in words
 abbrev pub bad_line_text : BadLine → List ℕ
-bad_line_text Empty = codes "it is empty, and has to begin with one of the signs + - = < > / * #"
-bad_line_text NoSign = codes "it has to begin with one of the signs + - = < > / * #"
+bad_line_text Empty = codes "it is empty, and has to begin with one of the signs + - = < > ? / * #"
+bad_line_text NoSign = codes "it has to begin with one of the signs + - = < > ? / * #"
 bad_line_text NoSpace = codes "a space and a key have to follow the sign"
 bad_line_text NoKey = codes "a key has to follow the space: . or pairs of hexadecimal digits, to the end of the line or, behind +, to the next space"
 bad_line_text NoValue = codes "a space and a number from -2147483648 to 2147483647 have to follow the key"

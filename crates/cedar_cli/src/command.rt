@@ -21,6 +21,8 @@ pub(crate) enum Verb {
     Prefixes,
     /// The keys that begin with the key.
     Predict,
+    /// How many keys begin with the key.
+    Count,
     /// All entries. The key is empty.
     Entries,
     /// How many keys and slots are held. The key is empty.
@@ -64,8 +66,9 @@ impl BadLine {
         ensures { result.now ≡ bad_line_text self }
     {
         match self {
-            BadLine::Empty => "it is empty, and has to begin with one of the signs + - = < > / * #",
-            BadLine::NoSign => "it has to begin with one of the signs + - = < > / * #",
+            BadLine::Empty =>
+                "it is empty, and has to begin with one of the signs + - = < > ? / * #",
+            BadLine::NoSign => "it has to begin with one of the signs + - = < > ? / * #",
             BadLine::NoSpace => "a space and a key have to follow the sign",
             BadLine::NoKey => {
                 "a key has to follow the space: . or pairs of hexadecimal digits, to the end of the line or, behind +, to the next space"
@@ -99,6 +102,7 @@ pub(crate) fn parse_line(line: &[u8], room: &mut [u8]) -> Result<Command, BadLin
         [b'=', b' ', rest @ ..] => parse_keyed(Verb::Exact, rest, room),
         [b'<', b' ', rest @ ..] => parse_keyed(Verb::Prefixes, rest, room),
         [b'>', b' ', rest @ ..] => parse_keyed(Verb::Predict, rest, room),
+        [b'?', b' ', rest @ ..] => parse_keyed(Verb::Count, rest, room),
         [b'/', b' ', rest @ ..] => parse_keyed(Verb::Segment, rest, room),
         [b'*'] => Ok(keyless(Verb::Entries)),
         [b'#'] => Ok(keyless(Verb::Figures)),
@@ -112,7 +116,7 @@ fn form_fault(line: &[u8]) -> BadLine
 {
     match line {
         [] => BadLine::Empty,
-        [b'+' | b'-' | b'=' | b'<' | b'>' | b'/', ..] => BadLine::NoSpace,
+        [b'+' | b'-' | b'=' | b'<' | b'>' | b'?' | b'/', ..] => BadLine::NoSpace,
         [b'*' | b'#', ..] => BadLine::NotAlone,
         _ => BadLine::NoSign,
     }

@@ -9,6 +9,7 @@ pub(crate) enum Name {
     Get,
     Prefixes,
     Complete,
+    Count,
     List,
     Show,
     Cut,
@@ -25,11 +26,12 @@ pub(crate) enum Name {
 }
 
 /// The commands, as the help text lists them.
-pub(crate) const COMMANDS: [Name; 17] = [
+pub(crate) const COMMANDS: [Name; 18] = [
     Name::Build,
     Name::Get,
     Name::Prefixes,
     Name::Complete,
+    Name::Count,
     Name::List,
     Name::Show,
     Name::Cut,
@@ -61,6 +63,7 @@ pub(crate) fn said_of(name: Name) -> Said {
         Name::Get => GET,
         Name::Prefixes => PREFIXES,
         Name::Complete => COMPLETE,
+        Name::Count => COUNT,
         Name::List => LIST,
         Name::Show => SHOW,
         Name::Cut => CUT,
@@ -84,6 +87,7 @@ pub(crate) fn arguments_of(name: Name) -> &'static [Argument] {
         Name::Get => &GET_TAKES,
         Name::Prefixes => &PREFIXES_TAKES,
         Name::Complete => &COMPLETE_TAKES,
+        Name::Count => &COUNT_TAKES,
         Name::List => &LIST_TAKES,
         Name::Show => &SHOW_TAKES,
         Name::Cut => &CUT_TAKES,
@@ -159,6 +163,14 @@ const COMPLETE_TAKES: [Argument; 6] = [
     Argument::Within,
     Argument::Limit,
 ];
+
+const COUNT: Said = Said {
+    name: "count",
+    about: "Count the words that begin with a prefix",
+    notes: "The status is 1 where there is none.\n\nExample:\n  roskvidh count words.cedar ne",
+};
+
+const COUNT_TAKES: [Argument; 3] = [Argument::File, Argument::Prefix, Argument::Limit];
 
 const LIST: Said = Said {
     name: "list",

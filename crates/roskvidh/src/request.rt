@@ -108,6 +108,8 @@ pub(crate) enum Query<'m> {
     Get(&'m [&'m str]),
     Prefixes(&'m str),
     Complete(Completions<'m>),
+    /// How many words begin so.
+    Count(&'m str),
     /// Whether the file is well-formed, and of what kind it is.
     Check,
     /// The figures, and whether a bar for each length of word is wanted.
@@ -186,6 +188,7 @@ fn query_named<'m, 'a>(name: &str, asked: &'m ArgMatches<'a>) -> Option<Request<
         "get" => query_of(asked, Query::Get(asked.get_strs("word")?)),
         "prefixes" => query_of(asked, Query::Prefixes(asked.get_str("text")?)),
         "complete" => query_of(asked, complete_of(asked)?),
+        "count" => query_of(asked, Query::Count(asked.get_str("prefix")?)),
         "list" => query_of(asked, list_of(asked)),
         "check" => query_of(asked, Query::Check),
         "stats" => query_of(asked, Query::Stats(asked.get_flag("chart"))),

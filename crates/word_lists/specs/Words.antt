@@ -1,7 +1,7 @@
 -- The words of clauses, from one place.
 pub use Rattle.cedarwood.specs.Tree.{number_at}
 pub use Rattle.cedar_words.specs.Words.{keywords_in, Spot, spots_from, Token}
-pub use Rattle.cedarwood.specs.Words.{after_put, all_stored, entries_of, fault}
+pub use Rattle.cedarwood.specs.Words.{after_put, all_stored, entries_of, entries_with, fault}
 pub use Rattle.cedarwood.specs.Words.{IsLimit, new_state, State}
 pub use Rattle.cedarwood.specs.WatchedDevice.{has_failed}
 pub use Rattle.hex.specs.Hex.{decode_sized}
@@ -13,7 +13,8 @@ pub use Rattle.text_lines.specs.Written.{BreaksOff, Writes, WritesBytes}
 pub use Rattle.text_lines.specs.Written.{WritesUpTo}
 pub use Rattle.word_lists.specs.declared.lines.StoreError.TheVariants.{Memory}
 pub use Rattle.word_lists.specs.Devices.{LinesOrFails}
-pub use Rattle.word_lists.specs.Lines.{byte_text, entries_missing, entry_line, entry_lines}
+pub use Rattle.word_lists.specs.Lines.{byte_text, count_line, entries_missing, entry_line}
+pub use Rattle.word_lists.specs.Lines.{entry_lines}
 pub use Rattle.word_lists.specs.Lines.{escape, found_line, holds_entry, is_plain, missing_lines}
 pub use Rattle.word_lists.specs.Lines.{signed_line, word_text}
 pub use Rattle.word_lists.specs.Reading.{first_read, named_of, read_as}

@@ -4,6 +4,7 @@
 //! written as `\x` and two hexadecimal digits in lower case; so is each byte from 128 on of a word that isn't UTF-8.
 #![tactic(auto)]
 
+mod counts;
 mod cut;
 mod fronts;
 mod lines;
@@ -19,6 +20,7 @@ mod sorted;
 mod word;
 mod write;
 
+pub use counts::write_count;
 pub use cut::{write_cheapest_cut, write_cut};
 pub use fronts::write_fronts;
 pub use lines::{LineFault, LineFaults, StoreError, erase_lines, store_lines};
