@@ -146,18 +146,20 @@ void pages_free(Pages *pages) {
     memset(pages, 0, sizeof *pages);
 }
 
-/* Reads so many keys at most into a page, behind a key or, where that has no byte, the first ones. False where memory is wanted. */
-static bool page_read(const cedar *dictionary, const Span *prefix, const Span *behind, size_t places, Gathered *page) {
+/* Reads so many keys at most into a page, behind a key or, where that has no byte, the first ones; `is_last` becomes whether no key with
+ * the prefix comes behind them. False where memory is wanted. */
+static bool page_read(const cedar *dictionary, const Span *prefix, const Span *behind, size_t places, Gathered *page, bool *is_last) {
     size_t needed = places * BYTES_A_KEY;
     uint32_t status = CEDAR_NO_ROOM;
     page->count = page->size = 0;
     while (status == CEDAR_NO_ROOM) {
         if (!bytes_room(page, needed) || !found_room(page, places)) return false;
-        status = cedar_entries_from(dictionary, prefix->at, prefix->length, behind->at, behind->length, page->found, places, page->bytes,
-                                    page->room, &page->count, &needed);
+        status = cedar_entries_below(dictionary, prefix->at, prefix->length, behind->at, behind->length, page->found, places, page->bytes,
+                                     page->room, &page->count, &needed);
     }
     if (page->count > 0) page->size = page->found[page->count - 1].place + page->found[page->count - 1].length;
-    return true;
+    *is_last = status != CEDAR_OK || needed == 0;
+    return status != CEDAR_MEMORY;
 }
 
 /* Leaves out what isn't below the upper bound: then no page comes any more, and neither does one behind an empty one. */
@@ -191,10 +193,10 @@ bool pages_read(const cedar *dictionary, Pages *pages) {
     if (pages->places == 0) return true;
     const Span *prefix = pages->bounds.prefix ? pages->bounds.prefix : &ROOT;
     Span behind = {NULL, pages->length > 0 ? pages->behind : NONE, pages->length};
-    if (!page_read(dictionary, prefix, &behind, pages->places, page)) return false;
+    bool is_last;
+    if (!page_read(dictionary, prefix, &behind, pages->places, page, &is_last)) return false;
     pages->places = pages->places < MOST_PLACES ? pages->places * GROWTH : MOST_PLACES;
-    /* A page of all keys there are is the last one. */
-    if (page->count == cedar_len(dictionary)) pages->places = 0;
+    if (is_last) pages->places = 0;
     end_page(pages);
     return true;
 }
@@ -235,5 +237,6 @@ bool gather_ordered(const cedar *dictionary, const Bounds *bounds, Gathered *gat
 
 /* The first key of the walk, if there is one. False where memory is wanted. */
 bool gather_first(const cedar *dictionary, Gathered *gathered) {
-    return page_read(dictionary, &ROOT, &ROOT, 1, gathered);
+    bool is_last;
+    return page_read(dictionary, &ROOT, &ROOT, 1, gathered, &is_last);
 }

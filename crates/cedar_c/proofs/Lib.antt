@@ -1,3 +1,4 @@
+pub mod BelowLemmas
 pub mod ClosedLemmas
 pub mod CutLemmas
 pub mod EntryLemmas

@@ -6,6 +6,7 @@
 #![tactic(auto)]
 
 mod any;
+mod below;
 mod builds;
 mod calls;
 mod cuts;
