@@ -1,5 +1,3 @@
-use Rattle.std.proofs.Common.{◌∙◌, ap}
-use Rattle.cedar_c.specs.Below.{first_length}
 use Rattle.cedar_c.proofs.below.tell_below.Goals as goal
 
 pub next_length-requires-clause-place : goal.next_length-requires-clause-place
