@@ -27,7 +27,7 @@ returns-then-not-branch-clause-place g c =
     let comes = c.in-Some.ensures in (
       tt,
       sym (none_since _ T c.requires.well_formed c.requires.ordered c.args.behind.now first.depth first.slot first.number comes.below comes.number comes.entries c.args.prefix.now c.requires.after
-      (sym c.in_ok-first_begins.ensures.answer ∙ c.if-not-branch.true)),
+          (sym c.in_ok-first_begins.ensures.answer ∙ c.if-not-branch.true)),
     )
 
 pub returns-then-not-branch-clause-unchanged : goal.returns-then-not-branch-clause-unchanged

@@ -31,7 +31,7 @@ returns-in-Ok g c =
     λ short. c.first_below.ensures.unchanged (subst (FindsNoRoom (length c.args.keys.now)) (ap (λ x. following_below x.tree prefix behind) on.state) short) in
     record {
       page = λ goes. inl (told_same prefix (following_below s.tree prefix behind) found told.found c.args.keys.now c.first_below.new.bytes told.keys c.args.count.now told.count told.needed c.tell_below.result c.first_below.ensures.room kept
-      (subst (λ es. TellsNext prefix es found told.found c.first_below.new.bytes told.keys c.args.count.now told.count told.needed c.tell_below.result) left c.tell_below.ensures));
+          (subst (λ es. TellsNext prefix es found told.found c.first_below.new.bytes told.keys c.args.count.now told.count told.needed c.tell_below.result) left c.tell_below.ensures));
       unordered = λ stops. absurd (stops (c.can_go_on.ensures.0 c.if-not-can_go_on.false));
     }
 
