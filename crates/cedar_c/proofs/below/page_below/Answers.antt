@@ -1,6 +1,5 @@
 use Rattle.std.proofs.Common.{◌≡◌, ◌⊎◌, ◌∙◌, [], ap, inl, inr, length, refl, subst, sym, true}
 use Rattle.std.proofs.lemmas.Bool.{true≢false}
-use Rattle.cedarwood.specs.WellFormed.{tree_of}
 use Rattle.cedarwood.specs.RangeWalks.{entries_left}
 use Rattle.cedar_c.specs.Below.{FindsNoRoom, following_below, MayWantMemory, TellsNext}
 use Rattle.cedar_c.proofs.BelowLemmas.{told_same}
