@@ -27,8 +27,12 @@ put_lists-requires g c =
     let blocks : length c.front-blocks.result.now ≤ h.array_len / 256 =
     omega (arith, ap length c.front-blocks.ensures, length-take h.blocks_len c.block_records.result.now, slots, listed) in
     let rejects = ap length c.reject_values.ensures in
-    let len = omega (arith, c.requires.len, rejects, slots, length-table_bytes c.args.minor T c.args.table.now.shaped) in
-    record { nodes = nodes; n_infos = n_infos; blocks = blocks; len = len }
+    record {
+      nodes = nodes;
+      n_infos = n_infos;
+      blocks = blocks;
+      len = omega (arith, c.requires.len, rejects, slots, length-table_bytes c.args.minor T c.args.table.now.shaped);
+    }
 
 pub returns : goal.returns
 returns g c =
