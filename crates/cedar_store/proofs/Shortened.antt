@@ -34,15 +34,17 @@ module _ {T A D : Type 0} (seen : D → List ℕ) (faults : D → ℕ) (state : 
       → IsLookedAt seen faults state end between new → IsLookedAt seen faults state end old new
   looked_at_since end un rule later looked = (
     ap (λ r. is_beyond r old.base end) (sym rule) ∙ ap (λ b. is_beyond between.compaction b end) (sym un.0) ∙ looked.0,
-    looked.1,
-    ⊎_elim
-        (λ (enough : IsShortEnough state between new). inl (enough.0 ∙ un.1, ap (λ r. is_beyond r (compacted_length (walk (state new.words).tree)) new.journal.end) (sym rule) ∙ enough.1))
-        (⊎_elim
-        (λ (short : IsTooLong state end between new × IsShortened seen state between new).
-        inr (inl (ap (λ r. is_beyond r (compacted_length (walk (state new.words).tree)) end) (sym rule) ∙ short.0, λ never. short.1 (rule ∙ never), short.2, short.3, short.4)))
-        (λ (kept : IsKeptLong faults between new).
-        inr (inr (kept.0, kept.1, kept_since (faults old.journal.device) (faults between.journal.device) (faults new.journal.device) kept.0 later kept.2))))
-        looked.2,
+    (
+      looked.1.0,
+      ⊎_elim
+          (λ (enough : IsShortEnough state between new). inl (enough.0 ∙ un.1, ap (λ r. is_beyond r (compacted_length (walk (state new.words).tree)) new.journal.end) (sym rule) ∙ enough.1))
+          (⊎_elim
+          (λ (short : IsTooLong state end between new × IsShortened seen state between new).
+          inr (inl (ap (λ r. is_beyond r (compacted_length (walk (state new.words).tree)) end) (sym rule) ∙ short.0, (λ never. short.1.0 (rule ∙ never), short.1.1, short.1.2, short.1.3))))
+          (λ (kept : IsKeptLong faults between new).
+          inr (inr (kept.0, kept.1, kept_since (faults old.journal.device) (faults between.journal.device) (faults new.journal.device) kept.0 later kept.2))))
+          looked.1.1,
+    ),
   )
 
   pub looked_since : (end : ℕ) → IsUnlooked old between → between.compaction ≡ old.compaction → faults old.journal.device ≤ faults between.journal.device

@@ -28,7 +28,7 @@ returns-in-Err-clause-looked_after g c =
     let old = c.args.self.now in
     let faults = g.D.Device.faults in
     let due : is_beyond old.compaction old.base old.journal.end ≡ true = search rules in
-    inr (due, refl, inr (inr (c.in-Err.error, refl, kept_before (faults old.journal.device) (faults old.journal.device) c.in-Err.error c.in-Err.ensures.cause)))
+    inr (due, (refl, inr (inr (c.in-Err.error, refl, kept_before (faults old.journal.device) (faults old.journal.device) c.in-Err.error c.in-Err.ensures.cause))))
 
 pub returns-in-Ok-clause-counted : goal.returns-in-Ok-clause-counted
 returns-in-Ok-clause-counted g c = λ was. c.replace_if_shorter.ensures.counted was

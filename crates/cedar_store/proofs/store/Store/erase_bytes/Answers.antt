@@ -35,7 +35,7 @@ returns-in_err-acknowledge-clause-cause g c =
     (erase_unwritten old.failed new.failed old.journal.end (length c.args.key.now + 1) (faults old.journal.device) (faults new.journal.device) e c.in_err-acknowledge.ensures.err)
 
 pub returns-in_err-erasure-clause-told : goal.returns-in_err-erasure-clause-told
-returns-in_err-erasure-clause-told g c = on_each_err c.from_residual-in_err-erasure.result (λ e. inl (refl, refl))
+returns-in_err-erasure-clause-told g c = on_each_err c.from_residual.result (λ e. inl (refl, refl))
 
 pub returns-in_err-acknowledge-clause-told : goal.returns-in_err-acknowledge-clause-told
 returns-in_err-acknowledge-clause-told g c =
