@@ -1,0 +1,2 @@
+pub mod RangeEndLemmas
+pub mod WithinLemmas

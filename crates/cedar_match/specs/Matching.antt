@@ -1,0 +1,117 @@
+-- How far a walk by an automaton is, and what it gives.
+use Rattle.std.specs.Prelude.{◌≡◌, ℕ, ◌+◌, ◌-◌, ◌<◌, ◌≤◌, ◌&&◌, ℤ, Bool, true, cond, fold, List, []}
+use Rattle.std.specs.Prelude.{◌∷◌, ◌++◌, length, filter, take, MatchOption, Option}
+use Rattle.std.specs.Coded.{Coded, code_by, coded×, coded_ℕ, coded_ℤ, coded_list}
+use Rattle.std.proofs.Common.{refl}
+use Rattle.cedar_tree.specs.Tree.{Tree}
+use Rattle.cedar_tree.specs.Queries.{Entry}
+use Rattle.cedar_tree.specs.Walks.{forwards, Visit, visited_entries, visits_after, visits_left}
+use Rattle.cedar_match.specs.declared.nodes.Node.{Node}
+
+-- ---- the nodes of a tree, one after another
+
+-- the path of a node that a walk comes to from another one: a front of that one's path, and a label of its own
+abbrev pub path_on : List ℕ → Node → List ℕ
+path_on path next = take (next.depth - 1) path ++ next.label ∷ []
+
+-- a walk that was at a path and had these nodes left comes to the first of them. `stands path slot` says that the slot is the node at the path
+pub record ReachesNode (stands : List ℕ → ℕ → Type 0) (tree : Tree) (left : List Visit) (path : List ℕ) (next : Node) : Type 0 where
+  pub there : stands (path_on path next) next.slot
+  pub visits : left ≡ (path_on path next, next.number) ∷ visits_left tree (forwards (path_on path next))
+  pub deep : (0 < next.depth) × (next.depth ≤ length path + 1)
+
+-- from a slot it goes to the first of those that it has left, unless none is. `left` says what it has left at a path
+abbrev pub StepsOn : (List ℕ → ℕ → Type 0) → Tree → (List ℕ → List Visit) → ℕ → ℕ → Option Node → Type 0
+StepsOn stands tree left slot depth next =
+    (path : List ℕ) → stands path slot → length path ≡ depth → MatchOption next (left path ≡ []) (ReachesNode stands tree (left path) path)
+
+-- what it has left where it has been at the node at a path, and not yet below it
+abbrev pub left_from : Tree → List ℕ → List Visit
+left_from tree path = visits_left tree (forwards path)
+
+-- and what it has left but for the nodes below that
+abbrev pub left_past : Tree → List ℕ → List Visit
+left_past tree path = visits_after tree (forwards path)
+
+-- ---- those that an automaton goes to
+
+-- the entries of some nodes that pass a test of their paths
+abbrev pub wanted_entries : (List ℕ → Bool) → List Visit → List Entry
+wanted_entries test visits = filter (λ e. test e.0) (visited_entries visits)
+
+-- how many of them do
+abbrev pub visit_count : (List ℕ → Bool) → List Visit → ℕ
+visit_count test visits = length (filter (λ v. test v.0) visits)
+
+-- whether an automaton may match after each front of some bytes but all of them: then a walk by it goes to the node at their end
+unfoldable pub leads_on : {S : Type 0} → (S → ℕ → S) → (S → Bool) → S → List ℕ → Bool
+leads_on after may state [] = true
+leads_on after may state (b ∷ bytes) = may state && leads_on after may (after state b) bytes
+
+-- the states after one byte, two, and so on up to all
+unfoldable pub states_along : {S : Type 0} → (S → ℕ → S) → S → List ℕ → List S
+states_along after state [] = []
+states_along after state (b ∷ bytes) = after state b ∷ states_along after (after state b) bytes
+
+-- an automaton goes on to the first of the nodes that are left to which it leads: what is wanted is still to come from there on
+pub record MatchLeadsTo (stands : List ℕ → ℕ → Type 0) (tree : Tree) (accepts leads : List ℕ → Bool) (left : List Visit) (path : List ℕ) (next : Node) : Type 0 where
+  pub there : stands (path_on path next) next.slot
+  pub led : leads (path_on path next) ≡ true
+  pub entries : wanted_entries accepts left ≡ wanted_entries accepts ((path_on path next, next.number) ∷ left_from tree (path_on path next))
+  pub nodes : visit_count leads left ≡ 1 + visit_count leads (left_from tree (path_on path next))
+  pub deep : (0 < next.depth) × (next.depth ≤ length path + 1)
+
+-- or none is left
+pub record MatchEnds (accepts leads : List ℕ → Bool) (left : List Visit) : Type 0 where
+  pub entries : wanted_entries accepts left ≡ []
+  pub nodes : visit_count leads left ≡ 0
+
+-- to the next node, or to none
+abbrev pub MatchLeads : (List ℕ → ℕ → Type 0) → Tree → (List ℕ → Bool) → (List ℕ → Bool) → List ℕ → Option Node → Type 0
+MatchLeads stands tree accepts leads path next =
+    MatchOption next (MatchEnds accepts leads (left_from tree path)) (MatchLeadsTo stands tree accepts leads (left_from tree path) path)
+
+-- ---- the walk
+
+-- it stands at the node at the end of its key, has led there, and knows the states on the way
+pub record IsMatchPlace {S : Type 0} (stands : List ℕ → ℕ → Type 0) (after : S → ℕ → S) (may : S → Bool) (initial : S) (key : List ℕ) (states : List S) (slot : ℕ) : Type 0 where
+  pub there : stands key slot
+  pub led : leads_on after may initial key ≡ true
+  pub along : states ≡ states_along after initial key
+
+-- the entries that it has left where it is at the node at a path
+abbrev pub entries_to_come : Tree → (List ℕ → Bool) → List ℕ → List Entry
+entries_to_come tree accepts path = wanted_entries accepts (left_from tree path)
+
+-- how many nodes it still goes to
+abbrev pub nodes_to_come : Tree → (List ℕ → Bool) → List ℕ → ℕ
+nodes_to_come tree leads path = visit_count leads (left_from tree path)
+
+-- it comes from one path to another: to the first of the entries that it had left
+pub record ComesToMatch (tree : Tree) (accepts leads : List ℕ → Bool) (before after : List ℕ) (value : ℤ) : Type 0 where
+  pub entries : entries_to_come tree accepts before ≡ (after, value) ∷ entries_to_come tree accepts after
+  pub nodes : nodes_to_come tree leads after < nodes_to_come tree leads before
+
+-- or it had none left
+pub record ComesToEnd (tree : Tree) (accepts : List ℕ → Bool) (before after : List ℕ) : Type 0 where
+  pub none_before : entries_to_come tree accepts before ≡ []
+  pub none_after : entries_to_come tree accepts after ≡ []
+
+-- or it stops short of a node, and has passed no entry that is wanted
+pub record StopsShort (tree : Tree) (accepts leads : List ℕ → Bool) (before after : List ℕ) : Type 0 where
+  pub entries : entries_to_come tree accepts before ≡ entries_to_come tree accepts after
+  pub nodes : 0 < nodes_to_come tree leads after
+
+-- what a caller sees: the key that it holds, the entries that it has left, and how many nodes it still goes to at most
+pub record MatchWalk : Type 0 where
+  pub key : List ℕ
+  pub left : List Entry
+  pub nodes : ℕ
+
+-- it serves `impl Model` alone
+abbrev pub match_walk_code : Coded MatchWalk
+match_walk_code =
+    code_by (List ℕ × (List (List ℕ × ℤ) × ℕ)) (coded× (coded_list coded_ℕ) (coded× (coded_list (coded× (coded_list coded_ℕ) coded_ℤ)) coded_ℕ))
+    (λ c. (c.key, (c.left, c.nodes)))
+    (λ p. record { key = p.0; left = p.1.0; nodes = p.1.1 })
+    (λ _. refl)
