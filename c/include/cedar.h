@@ -343,6 +343,27 @@ uint32_t cedar_entries_below(const cedar_dictionary *d, const uint8_t *prefix, s
                              size_t behind_length, cedar_found *found, size_t places, uint8_t *bytes, size_t room, size_t *count,
                              size_t *needed);
 
+/* Writes the best of the entries whose keys begin with a prefix, `places` at the most: by value, the highest first, or if lowest_first the
+ * lowest, and those with the same value by the bytes of their keys. found[0] and on say where each key begins among the bytes, how many
+ * bytes it has, and its value; the keys are written to bytes[0] and on, one after another. The other elements and bytes keep their content.
+ * *count is how many entries these are, *needed how many bytes their keys have together. It goes over all entries with the prefix, and
+ * allocates for `places` of them and a copy of their keys. Returns CEDAR_OK; CEDAR_IS_CLOSED; CEDAR_NO_ROOM if their keys have more than
+ * `room` bytes: then *needed is how many; or CEDAR_MEMORY. After an error nothing else is written. */
+uint32_t cedar_best(const cedar_dictionary *d, const uint8_t *prefix, size_t length, bool lowest_first, cedar_found *found, size_t places,
+                    uint8_t *bytes, size_t room, size_t *count, size_t *needed);
+
+/* cedar_floor writes the last entry before a key, or at it if `included`; cedar_ceiling the first entry behind a key, or at it if
+ * `included`. If `key` has no byte, these are the last and the first entry of all. The found key is written to the beginning of a buffer,
+ * its value to *value, and how many bytes it has to *needed: 0 says that there is no such entry. So a loop goes backwards whose `key` is
+ * the one that was found last, with included false. cedar_ceiling looks the key up once; cedar_floor makes about as many look-ups as the
+ * key that it finds has bytes. Both allocate for the key. They return CEDAR_OK; CEDAR_IS_CLOSED; CEDAR_NOT_ASCENDING if labels don't
+ * ascend; CEDAR_NO_ROOM if the found key has more than `room` bytes: then *needed is how many; or CEDAR_MEMORY. After an error nothing else
+ * is written, and *value isn't if there is no entry. */
+uint32_t cedar_floor(const cedar_dictionary *d, const uint8_t *key, size_t length, bool included, uint8_t *buffer, size_t room,
+                     int32_t *value, size_t *needed);
+uint32_t cedar_ceiling(const cedar_dictionary *d, const uint8_t *key, size_t length, bool included, uint8_t *buffer, size_t room,
+                       int32_t *value, size_t *needed);
+
 /* Finds all keys in a text, from the position *next on: position after position, and at each the shortest first. It writes them to found[0]
  * and on, and returns how many it wrote; the other elements may be written to as well. The keys of a position are returned by the same
  * call: if there is no room left for them, the call ends and *next is this position, so that calling again with this *next goes on. If it
@@ -439,7 +460,25 @@ CEDAR_INLINE uint32_t cedar_nullable_entries_below(const cedar_dictionary *d, co
     return cedar_entries_below(d, prefix, prefix_length, behind, behind_length, found, places, bytes, room, count,
                                needed ? needed : &unwanted);
 }
+CEDAR_INLINE uint32_t cedar_nullable_best(const cedar_dictionary *d, const uint8_t *prefix, size_t length, bool lowest_first,
+                                          cedar_found *found, size_t places, uint8_t *bytes, size_t room, size_t *count, size_t *needed) {
+    size_t unwanted = 0;
+    return cedar_best(d, prefix, length, lowest_first, found, places, bytes, room, count, needed ? needed : &unwanted);
+}
+CEDAR_INLINE uint32_t cedar_nullable_floor(const cedar_dictionary *d, const uint8_t *key, size_t length, bool included, uint8_t *buffer,
+                                           size_t room, int32_t *value, size_t *needed) {
+    size_t unwanted = 0;
+    return cedar_floor(d, key, length, included, buffer, room, value, needed ? needed : &unwanted);
+}
+CEDAR_INLINE uint32_t cedar_nullable_ceiling(const cedar_dictionary *d, const uint8_t *key, size_t length, bool included, uint8_t *buffer,
+                                             size_t room, int32_t *value, size_t *needed) {
+    size_t unwanted = 0;
+    return cedar_ceiling(d, key, length, included, buffer, room, value, needed ? needed : &unwanted);
+}
 #define cedar_entries_from cedar_nullable_entries_from
+#define cedar_best cedar_nullable_best
+#define cedar_floor cedar_nullable_floor
+#define cedar_ceiling cedar_nullable_ceiling
 #define cedar_entries_below cedar_nullable_entries_below
 #define cedar_save cedar_nullable_save
 #define cedar_update cedar_nullable_update

@@ -235,6 +235,37 @@ bool gather_ordered(const cedar *dictionary, const Bounds *bounds, Gathered *gat
     return done;
 }
 
+/* The best keys with a prefix, at most so many, in the order of their values. False where memory is wanted. */
+bool gather_best(const cedar *dictionary, const Span *prefix, size_t most, bool lowest_first, Gathered *best) {
+    size_t held = cedar_len(dictionary), places = most < held ? most : held, needed = places * BYTES_A_KEY;
+    uint32_t status = CEDAR_NO_ROOM;
+    while (status == CEDAR_NO_ROOM) {
+        if (!bytes_room(best, needed) || !found_room(best, places)) return false;
+        status = cedar_best(dictionary, prefix->at, prefix->length, lowest_first, best->found, places, best->bytes, best->room, &best->count,
+                            &needed);
+    }
+    best->size = needed;
+    return status != CEDAR_MEMORY;
+}
+
+/* The key next to another one, if there is one: the last one up to it, or the first one from it on. No byte is no bound. Returns a status. */
+uint32_t gather_neighbour(const cedar *dictionary, const Span *key, bool included, bool is_floor, Gathered *found) {
+    int32_t value = 0;
+    size_t needed = FIRST_ROOM;
+    uint32_t status = CEDAR_NO_ROOM;
+    while (status == CEDAR_NO_ROOM) {
+        if (!bytes_room(found, needed) || !found_room(found, 1)) return CEDAR_MEMORY;
+        status = (is_floor ? cedar_floor : cedar_ceiling)(dictionary, key->at, key->length, included, found->bytes, found->room, &value,
+                                                           &needed);
+    }
+    if (status == CEDAR_OK && needed > 0) {
+        found->found[0] = (cedar_found){0, needed, value};
+        found->count = 1;
+        found->size = needed;
+    }
+    return status;
+}
+
 /* The first key of the walk, if there is one. False where memory is wanted. */
 bool gather_first(const cedar *dictionary, Gathered *gathered) {
     bool is_last;

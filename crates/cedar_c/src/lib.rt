@@ -7,6 +7,7 @@
 
 mod any;
 mod below;
+mod best;
 mod builds;
 mod calls;
 mod cuts;
@@ -20,6 +21,7 @@ mod held;
 mod keys;
 mod keywords;
 mod loose;
+mod neighbours;
 mod pages;
 mod pairs;
 mod planned;
