@@ -73,6 +73,9 @@ def _library(path=os.environ.get("CEDAR_LIBRARY", Path(__file__).parent / "libro
         ("cedar_predictions", c_size_t, [handle, c_char_p, c_size_t, POINTER(_Match), c_size_t]),
         ("cedar_prefixes_from", c_size_t, [handle, c_char_p, c_size_t, POINTER(c_size_t), POINTER(_Match), c_size_t]),
         ("cedar_predictions_from", c_size_t, [handle, c_char_p, c_size_t, POINTER(c_size_t), POINTER(_Match), c_size_t]),
+        ("cedar_first_predictions", c_size_t, [handle, c_char_p, c_size_t, POINTER(_Match), c_size_t]),
+        ("cedar_entries_below", c_uint32, [handle, c_char_p, c_size_t, c_char_p, c_size_t, POINTER(_Found), c_size_t, c_char_p, c_size_t,
+                                           POINTER(c_size_t), POINTER(c_size_t)]),
         ("cedar_scan", c_size_t, [handle, c_char_p, c_size_t, POINTER(c_size_t), POINTER(_Found), c_size_t]),
         ("cedar_segment", c_size_t, [handle, c_char_p, c_size_t, POINTER(c_size_t), POINTER(_Found), c_size_t]),
         ("cedar_keywords", c_size_t, [handle, c_char_p, c_size_t, POINTER(c_size_t), POINTER(_Found), c_size_t]),
@@ -377,6 +380,28 @@ class Cedar:
         """As `predictions`, without the first `start` of them, and at most `most`."""
         text = _bytes(text)
         return [(value, length - len(text)) for value, length in self._piece(_CEDAR.cedar_predictions_from, text, start, most)]
+
+    def first_predictions(self, text, most):
+        """As `predictions`, at most `most` of them: it goes over no others."""
+        text, matches = _bytes(text), (_Match * most)()
+        count = _CEDAR.cedar_first_predictions(self._this, text, len(text), matches, most)
+        return [(match.value, match.length - len(text)) for match in matches[:count]]
+
+    def page(self, prefix=b"", behind=b"", most=64):
+        """Returns a page of at most `most` keys that begin with a prefix and come after another key, with their values, and whether it is the
+        last page. It costs what it has, however many keys come before it."""
+        prefix, behind = _bytes(prefix), _bytes(behind)
+        found, count, needed, room = (_Found * most)(), c_size_t(), c_size_t(), 64 * most
+        while True:
+            keys = ctypes.create_string_buffer(room)
+            status = _CEDAR.cedar_entries_below(self._this, prefix, len(prefix), behind, len(behind), found, most, keys, room, byref(count),
+                                                byref(needed))
+            if status != _NO_ROOM:
+                break
+            room = needed.value
+        _check(status)
+        keys = keys.raw
+        return [(keys[one.place : one.place + one.length], one.value) for one in found[: count.value]], needed.value == 0
 
     def _everything(self, call, text):
         text, place, parts, least = _bytes(text), c_size_t(0), [], 64

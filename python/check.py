@@ -51,6 +51,8 @@ def check(reduced):
     for text in [b"", b"a", b"ab", b"zz"]:
         assert cedar.predictions(text) == [(plain[key], len(key) - len(text)) for key in sorted(plain) if key.startswith(text)]
         assert cedar.count_prefix(text) == sum(key.startswith(text) for key in plain)
+        assert cedar.first_predictions(text, 5) == cedar.predictions(text)[:5] and cedar.first_predictions(text, 0) == []
+        pages(cedar, sorted(item for item in plain.items() if item[0].startswith(text)), text)
     pieces(cedar)
     refusals(cedar)
     room_ahead(reduced)
@@ -130,6 +132,20 @@ def bounded_searches(reduced):
     assert cedar.search_limit is None
     cedar.close()
     assert cedar.search_limit == 0
+
+
+def pages(cedar, entries, prefix):
+    """The entries with a prefix, page by page, beside their list; and a page behind keys that aren't held."""
+    shown, is_last, behind = [], False, b""
+    while not is_last:
+        page, is_last = cedar.page(prefix, behind, 7)
+        assert len(page) == 7 or is_last
+        shown += page
+        behind = page[-1][0] if page else behind
+    assert shown == entries
+    for key in [b"\1", b"aba\1", b"zzz"]:
+        wanted = [item for item in entries if item[0] > key]
+        assert cedar.page(prefix, key, 3) == (wanted[:3], len(wanted) <= 3)
 
 
 def pieces(cedar):

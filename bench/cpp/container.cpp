@@ -81,6 +81,18 @@ void first_ten(const cedar_dictionary &c, const dictionary &d, const Plain &plai
         for (std::size_t i = 0; i < count; ++i) sum += static_cast<std::uint64_t>(found[i].value);
         return sum;
     }));
+    const auto page_behind = [&](const std::string &key) {
+        std::size_t count = 0, needed = 0;
+        std::uint64_t sum = 0;
+        cedar_entries_below(&c, bytes_of(prefix), 1, bytes_of(key), key.size(), found, 10, keys, sizeof keys, &count, &needed);
+        for (std::size_t i = 0; i < count; ++i) sum += static_cast<std::uint64_t>(found[i].value);
+        return sum;
+    };
+    same(wanted, timed(what, "C, cedar_entries_below", 10000, [&] { return page_behind({}); }));
+    const auto middle = std::next(plain.begin(), COMPLETIONS / 2);
+    std::uint64_t behind = 0;
+    for (int i = 1; i <= 10; ++i) behind += static_cast<std::uint64_t>(std::next(middle, i)->second);
+    same(behind, timed("ten in the middle of them", "C, cedar_entries_below", 10000, [&] { return page_behind(middle->first); }));
     cedar_match matches[10];
     const auto sum_of = [&] {
         std::uint64_t sum = 0;
@@ -90,6 +102,10 @@ void first_ten(const cedar_dictionary &c, const dictionary &d, const Plain &plai
     same(wanted, timed(what, "C, cedar_predictions_from", 10000, [&] {
         std::size_t next = 0;
         cedar_predictions_from(&c, bytes_of(prefix), 1, &next, matches, 10);
+        return sum_of();
+    }));
+    same(wanted, timed(what, "C, cedar_first_predictions", 10000, [&] {
+        cedar_first_predictions(&c, bytes_of(prefix), 1, matches, 10);
         return sum_of();
     }));
     same(wanted, timed(what, "C, cedar_predictions, which counts them all", 3, [&] {

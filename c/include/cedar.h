@@ -278,9 +278,13 @@ bool cedar_longest_prefix(const cedar_dictionary *d, const uint8_t *text, size_t
 
 /* Finds the keys that begin with a text, in iteration order. The first `length` bytes of each are the text, and match.length - length bytes
  * follow it. There are never more than there are keys. Otherwise as cedar_prefixes: since it returns how many there are, it goes over all
- * of them, also where there is room for a few or for none. For the first few call cedar_predictions_from, or cedar_entries_from for their
- * keys too: these stop where the room ends. */
+ * of them, also where there is room for a few or for none. For the first few call cedar_first_predictions, or cedar_entries_below for
+ * their keys too: these stop where the room ends. */
 size_t cedar_predictions(const cedar_dictionary *d, const uint8_t *text, size_t length, cedar_match *matches, size_t room);
+
+/* Finds the first keys that begin with a text, as cedar_predictions does: as many as there is room for, and it goes over no others. Returns
+ * how many it wrote; a result below room means that nothing is left. cedar_predictions_from goes on. */
+size_t cedar_first_predictions(const cedar_dictionary *d, const uint8_t *text, size_t length, cedar_match *matches, size_t room);
 
 /* As cedar_prefixes and cedar_predictions, without the first *next keys, in pieces: as many as are left, and there is room for, are written
  * to matches[0] and on; the other elements keep their content. They return how many were written, and add it to *next, so that the same
@@ -316,11 +320,53 @@ typedef struct cedar_found {
  *
  * Returns CEDAR_OK; CEDAR_IS_CLOSED; CEDAR_NOT_ASCENDING if `behind` has a byte and labels don't ascend; or CEDAR_NO_ROOM if there is an
  * element and the next key has more than `room` bytes: then *needed is how many. That next key may be one without the prefix, behind the
- * last one with it or before the first: so CEDAR_NO_ROOM may come where nothing that is wanted is left. After an error nothing else is
- * written. */
+ * last one with it or before the first: so CEDAR_NO_ROOM may come where nothing that is wanted is left, which it doesn't of
+ * cedar_entries_below. After an error nothing else is written. */
 uint32_t cedar_entries_from(const cedar_dictionary *d, const uint8_t *prefix, size_t prefix_length, const uint8_t *behind,
                             size_t behind_length, cedar_found *found, size_t places, uint8_t *bytes, size_t room, size_t *count,
                             size_t *needed);
+
+/* Writes a page of entries with their keys, as cedar_entries_from does, of the keys that begin with a prefix and come after `behind`; if
+ * `behind` has no byte, from the first one on. The page ends at the prefix, and *needed says what comes: after CEDAR_OK it is how many
+ * bytes the next key with the prefix has, or 0 if none is left. So a loop of pages needs no further call to learn that it is through:
+ *
+ *     size_t length = 0, count, needed;
+ *     do {
+ *         status = cedar_entries_below(&d, prefix, prefix_length, last, length, found, 64, bytes, sizeof bytes, &count, &needed);
+ *         ... if status is CEDAR_OK, the page has `count` entries; copy its last key to last[0] and on, its length to `length`
+ *     } while (status == CEDAR_OK && needed > 0);
+ *
+ * `behind` needn't be held any more. A page costs a look-up or two of `behind`, its own entries, and the length of the next key, and no key
+ * before it or with another prefix is gone over. It allocates nothing if `behind` is held or has no byte, or if there is room for the next
+ * key of all; otherwise that key's bytes.
+ *
+ * Returns CEDAR_OK; CEDAR_IS_CLOSED; CEDAR_NOT_ASCENDING if `behind` has a byte and labels don't ascend; CEDAR_NO_ROOM if there is an
+ * element and the next key with the prefix has more than `room` bytes: then *needed is how many; or CEDAR_MEMORY. After an error nothing
+ * else is written. With no element a call returns CEDAR_OK and says in *needed what comes. */
+uint32_t cedar_entries_below(const cedar_dictionary *d, const uint8_t *prefix, size_t prefix_length, const uint8_t *behind,
+                             size_t behind_length, cedar_found *found, size_t places, uint8_t *bytes, size_t room, size_t *count,
+                             size_t *needed);
+
+/* Writes the best of the entries whose keys begin with a prefix, `places` at the most: by value, the highest first, or if lowest_first the
+ * lowest, and those with the same value by the bytes of their keys. found[0] and on say where each key begins among the bytes, how many
+ * bytes it has, and its value; the keys are written to bytes[0] and on, one after another. The other elements and bytes keep their content.
+ * *count is how many entries these are, *needed how many bytes their keys have together. It goes over all entries with the prefix, and
+ * allocates for `places` of them and a copy of their keys. Returns CEDAR_OK; CEDAR_IS_CLOSED; CEDAR_NO_ROOM if their keys have more than
+ * `room` bytes: then *needed is how many; or CEDAR_MEMORY. After an error nothing else is written. */
+uint32_t cedar_best(const cedar_dictionary *d, const uint8_t *prefix, size_t length, bool lowest_first, cedar_found *found, size_t places,
+                    uint8_t *bytes, size_t room, size_t *count, size_t *needed);
+
+/* cedar_floor writes the last entry before a key, or at it if `included`; cedar_ceiling the first entry behind a key, or at it if
+ * `included`. If `key` has no byte, these are the last and the first entry of all. The found key is written to the beginning of a buffer,
+ * its value to *value, and how many bytes it has to *needed: 0 says that there is no such entry. So a loop goes backwards whose `key` is
+ * the one that was found last, with included false. cedar_ceiling looks the key up once; cedar_floor makes about as many look-ups as the
+ * key that it finds has bytes. Both allocate for the key. They return CEDAR_OK; CEDAR_IS_CLOSED; CEDAR_NOT_ASCENDING if labels don't
+ * ascend; CEDAR_NO_ROOM if the found key has more than `room` bytes: then *needed is how many; or CEDAR_MEMORY. After an error nothing else
+ * is written, and *value isn't if there is no entry. */
+uint32_t cedar_floor(const cedar_dictionary *d, const uint8_t *key, size_t length, bool included, uint8_t *buffer, size_t room,
+                     int32_t *value, size_t *needed);
+uint32_t cedar_ceiling(const cedar_dictionary *d, const uint8_t *key, size_t length, bool included, uint8_t *buffer, size_t room,
+                       int32_t *value, size_t *needed);
 
 /* Finds all keys in a text, from the position *next on: position after position, and at each the shortest first. It writes them to found[0]
  * and on, and returns how many it wrote; the other elements may be written to as well. The keys of a position are returned by the same
@@ -411,7 +457,33 @@ CEDAR_INLINE uint32_t cedar_nullable_entries_from(const cedar_dictionary *d, con
     return cedar_entries_from(d, prefix, prefix_length, behind, behind_length, found, places, bytes, room, count,
                               needed ? needed : &unwanted);
 }
+CEDAR_INLINE uint32_t cedar_nullable_entries_below(const cedar_dictionary *d, const uint8_t *prefix, size_t prefix_length,
+                                                   const uint8_t *behind, size_t behind_length, cedar_found *found, size_t places,
+                                                   uint8_t *bytes, size_t room, size_t *count, size_t *needed) {
+    size_t unwanted = 0;
+    return cedar_entries_below(d, prefix, prefix_length, behind, behind_length, found, places, bytes, room, count,
+                               needed ? needed : &unwanted);
+}
+CEDAR_INLINE uint32_t cedar_nullable_best(const cedar_dictionary *d, const uint8_t *prefix, size_t length, bool lowest_first,
+                                          cedar_found *found, size_t places, uint8_t *bytes, size_t room, size_t *count, size_t *needed) {
+    size_t unwanted = 0;
+    return cedar_best(d, prefix, length, lowest_first, found, places, bytes, room, count, needed ? needed : &unwanted);
+}
+CEDAR_INLINE uint32_t cedar_nullable_floor(const cedar_dictionary *d, const uint8_t *key, size_t length, bool included, uint8_t *buffer,
+                                           size_t room, int32_t *value, size_t *needed) {
+    size_t unwanted = 0;
+    return cedar_floor(d, key, length, included, buffer, room, value, needed ? needed : &unwanted);
+}
+CEDAR_INLINE uint32_t cedar_nullable_ceiling(const cedar_dictionary *d, const uint8_t *key, size_t length, bool included, uint8_t *buffer,
+                                             size_t room, int32_t *value, size_t *needed) {
+    size_t unwanted = 0;
+    return cedar_ceiling(d, key, length, included, buffer, room, value, needed ? needed : &unwanted);
+}
 #define cedar_entries_from cedar_nullable_entries_from
+#define cedar_best cedar_nullable_best
+#define cedar_floor cedar_nullable_floor
+#define cedar_ceiling cedar_nullable_ceiling
+#define cedar_entries_below cedar_nullable_entries_below
 #define cedar_save cedar_nullable_save
 #define cedar_update cedar_nullable_update
 #define cedar_insert cedar_nullable_insert

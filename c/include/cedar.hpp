@@ -26,9 +26,10 @@
 //     reserve, shrink_to_fit                        closed, CEDAR_SLOT_LIMIT, memory
 //     clone, save, cheapest                         closed, memory
 //     erase_all, prefixes, predictions, entries,    memory
-//       entries_with_prefix, begin, cbegin, find
+//       entries_with_prefix, begin, cbegin, find,
+//       best
 //     entries_from, range, lower_bound,             CEDAR_NOT_ASCENDING if the dictionary isn't ordered; memory
-//       upper_bound
+//       upper_bound, floor, ceiling, before, last
 //     a step (++) of an iterator                    closed, memory; CEDAR_NOT_ASCENDING if the dictionary isn't ordered, after find or
 //                                                   after an assignment or a swap
 //     scan, segment, keywords                       what the callable throws; scan also memory
@@ -330,6 +331,37 @@ public:
         return cedar_count_prefix(&mine, detail::bytes(prefix), prefix.size());
     }
 
+    /// Returns the best of the entries whose keys begin with a text, at most `most` of them: by value, the highest first or the lowest, and
+    /// those with the same value by the bytes of their keys. It goes over all entries with the text, and keeps no more than `most`.
+    std::vector<owned_entry> best(std::string_view prefix, std::size_t most, by_value order = by_value::highest_first) const {
+        std::vector<owned_entry> kept;
+        if (!is_open()) return kept;
+        const cedar_dictionary mine = inside_;
+        const std::size_t places = std::min(most, size());
+        std::vector<cedar_found> found(places + 1); // so that data() isn't null
+        std::vector<char> keys;
+        std::size_t count = 0, needed = 16 * places;
+        std::uint32_t status = CEDAR_NO_ROOM;
+        while (status == CEDAR_NO_ROOM) {
+            keys.resize(needed + 1);
+            status = cedar_best(&mine, detail::bytes(prefix), prefix.size(), order == by_value::lowest_first, found.data(), places,
+                                reinterpret_cast<std::uint8_t *>(keys.data()), keys.size(), &count, &needed);
+        }
+        detail::check(status);
+        kept.reserve(count);
+        for (std::size_t i = 0; i < count; ++i) kept.emplace_back(std::string(keys.data() + found[i].place, found[i].length), found[i].value);
+        return kept;
+    }
+
+    /// Returns the last entry up to a key: at it, or else before it. before() leaves the key itself out, and last() is the last entry of
+    /// all. Each makes about as many look-ups as the found key has bytes.
+    std::optional<owned_entry> floor(std::string_view key) const { return key.empty() ? std::nullopt : neighbour(cedar_floor, key, true); }
+    std::optional<owned_entry> before(std::string_view key) const { return key.empty() ? std::nullopt : neighbour(cedar_floor, key, false); }
+    std::optional<owned_entry> last() const { return neighbour(cedar_floor, {}, true); }
+
+    /// Returns the first entry from a key on: at it, or else behind it. upper_bound leaves the key itself out.
+    std::optional<owned_entry> ceiling(std::string_view key) const { return neighbour(cedar_ceiling, key, true); }
+
     /// Returns a range over all keys with their values. It takes them in pages while it is gone through: so the first few cost the same in
     /// a dictionary of any size. cedar_entries.hpp says how long its keys stay, and what it shows if the dictionary changes meanwhile.
     roskvidh::entries entries() const & { return entries_with_prefix({}); }
@@ -460,6 +492,28 @@ private:
 
     struct closed {};
     explicit dictionary(closed) noexcept {}
+
+    using beside = std::uint32_t (*)(const cedar_dictionary *, const std::uint8_t *, std::size_t, bool, std::uint8_t *, std::size_t,
+                                     std::int32_t *, std::size_t *);
+
+    // The entry next to a key; none in a closed dictionary.
+    std::optional<owned_entry> neighbour(beside call, std::string_view key, bool included) const {
+        if (!is_open()) return std::nullopt;
+        const cedar_dictionary mine = inside_;
+        std::string found;
+        std::int32_t value = 0;
+        std::size_t needed = 64;
+        std::uint32_t status = CEDAR_NO_ROOM;
+        while (status == CEDAR_NO_ROOM) {
+            found.resize(needed + 1); // so that data() isn't null
+            status = call(&mine, detail::bytes(key), key.size(), included, reinterpret_cast<std::uint8_t *>(found.data()), found.size(),
+                          &value, &needed);
+        }
+        detail::check(status);
+        if (needed == 0) return std::nullopt;
+        found.resize(needed);
+        return owned_entry(std::move(found), value);
+    }
 
     std::shared_ptr<detail::page> first_behind(std::string_view key, std::optional<std::string> end, bool is_within) const {
         return detail::page::since({&inside_, {}, std::move(end)}, key, is_within);

@@ -21,6 +21,9 @@ namespace roskvidh {
 /// How the slots of a dictionary represent its keys. All results are the same in both; the reduced layout takes fewer slots.
 enum class layout { standard, reduced };
 
+/// Which values come first among the best.
+enum class by_value { highest_first, lowest_first };
+
 /// The version of a file's format: 1.1 lists the slots in use, 1.0 all slots.
 enum class file_format { v1_1, v1_0 };
 

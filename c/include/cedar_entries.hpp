@@ -171,10 +171,11 @@ private:
         const cedar_dictionary mine = *of_.dictionary;
         std::size_t needed = 0;
         const std::uint32_t status =
-            cedar_entries_from(&mine, bytes(of_.prefix), of_.prefix.size(), bytes(behind), behind.size(), found_.get(), room_.places,
-                               reinterpret_cast<std::uint8_t *>(text()), room_.bytes, &count_, &needed);
+            cedar_entries_below(&mine, bytes(of_.prefix), of_.prefix.size(), bytes(behind), behind.size(), found_.get(), room_.places,
+                                reinterpret_cast<std::uint8_t *>(text()), room_.bytes, &count_, &needed);
         if (status == CEDAR_NO_ROOM) return needed;
         check(status);
+        is_last_ = needed == 0;
         if (of_.end) cut_at(*of_.end);
         return std::nullopt;
     }
@@ -183,7 +184,7 @@ private:
     void cut_at(std::string_view end) {
         const cedar_found *begun = found_.get(), *ended = begun + count_;
         const cedar_found *kept = std::partition_point(begun, ended, [&](const cedar_found &one) { return key_of(one) < end; });
-        is_last_ = kept != ended;
+        is_last_ = is_last_ || kept != ended;
         count_ = static_cast<std::size_t>(kept - begun);
     }
 

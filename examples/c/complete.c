@@ -19,18 +19,18 @@ static uint32_t read_words(cedar *d, FILE *file) {
     return status;
 }
 
-/* A page costs what it has, however many words there are. One place more than is shown tells whether there are more. */
+/* A page costs what it has, however many words there are, and says whether there are more. */
 static void complete(const cedar *d, const char *beginning) {
-    cedar_found found[MOST_SHOWN + 1];
-    uint8_t keys[(MOST_SHOWN + 1) * WORD_ROOM];
-    size_t count = 0;
+    cedar_found found[MOST_SHOWN];
+    uint8_t keys[MOST_SHOWN * WORD_ROOM];
+    size_t count = 0, needed = 0;
     printf("%s:\n", beginning);
-    uint32_t status = cedar_entries_from(d, bytes_of(beginning), strlen(beginning), NULL, 0, found, MOST_SHOWN + 1, keys, sizeof keys,
-                                         &count, NULL);
-    for (size_t i = 0; status == CEDAR_OK && i < count && i < MOST_SHOWN; i++) {
+    uint32_t status = cedar_entries_below(d, bytes_of(beginning), strlen(beginning), NULL, 0, found, MOST_SHOWN, keys, sizeof keys, &count,
+                                          &needed);
+    for (size_t i = 0; status == CEDAR_OK && i < count; i++) {
         printf("  %.*s %" PRId32 "\n", (int)found[i].length, (const char *)keys + found[i].place, found[i].value);
     }
-    if (count > MOST_SHOWN) printf("  ..\n");
+    if (status == CEDAR_OK && needed > 0) printf("  ..\n");
 }
 
 int main(int count, char **arguments) {

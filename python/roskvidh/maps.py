@@ -227,9 +227,12 @@ class CedarMap(MutableMapping[K, V]):
         """Returns a view of the keys with their values, or of those that begin with a prefix."""
         return Items(self, prefix)
 
-    def irange(self, low: Optional[K] = None, high: Optional[K] = None) -> Iterator[K]:
-        """Returns an iterator over the keys from `low` on and before `high`, ascending by bytes. None means no bound."""
-        return self._held[0].irange(low, high)
+    def irange(
+        self, low: Optional[K] = None, high: Optional[K] = None, *, inclusive: Tuple[bool, bool] = (True, False), reverse: bool = False
+    ) -> Iterator[K]:
+        """Returns an iterator over the keys from `low` on and before `high`, ascending by bytes, or with `reverse` descending. None means no
+        bound. `inclusive` says of each bound whether it is one of the keys."""
+        return self._held[0].irange(low, high, inclusive=inclusive, reverse=reverse)
 
     def _pairs(self, prefix: Optional[K]) -> Iterator[Tuple[K, V]]:
         ids, values = self._held

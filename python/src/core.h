@@ -180,6 +180,8 @@ bool gather_below(const cedar *dictionary, const Span *prefix, Gathered *gathere
 bool gather_unordered(const cedar *dictionary, const Bounds *bounds, Gathered *gathered);
 bool gather_ordered(const cedar *dictionary, const Bounds *bounds, Gathered *gathered);
 bool gather_first(const cedar *dictionary, Gathered *gathered);
+bool gather_best(const cedar *dictionary, const Span *prefix, size_t most, bool lowest_first, Gathered *best);
+uint32_t gather_neighbour(const cedar *dictionary, const Span *key, bool included, bool is_floor, Gathered *found);
 bool pages_begin(const cedar *dictionary, const Bounds *bounds, Pages *pages);
 bool pages_read(const cedar *dictionary, Pages *pages);
 void pages_free(Pages *pages);
@@ -196,6 +198,8 @@ PyObject *core_count(Core *core, PyObject *prefix);
 PyObject *core_prefixes(Core *core, PyObject *text);
 PyObject *core_longest_prefix(Core *core, PyObject *text);
 PyObject *core_erase_prefix(Core *core, PyObject *prefix);
+PyObject *core_best(Core *core, PyObject *arguments);
+PyObject *core_neighbour(Core *core, PyObject *arguments);
 
 /* matches.c: what stands in a text. */
 extern PyType_Spec matches_spec;

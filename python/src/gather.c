@@ -145,18 +145,20 @@ void pages_free(Pages *pages) {
     memset(pages, 0, sizeof *pages);
 }
 
-/* Reads so many keys at most into a page, behind a key or, where that has no byte, the first ones. False where memory is wanted. */
-static bool page_read(const cedar *dictionary, const Span *prefix, const Span *behind, size_t places, Gathered *page) {
+/* Reads so many keys at most into a page, behind a key or, where that has no byte, the first ones; `is_last` becomes whether no key with
+ * the prefix comes behind them. False where memory is wanted. */
+static bool page_read(const cedar *dictionary, const Span *prefix, const Span *behind, size_t places, Gathered *page, bool *is_last) {
     size_t needed = places * BYTES_A_KEY;
     uint32_t status = CEDAR_NO_ROOM;
     page->count = page->size = 0;
     while (status == CEDAR_NO_ROOM) {
         if (!bytes_room(page, needed) || !found_room(page, places)) return false;
-        status = cedar_entries_from(dictionary, prefix->at, prefix->length, behind->at, behind->length, page->found, places, page->bytes,
-                                    page->room, &page->count, &needed);
+        status = cedar_entries_below(dictionary, prefix->at, prefix->length, behind->at, behind->length, page->found, places, page->bytes,
+                                     page->room, &page->count, &needed);
     }
     if (page->count > 0) page->size = page->found[page->count - 1].place + page->found[page->count - 1].length;
-    return true;
+    *is_last = status != CEDAR_OK || needed == 0;
+    return status != CEDAR_MEMORY;
 }
 
 /* Leaves out what isn't below the upper bound: then no page comes any more, and neither does one behind an empty one. */
@@ -190,10 +192,10 @@ bool pages_read(const cedar *dictionary, Pages *pages) {
     if (pages->places == 0) return true;
     const Span *prefix = pages->bounds.prefix ? pages->bounds.prefix : &ROOT;
     Span behind = {NULL, pages->length > 0 ? pages->behind : NONE, pages->length};
-    if (!page_read(dictionary, prefix, &behind, pages->places, page)) return false;
+    bool is_last;
+    if (!page_read(dictionary, prefix, &behind, pages->places, page, &is_last)) return false;
     pages->places = pages->places < MOST_PLACES ? pages->places * GROWTH : MOST_PLACES;
-    /* A page of all keys there are is the last one. */
-    if (page->count == cedar_len(dictionary)) pages->places = 0;
+    if (is_last) pages->places = 0;
     end_page(pages);
     return true;
 }
@@ -232,7 +234,39 @@ bool gather_ordered(const cedar *dictionary, const Bounds *bounds, Gathered *gat
     return done;
 }
 
+/* The best keys with a prefix, at most so many, in the order of their values. False where memory is wanted. */
+bool gather_best(const cedar *dictionary, const Span *prefix, size_t most, bool lowest_first, Gathered *best) {
+    size_t held = cedar_len(dictionary), places = most < held ? most : held, needed = places * BYTES_A_KEY;
+    uint32_t status = CEDAR_NO_ROOM;
+    while (status == CEDAR_NO_ROOM) {
+        if (!bytes_room(best, needed) || !found_room(best, places)) return false;
+        status = cedar_best(dictionary, prefix->at, prefix->length, lowest_first, best->found, places, best->bytes, best->room, &best->count,
+                            &needed);
+    }
+    best->size = needed;
+    return status != CEDAR_MEMORY;
+}
+
+/* The key next to another one, if there is one: the last one up to it, or the first one from it on. No byte is no bound. Returns a status. */
+uint32_t gather_neighbour(const cedar *dictionary, const Span *key, bool included, bool is_floor, Gathered *found) {
+    int32_t value = 0;
+    size_t needed = FIRST_ROOM;
+    uint32_t status = CEDAR_NO_ROOM;
+    while (status == CEDAR_NO_ROOM) {
+        if (!bytes_room(found, needed) || !found_room(found, 1)) return CEDAR_MEMORY;
+        status = (is_floor ? cedar_floor : cedar_ceiling)(dictionary, key->at, key->length, included, found->bytes, found->room, &value,
+                                                           &needed);
+    }
+    if (status == CEDAR_OK && needed > 0) {
+        found->found[0] = (cedar_found){0, needed, value};
+        found->count = 1;
+        found->size = needed;
+    }
+    return status;
+}
+
 /* The first key of the walk, if there is one. False where memory is wanted. */
 bool gather_first(const cedar *dictionary, Gathered *gathered) {
-    return page_read(dictionary, &ROOT, &ROOT, 1, gathered);
+    bool is_last;
+    return page_read(dictionary, &ROOT, &ROOT, 1, gathered, &is_last);
 }

@@ -188,6 +188,8 @@ static PyMethodDef core_methods[] = {
     {"_update", (PyCFunction)core_update, METH_O, NULL},
     {"_walk", (PyCFunction)core_walk, METH_VARARGS, NULL},
     {"_range", (PyCFunction)core_range, METH_VARARGS, NULL},
+    {"_best", (PyCFunction)core_best, METH_VARARGS, NULL},
+    {"_neighbour", (PyCFunction)core_neighbour, METH_VARARGS, NULL},
     {"_count", (PyCFunction)core_count, METH_O, NULL},
     {"_figures", (PyCFunction)core_figures, METH_NOARGS, NULL},
     {NULL, NULL, 0, NULL},

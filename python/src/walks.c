@@ -315,3 +315,59 @@ PyObject *core_erase_prefix(Core *core, PyObject *given) {
     if (begun < 0 || (status != CEDAR_OK && fail_with(status) < 0)) return NULL;
     return PyLong_FromSize_t(erased);
 }
+
+/* The keys that were gathered with their values, as a list of pairs. */
+static PyObject *gathered_give(Core *core, const Gathered *gathered) {
+    PyObject *list = PyList_New((Py_ssize_t)gathered->count);
+    for (size_t i = 0; list && i < gathered->count; i++) {
+        cedar_found found = gathered->found[i];
+        PyObject *pair = pair_give(key_give(core, gathered->bytes + found.place, found.length), found.value);
+        if (!pair || PyList_SetItem(list, (Py_ssize_t)i, pair) < 0) Py_CLEAR(list);
+    }
+    return list;
+}
+
+/* The best keys with a prefix and their values, at most so many. */
+PyObject *core_best(Core *core, PyObject *arguments) {
+    PyObject *given, *list = NULL;
+    Py_ssize_t most;
+    int lowest_first;
+    Span prefix;
+    Turn turn;
+    Gathered best = {0};
+    if (!PyArg_ParseTuple(arguments, "Onp", &given, &most, &lowest_first) || span_take(core, given, &prefix) < 0) return NULL;
+    if (begin_below(core, READS, &prefix, &turn) == 0) {
+        bool done = gather_best(turn.dictionary, &prefix, most < 0 ? 0 : (size_t)most, lowest_first, &best);
+        turn_end(&turn);
+        if (done) list = gathered_give(core, &best);
+        else fail_with(CEDAR_MEMORY);
+    }
+    gathered_free(&best);
+    Py_DECREF(prefix.owner);
+    return list;
+}
+
+/* The last key up to another one and its value, or the first one from it on; None where there is none. For the key, None is no bound. */
+PyObject *core_neighbour(Core *core, PyObject *arguments) {
+    static const uint8_t none[1];
+    PyObject *given, *pair = NULL;
+    int included, is_floor;
+    Span key = {NULL, none, 0};
+    Gathered found = {0};
+    if (!PyArg_ParseTuple(arguments, "Opp", &given, &included, &is_floor)) return NULL;
+    if (given != Py_None && span_take(core, given, &key) < 0) return NULL;
+    if (core_ready(core) == 0) {
+        uint32_t status = gather_neighbour(&core->store.dictionary, &key, included, is_floor, &found);
+        if (status != CEDAR_OK) {
+            fail_with(status);
+        } else if (found.count > 0) {
+            pair = pair_give(key_give(core, found.bytes, found.size), found.found[0].value);
+        } else {
+            pair = Py_None;
+            Py_INCREF(pair);
+        }
+    }
+    gathered_free(&found);
+    Py_XDECREF(key.owner);
+    return pair;
+}

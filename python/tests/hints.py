@@ -27,7 +27,10 @@ def keys_are_texts(path: str, plain: Dict[str, int]) -> None:
     loaded: Cedar[str] = Cedar.load(path, text=True, memory_limit=1000)
     built: Cedar[str] = Cedar.from_sorted(plain, text=True)
     value: int = d["net"] + d.pop("x", 5) + d.setdefault("y", 6)
-    between: Iterator[str] = d.irange("a", "b")
+    between: Iterator[str] = d.irange("a", "b", inclusive=(False, True), reverse=True)
+    best: List[Tuple[str, int]] = d.best("n", 3, lowest=True)
+    beside: List[Optional[Tuple[str, int]]] = [d.floor("n"), d.ceiling("n")]
+    print(best, beside)
     fronts: List[Tuple[str, int]] = d.prefixes("network")
     longest: Optional[Tuple[str, int]] = d.longest_prefix("network")
     both: Cedar[str] = d | plain | loaded | built.copy()

@@ -45,7 +45,8 @@ class Refused(unittest.TestCase):
             cedar = Cedar(PLAIN, reduced=reduced)
             walks = [list, lambda d: list(d.items(b"1")), lambda d: list(d.keys(b"399")), lambda d: list(d.irange(b"30", b"31")), lambda d: list(d.irange(b"2"))]
             texts = [lambda d: d.scan(TEXT), lambda d: d.segment(TEXT), lambda d: d.keywords(TEXT), lambda d: d.cheapest(TEXT, unknown=9)]
-            for call in (*walks, *texts, Cedar.to_bytes, Cedar.copy):
+            next_to = [lambda d: d.best(b"3", 20), lambda d: d.floor(b"3999"), lambda d: list(d.irange(b"30", b"31", reverse=True))]
+            for call in (*walks, *texts, *next_to, Cedar.to_bytes, Cedar.copy):
                 self.assertEqual(self.each(lambda: cedar, call, lambda d: d == PLAIN), call(cedar))
 
     def test_changes(self):

@@ -289,6 +289,9 @@ class Stores(unittest.TestCase):
                             low, high = sorted(bytes(chance.choices(b"abc", k=2)) for _ in range(2))
                             self.assertEqual((list(s.items()), len(s)), (sorted(plain.items()), len(plain)))
                             self.assertEqual(list(s.irange(low, high)), [k for k in sorted(plain) if low <= k < high])
+                            self.assertEqual(list(s.irange(low, reverse=True)), [k for k in sorted(plain, reverse=True) if low <= k])
+                            self.assertEqual(s.floor(low), max(((k, v) for k, v in plain.items() if k <= low), default=None))
+                            self.assertEqual(s.best(low, 2), sorted(sorted((k, v) for k, v in plain.items() if k.startswith(low)), key=lambda i: -i[1])[:2])
                             self.assertEqual(list(s.keys(low)), [k for k in sorted(plain) if k.startswith(low)])
                         if chance.random() < 0.3:
                             raise RuntimeError

@@ -271,6 +271,7 @@ static void null_pointers(void) {
     CHECK(!cedar_get(&d, NULL, 0, &value) && value == 8 && !cedar_erase(&d, NULL, 0) && cedar_erase_all(&d, &absent, 1, NULL, 0) == 0);
     CHECK(cedar_prefixes(&d, NULL, 0, NULL, 0) == 0 && cedar_prefixes(&d, bytes_of("net"), 3, NULL, 0) == 1 && cedar_predictions(&d, NULL, 0, NULL, 0) == 1);
     CHECK(cedar_prefixes_from(&d, bytes_of("net"), 3, &next, NULL, 0) == 0 && cedar_predictions_from(&d, NULL, 0, &next, NULL, 0) == 0 && next == 0);
+    CHECK(cedar_first_predictions(&d, NULL, 0, NULL, 0) == 0 && cedar_entries_below(&d, NULL, 0, NULL, 0, NULL, 0, NULL, 0, &next, NULL) == CEDAR_OK && next == 0);
     CHECK(cedar_scan(&d, NULL, 0, &next, NULL, 0) == 0 && cedar_scan(&d, bytes_of("net"), 3, &next, NULL, 0) == 0 && next == 0);
     CHECK(cedar_segment(&d, NULL, 0, &next, NULL, 0) == 0 && cedar_segment(&d, bytes_of("net"), 3, &next, NULL, 0) == 0 && next == 0);
     CHECK(cedar_keys(&d, NULL, 0, NULL) == CEDAR_NO_ROOM && cedar_save(&d, true, NULL, 0, NULL) == CEDAR_NO_ROOM);
@@ -408,6 +409,7 @@ static void walks_in_pieces(void) {
     cedar_match all[8], some[8];
     size_t position, next = 3;
     CHECK(cedar_prefixes_from(&d, bytes_of("abcd"), 4, &next, some, 8) == 0 && cedar_predictions_from(&d, bytes_of("a"), 1, &next, some, 8) == 0 && next == 3);
+    CHECK(cedar_first_predictions(&d, bytes_of("a"), 1, some, 8) == 0);
     CHECK(cedar_build(&d, true, 1, pairs, 5, &position) == CEDAR_OK);
     for (int call = 0; call < 2; call++) {
         const char *text = call ? "a" : "abcde";

@@ -1,5 +1,5 @@
 // The ranges and iterators of cedar.hpp: what they show, how long it stays, and how little a page asks for. Linked with
-// -Wl,--wrap=cedar_entries_from,--wrap=cedar_predictions,--wrap=cedar_count_prefix.
+// -Wl,--wrap=cedar_entries_below,--wrap=cedar_predictions,--wrap=cedar_count_prefix.
 #include "cedar.hpp"
 #include "check.h"
 #include <cstdlib>
@@ -31,14 +31,14 @@ void operator delete[](void *block, std::size_t) noexcept { operator delete(bloc
 static std::size_t pages, places_asked, walks;
 
 extern "C" {
-std::uint32_t __real_cedar_entries_from(const cedar_dictionary *, const std::uint8_t *, std::size_t, const std::uint8_t *, std::size_t,
-                                        cedar_found *, std::size_t, std::uint8_t *, std::size_t, std::size_t *, std::size_t *);
-std::uint32_t __wrap_cedar_entries_from(const cedar_dictionary *d, const std::uint8_t *prefix, std::size_t prefix_length,
-                                        const std::uint8_t *behind, std::size_t behind_length, cedar_found *found, std::size_t places,
-                                        std::uint8_t *bytes, std::size_t room, std::size_t *count, std::size_t *needed) {
+std::uint32_t __real_cedar_entries_below(const cedar_dictionary *, const std::uint8_t *, std::size_t, const std::uint8_t *, std::size_t,
+                                         cedar_found *, std::size_t, std::uint8_t *, std::size_t, std::size_t *, std::size_t *);
+std::uint32_t __wrap_cedar_entries_below(const cedar_dictionary *d, const std::uint8_t *prefix, std::size_t prefix_length,
+                                         const std::uint8_t *behind, std::size_t behind_length, cedar_found *found, std::size_t places,
+                                         std::uint8_t *bytes, std::size_t room, std::size_t *count, std::size_t *needed) {
     pages++;
     places_asked += places;
-    return __real_cedar_entries_from(d, prefix, prefix_length, behind, behind_length, found, places, bytes, room, count, needed);
+    return __real_cedar_entries_below(d, prefix, prefix_length, behind, behind_length, found, places, bytes, room, count, needed);
 }
 std::size_t __real_cedar_predictions(const cedar_dictionary *, const std::uint8_t *, std::size_t, cedar_match *, std::size_t);
 std::size_t __wrap_cedar_predictions(const cedar_dictionary *d, const std::uint8_t *text, std::size_t length, cedar_match *matches,

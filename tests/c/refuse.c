@@ -1,6 +1,7 @@
 /* Each request for memory refused in turn. Linked with -Wl,--wrap=malloc,--wrap=realloc. */
 #include "cedar.h"
 #include "check.h"
+#include <string.h>
 
 enum { KEYS = 3000 };
 
@@ -149,6 +150,43 @@ static int cuts(void) {
     }
 }
 
+/* A page below a prefix behind a key that isn't held, with no room for the next key of all: it wants memory for that. */
+static void pages(void) {
+    const uint8_t *net = (const uint8_t *)"net";
+    cedar d = CEDAR_CLOSED;
+    cedar_found found[2] = {{7, 7, 7}, {7, 7, 7}};
+    uint8_t bytes[8] = "1234567";
+    size_t count = 77, needed = 77;
+    CHECK(cedar_new(&d) == CEDAR_OK && cedar_update(&d, net, 3, 1, NULL) == CEDAR_OK);
+    CHECK(cedar_update(&d, (const uint8_t *)"network", 7, 2, NULL) == CEDAR_OK && cedar_update(&d, (const uint8_t *)"zzzz", 4, 3, NULL) == CEDAR_OK);
+    left = 0;
+    CHECK(cedar_entries_below(&d, net, 3, (const uint8_t *)"neta", 4, found, 2, bytes, 6, &count, &needed) == CEDAR_MEMORY);
+    CHECK(cedar_entries_below(&d, net, 3, (const uint8_t *)"netx", 4, found, 2, bytes, 3, &count, &needed) == CEDAR_MEMORY);
+    CHECK(count == 77 && needed == 77 && found[0].place == 7 && memcmp(bytes, "1234567", 8) == 0);
+    /* It wants none if there is room, or if the key is held. */
+    CHECK(cedar_entries_below(&d, net, 3, (const uint8_t *)"neta", 4, found, 2, bytes, 7, &count, &needed) == CEDAR_OK && count == 1 && needed == 0);
+    CHECK(cedar_entries_below(&d, net, 3, net, 3, found, 2, bytes, 6, &count, &needed) == CEDAR_NO_ROOM && needed == 7);
+    left = 1;
+    CHECK(cedar_entries_below(&d, net, 3, (const uint8_t *)"neta", 4, found, 2, bytes, 6, &count, &needed) == CEDAR_NO_ROOM && needed == 7);
+    left = 1;
+    CHECK(cedar_entries_below(&d, net, 3, (const uint8_t *)"netx", 4, found, 2, bytes, 3, &count, &needed) == CEDAR_OK && count == 0 && needed == 0);
+    for (int call = 0; call < 3; call++) {
+        uint32_t status = CEDAR_MEMORY;
+        int32_t value = 5;
+        for (int refused = 0; status == CEDAR_MEMORY; refused++) {
+            count = needed = 77;
+            left = refused;
+            status = call == 0   ? cedar_best(&d, net, 3, false, found, 2, bytes, 8, &count, &needed)
+                     : call == 1 ? cedar_floor(&d, (const uint8_t *)"neu", 3, true, bytes, 8, &value, &needed)
+                                 : cedar_ceiling(&d, (const uint8_t *)"neta", 4, true, bytes, 8, &value, &needed);
+            left = -1;
+            CHECK(refused > 0 || status == CEDAR_MEMORY);
+            CHECK(status == CEDAR_MEMORY ? count == 77 && needed == 77 && value == 5 : call == 0 ? status == CEDAR_NO_ROOM && needed == 10 : value == 2 && needed == 7);
+        }
+    }
+    cedar_free(&d);
+}
+
 int main(void) {
     int refused_new = 0, refused_update = 0;
     for (long budget = 0; budget < 60; budget++) {
@@ -173,6 +211,7 @@ int main(void) {
     int refused_builds = builds(true), refused_unsorted = builds(false), refused_reserves = reserves(), refused_copies = copies(false), refused_shrinks = copies(true);
     CHECK(refused_new > 0 && refused_update > 0 && refused_builds > 10 && refused_unsorted > refused_builds && refused_reserves > 0 && refused_copies > 0 && refused_shrinks > 0);
     CHECK(cuts() > 0);
+    pages();
     printf("refused: %d new, %d updates, %d builds, %d reserves\nok\n", refused_new, refused_update, refused_builds, refused_reserves);
     return 0;
 }

@@ -122,6 +122,16 @@ void each_member(layout kind) {
     CHECK(ends(d.prefixes("networks")) == Ends({{7, 3}, {8, 7}}) && d.prefixes("").empty());
     CHECK(ends(d.predictions("ne")) == Ends({{7, 3}, {8, 7}, {2, 3}}) && d.predictions("").size() == 4);
     CHECK(ends(d.predictions("ne", 2)) == Ends({{7, 3}, {8, 7}}) && d.predictions("ne", 0).empty());
+    const auto keys_of = [](const std::vector<roskvidh::owned_entry> &some) {
+        Pairs pairs;
+        for (const auto &one : some) pairs.emplace_back(one.key, one.value);
+        return pairs;
+    };
+    CHECK(keys_of(d.best("ne", 2)) == Pairs({{"network", 8}, {"net", 7}}) && d.best("ne", 0).empty() && d.best("x", 5).empty());
+    CHECK(keys_of(d.best("ne", 9, roskvidh::by_value::lowest_first)) == Pairs({{"new", 2}, {"net", 7}, {"network", 8}}));
+    const auto is = [](const std::optional<roskvidh::owned_entry> &one, const char *key) { return one && one->key == key; };
+    CHECK(is(d.floor("netz"), "network") && is(d.floor("net"), "net") && is(d.before("network"), "net") && !d.before("net"));
+    CHECK(!d.floor("a") && !d.floor("") && is(d.ceiling("netz"), "new") && is(d.ceiling(""), "net") && !d.ceiling("z") && is(d.last(), "no"));
     const auto longest = d.longest_match("networks");
     CHECK(longest && longest->value == 8 && longest->length == 7 && !d.longest_match("ten"));
     CHECK(scanned(d, "no network") == Tokens({{0, 2, CEDAR_MAX_VALUE}, {3, 3, 7}, {3, 7, 8}}) && scanned(d, "").empty());

@@ -1,3 +1,5 @@
+pub mod BelowLemmas
+pub mod BestLemmas
 pub mod ClosedLemmas
 pub mod CutLemmas
 pub mod EntryLemmas

@@ -1,3 +1,5 @@
+pub mod Below
+pub mod Best
 pub mod Changes
 pub mod Content
 pub mod Cuts

@@ -1,11 +1,20 @@
 -- The words of clauses, from one place.
+pub use Rattle.best_few.specs.Orders.{found_entry}
+pub use Rattle.cedar_complete.specs.Ends.{IsHeadOf}
 pub use Rattle.cedarwood.specs.Sorted.{entries_of}
+pub use Rattle.cedar_c.specs.Below.{FindsNoRoom, first_length, following_below, IsPlaceOf}
+pub use Rattle.cedar_c.specs.Below.{MayWantMemory, PageBelow, prefixed_behind, TellsBelow}
+pub use Rattle.cedar_c.specs.Below.{TellsNext}
+pub use Rattle.cedar_c.specs.Best.{best_below, bound_if, entries_onwards, entries_upto}
+pub use Rattle.cedar_c.specs.Best.{LacksRoomForKeys, order_if, TellsEntry, TellsNeighbour}
+pub use Rattle.cedar_c.specs.Best.{WritesEntries}
 pub use Rattle.cedar_c.specs.Changes.{IsRecord}
 pub use Rattle.cedar_c.specs.Content.{capacity_in, ChangesBy, content, ErasesUnder}
 pub use Rattle.cedar_c.specs.Content.{layout_in, marks_in, search_limit_in, size_in}
 pub use Rattle.cedar_c.specs.Content.{state_in, tree_in, trials_in}
 pub use Rattle.cedar_c.specs.Cuts.{IsLeastCut, LacksRoomForCut, prices, WritesLeastCut}
-pub use Rattle.cedar_c.specs.Entries.{bytes_lacking, EndsPage, entries_behind_key, PageOf}
+pub use Rattle.cedar_c.specs.Entries.{bytes_lacking, CanGoOnBehind, EndsPage}
+pub use Rattle.cedar_c.specs.Entries.{entries_behind_key, PageOf, spots_of}
 pub use Rattle.cedar_c.specs.Entries.{TellsEntries, TellsPage, visited_key, WritesNothing}
 pub use Rattle.cedar_c.specs.Entries.{WritesPage}
 pub use Rattle.cedar_c.specs.Files.{early_refusal, file_in, file_status, is_reduced_byte}
@@ -48,7 +57,8 @@ pub use Rattle.cedar_store.specs.Changes.{erase_at, put_at}
 pub use Rattle.cedar_store.specs.Files.{record_count, state_of}
 pub use Rattle.cedarwood.specs.Queries.{asc, prefixes, slots_of_tree, walk}
 pub use Rattle.cedarwood.specs.Tree.{Tree}
-pub use Rattle.cedar_walk.specs.Visits.{ComesToFirst, IsNumberedBelow}
+pub use Rattle.cedar_walk.specs.Ranges.{entries_since}
+pub use Rattle.cedar_walk.specs.Visits.{ComesToFirst, ComesToNumber, IsNumberedBelow, path_to}
 pub use Rattle.cedarwood.specs.Batches.{held_in_turn, keys_erased}
 pub use Rattle.cedarwood.specs.Builds.{all_stored, first_fault, outcome}
 pub use Rattle.cedarwood.specs.Dictionary.{capacity_after}
@@ -64,5 +74,9 @@ pub use Rattle.cedarwood.specs.Tree.{number_at}
 pub use Rattle.cedarwood.specs.Updates.{IsUpdate}
 pub use Rattle.cedarwood.specs.Words.{IsCleared, IsEmpty, IsErasedUnder, IsSlotLimit}
 pub use Rattle.cedarwood.specs.Words.{IsSorted, most_slots}
+pub use Rattle.last_entries.specs.Nearness.{entry_told, IsLastOf}
 pub use Rattle.std.specs.Borrow.{sem}
+pub use Rattle.std.specs.Cmp.Lexicographic.{slice_cmp}
 pub use Rattle.std.specs.List.{starts_with}
+pub use Rattle.std.specs.Ordering.{is_lt, nat_cmp}
+pub use Rattle.std.specs.Range.Bound.{bound_map}

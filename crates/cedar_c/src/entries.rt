@@ -1,7 +1,7 @@
 //! Entries with their keys, a page of them a call.
 
 ghost use Rattle.std.specs.Prelude.{◌++◌, ◌+◌, ◌-◌, ◌↔◌, ◌≡◌, ◌≤◌, [], IfSome, IsSome, IsTrue};
-ghost use Rattle.std.specs.Prelude.{length, nat_eq, None, take, true};
+ghost use Rattle.std.specs.Prelude.{drop, length, nat_eq, None, take, true};
 ghost use Rattle.cedar_c.specs.Words.{bytes_lacking, ComesToFirst, EndsPage, entries_behind_key};
 ghost use Rattle.cedar_c.specs.Words.{entries_left, IsNumberedBelow, IsRangePlace, IsWellFormed};
 ghost use Rattle.cedar_c.specs.Words.{number_at, PageOf, shown_in, starts_with, TellsEntries};
@@ -15,8 +15,15 @@ use cedar_walk::Numbered;
 use cedarwood::{Layout, Trie, Walked};
 use std::alloc::Global;
 
+/// What a page has: how many entries are written, and the node of the one behind them, if one is left.
+#[derive(Clone, Copy)]
+pub(crate) struct Page {
+    pub(crate) count: usize,
+    pub(crate) next: Option<Numbered>,
+}
+
 /// Writes the key of a node: a path, and then the labels below it.
-fn write_key<T: Walked>(trie: &T, start: &[u8], at: Numbered, key: &mut [u8])
+pub(crate) fn write_key<T: Walked>(trie: &T, start: &[u8], at: Numbered, key: &mut [u8])
     requires well_formed { IsWellFormed T.slots (T.shown trie.now) }
     requires below { IsNumberedBelow (T.shown trie.now) start.now at.depth at.slot }
     requires room { length key.old ≡ length start.now + at.depth }
@@ -27,7 +34,7 @@ fn write_key<T: Walked>(trie: &T, start: &[u8], at: Numbered, key: &mut [u8])
 }
 
 /// How many bytes the key of a node has.
-fn key_length<T: Walked>(trie: &T, start: &[u8], at: Numbered) -> usize
+pub(crate) fn key_length<T: Walked>(trie: &T, start: &[u8], at: Numbered) -> usize
     requires well_formed { IsWellFormed T.slots (T.shown trie.now) }
     requires below { IsNumberedBelow (T.shown trie.now) start.now at.depth at.slot }
     ensures whole { result ≡ length (visited_key (T.shown trie.now) start.now at) }
@@ -69,28 +76,31 @@ fn write_entry<T: Walked>(
     }
 }
 
-/// Writes a page of the entries that a walk has left: where their keys begin, and the keys. It returns how many they are.
-fn write_page<T: Walked>(
+/// Writes a page of the entries that a walk has left: where their keys begin, and the keys. It returns how many they are, and the node of
+/// the first one that isn't written.
+pub(crate) fn write_page<T: Walked>(
     trie: &T,
     start: &[u8],
     first: Option<Numbered>,
     prefix: &[u8],
     found: &mut [Found],
     bytes: &mut [u8],
-) -> usize
+) -> Page
     requires well_formed { IsWellFormed T.slots (T.shown trie.now) }
     requires place { IsRangePlace (T.shown trie.now) start.now first }
-    ensures { WritesPage prefix.now (entries_left (T.shown trie.now) start.now first) found.old found.new bytes.old bytes.new result }
+    ensures written { WritesPage prefix.now (entries_left (T.shown trie.now) start.now first) found.old found.new bytes.old bytes.new result.count }
+    ensures left { entries_left (T.shown trie.now) start.now result.next ≡ drop result.count (entries_left (T.shown trie.now) start.now first) }
+    ensures place { IsRangePlace (T.shown trie.now) start.now result.next }
 {
     let mut next = first;
     let mut used = 0;
     let mut count = 0;
     while count < found.len() {
         let Some(at) = next else {
-            return count;
+            return Page { count, next };
         };
         let Some(len) = write_entry(trie, start, at, prefix, bytes, used) else {
-            return count;
+            return Page { count, next };
         };
         found[count] = Found {
             place: used,
@@ -101,11 +111,11 @@ fn write_page<T: Walked>(
         count += 1;
         next = trie.next_numbered(at.slot, at.depth);
     }
-    count
+    Page { count, next }
 }
 
 /// How many bytes the key needs that a walk comes to first, if it finds no room in a page.
-fn lack<T: Walked>(
+pub(crate) fn lack<T: Walked>(
     trie: &T,
     start: &[u8],
     first: Option<Numbered>,
@@ -146,7 +156,7 @@ fn tell_page<T: Walked>(
             NO_ROOM
         }
         None => {
-            *count = write_page(trie, start, first, prefix, found, keys);
+            *count = write_page(trie, start, first, prefix, found, keys).count;
             OK
         }
     }
@@ -168,7 +178,7 @@ fn first_behind<T: Walked>(trie: &T, key: &[u8], is_held: bool) -> Option<Number
 }
 
 /// Whether the labels of a dictionary ascend.
-fn is_ordered<L: Layout, const SLOTS: usize>(trie: &Trie<L, SLOTS, Global>) -> bool
+pub(crate) fn is_ordered<L: Layout, const SLOTS: usize>(trie: &Trie<L, SLOTS, Global>) -> bool
     ensures { result ≡ trie.now.state.ordered }
 {
     trie.range_bytes(b"", b"").is_some()

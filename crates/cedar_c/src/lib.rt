@@ -6,6 +6,8 @@
 #![tactic(auto)]
 
 mod any;
+mod below;
+mod best;
 mod builds;
 mod calls;
 mod cuts;
@@ -19,6 +21,7 @@ mod held;
 mod keys;
 mod keywords;
 mod loose;
+mod neighbours;
 mod pages;
 mod pairs;
 mod planned;

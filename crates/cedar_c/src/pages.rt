@@ -74,6 +74,24 @@ fn go_on_prefixes<L: Layout, const SLOTS: usize>(
     go_on(&mut trie.common_prefix_iter_bytes(text), 1, next, matches)
 }
 
+/// Writes the first keys that begin with a text, as far as there is room.
+fn fill_first_predictions<L: Layout, const SLOTS: usize>(
+    trie: &Trie<L, SLOTS, Global>,
+    text: &[u8],
+    matches: &mut [Match],
+) -> usize
+    ensures count { result ≡ length (take (length matches.old) (predict trie.now.state.tree text.now)) }
+    ensures filled { matches.new ≡ filled_matches matches.old (predicted_keys trie.now.state.tree text.now) }
+{
+    // No key has more bytes than there are slots.
+    trie.stands_on_its_table();
+    fill_page(
+        &mut trie.common_prefix_predict_iter_bytes(text),
+        text.len(),
+        matches,
+    )
+}
+
 /// Writes the keys that begin with a text from a position of the walk on.
 fn go_on_predictions<L: Layout, const SLOTS: usize>(
     trie: &Trie<L, SLOTS, Global>,
@@ -105,6 +123,16 @@ impl AnyCedar {
         match self {
             AnyCedar::Default(cedar) => go_on_prefixes(cedar, text, next, matches),
             AnyCedar::Reduced(cedar) => go_on_prefixes(cedar, text, next, matches),
+        }
+    }
+
+    fn first_predictions(&self, text: &[u8], matches: &mut [Match]) -> usize
+        ensures count { result ≡ length (take (length matches.old) (predict (dictionary_in self.now).state.tree text.now)) }
+        ensures filled { matches.new ≡ filled_matches matches.old (predicted_keys (dictionary_in self.now).state.tree text.now) }
+    {
+        match self {
+            AnyCedar::Default(cedar) => fill_first_predictions(cedar, text, matches),
+            AnyCedar::Reduced(cedar) => fill_first_predictions(cedar, text, matches),
         }
     }
 
@@ -166,4 +194,26 @@ pub extern "C" fn cedar_predictions_from(
         .see()
         .dictionary()
         .predictions_from(text, next, matches)
+}
+
+/// As `cedar_predictions`, but it returns how many keys it wrote, and goes no further than these.
+#[unsafe(no_mangle)]
+pub extern "C" fn cedar_first_predictions(
+    handle: &mut Reading,
+    text: &[u8],
+    matches: &mut [Match],
+) -> usize
+    //= The first predictions are written as all are, and how many were written is returned. [with filled]
+    ensures count { result ≡ length (take (length matches.old) (predict (shown_tree handle.old) text.now)) }
+    ensures filled { matches.new ≡ filled_matches matches.old (predicted_keys (shown_tree handle.old) text.now) }
+    ensures kept { handle.new ≡ handle.old }
+{
+    if !handle.is_open() {
+        return 0;
+    }
+    handle
+        .shown
+        .see()
+        .dictionary()
+        .first_predictions(text, matches)
 }

@@ -1,7 +1,8 @@
-use Rattle.std.proofs.Common.{rules, ◌≡◌, ◌<◌, ◌≤◌, ◌+◌, ◌-◌, ◌++◌, ◌⊎◌, ◌∷◌, ◌∙◌, List, [], false, ap, arith, FitsSigned, length, map, nat_eq, refl, set, subst, sym, take, w32}
+use Rattle.std.proofs.Common.{rules, ◌≡◌, ◌<◌, ◌≤◌, ◌+◌, ◌-◌, ◌++◌, ◌⊎◌, ◌∷◌, ◌∙◌, List, [], drop, false, ap, arith, FitsSigned, length, map, nat_eq, refl, set, subst, sym, take, w32}
 use mir.Val.{of_z, to_z}
 use Rattle.std.specs.List.{starts_with}
 use Rattle.std.proofs.lemmas.Int.{to_z-of_z}
+use Rattle.std.proofs.lemmas.List.{drop-drop}
 use Rattle.cedarwood.specs.Queries.{Entry}
 use Rattle.cedarwood.specs.Words.{visited_entries}
 use Rattle.cedar_walk.specs.Ranges.{behind_path}
@@ -15,10 +16,10 @@ use Rattle.cedar_c.proofs.entries.write_page.Goals as goal
 
 pub loop-count-init : goal.loop-count-init
 loop-count-init g c =
-    (c.requires.place, none_written c.args.prefix.now (entries_left (g.T.Walked.shown c.args.trie.now) c.args.start.now c.args.first) c.args.found.now c.args.bytes.now)
+    (c.requires.place, none_written c.args.prefix.now (entries_left (g.T.Walked.shown c.args.trie.now) c.args.start.now c.args.first) c.args.found.now c.args.bytes.now, refl)
 
-pub returns-in_default : goal.returns-in_default
-returns-in_default g c =
+pub returns-in_default-clause-written : goal.returns-in_default-clause-written
+returns-in_default-clause-written g c =
     let T = g.T.Walked.shown c.args.trie.now in
     let start = c.args.start.now in
     let prefix = c.args.prefix.now in
@@ -36,8 +37,8 @@ pub write_entry-requires-clause-used : goal.write_entry-requires-clause-used
 write_entry-requires-clause-used g c =
     let so_far = c.loop-count.invariant.1 in omega (arith, so_far.within, so_far.size)
 
-pub returns-in_default-write_entry : goal.returns-in_default-write_entry
-returns-in_default-write_entry g c =
+pub returns-in_default-write_entry-clause-written : goal.returns-in_default-write_entry-clause-written
+returns-in_default-write_entry-clause-written g c =
     let T = g.T.Walked.shown c.args.trie.now in
     let start = c.args.start.now in
     let prefix = c.args.prefix.now in
@@ -87,10 +88,14 @@ loop-count-preserved g c =
     let within : l.used + length key ≤ length c.args.bytes.now = omega (arith, told.length.1, long, l.invariant.1.size) in
     let one = one_written c.args.prefix.now entries c.args.found.now c.args.bytes.now (entries_left T start l.next) l.found l.bytes l.count l.used l.invariant.1 e (entries_left T start next) spot now first c.loop-count-test.true within told.begins
     (subst (λ n. take (l.used + n) now ≡ take l.used l.bytes ++ key) long told.written) told.kept.1 (λ i. record { place = l.used; length = long i; value = value i }) in
-    (range_place T start left next comes, subst (λ n. IsWritten c.args.prefix.now entries (entries_left T start next) c.args.found.now (set l.found l.count spot) c.args.bytes.now now (l.count + 1) (l.used + n)) (sym long) one)
+    let later : entries_left T start next ≡ drop (l.count + 1) entries = ap (drop 1) (sym first ∙ l.invariant.2) ∙ drop-drop 1 l.count entries in (
+      range_place T start left next comes,
+      subst (λ n. IsWritten c.args.prefix.now entries (entries_left T start next) c.args.found.now (set l.found l.count spot) c.args.bytes.now now (l.count + 1) (l.used + n)) (sym long) one,
+      later,
+    )
 
-pub returns : goal.returns
-returns g c =
+pub returns-clause-written : goal.returns-clause-written
+returns-clause-written g c =
     let T = g.T.Walked.shown c.args.trie.now in
     let start = c.args.start.now in
     let prefix = c.args.prefix.now in

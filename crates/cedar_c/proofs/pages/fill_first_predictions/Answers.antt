@@ -1,0 +1,20 @@
+use Rattle.std.proofs.Common.{rules, ◌<◌, ◌^◌, ◌∙◌, ap, sym, subst, length}
+use Rattle.cedarwood.specs.Queries.{prefixes}
+use Rattle.cedar_c.specs.Matches.{Fit, filled_matches, all_longer}
+use Rattle.cedar_c.proofs.LengthLemmas.{predicted_fit, predicted_whole, prefixes_are_few}
+use Rattle.cedar_c.proofs.pages.fill_first_predictions.Goals as goal
+
+pub fill_page-requires : goal.fill_page-requires
+fill_page-requires g c =
+    let text = c.args.text.now in
+    let short : length text < 2 ^ 64 = search rules in
+    let small : length (prefixes c.args.trie.now.state.tree) < 2 ^ 64 = prefixes_are_few _ c.args.trie.now c.stands_on_its_table.ensures in
+    subst (Fit (length text)) (sym c.common_prefix_predict_iter_bytes.ensures) (predicted_fit c.args.trie.now.state.tree text small short)
+
+pub returns-clause-filled : goal.returns-clause-filled
+returns-clause-filled g c =
+    let matches = c.args.matches.now in
+    let text = c.args.text.now in
+    c.fill_page.ensures.filled
+    ∙ ap (λ l. filled_matches matches (all_longer (length text) l)) c.common_prefix_predict_iter_bytes.ensures
+    ∙ ap (filled_matches matches) (predicted_whole c.args.trie.now.state.tree text)
