@@ -1,4 +1,4 @@
-/* Completes the beginnings of words: complete WORDS BEGINNING.. prints the first ten words of a file that begin with each, with their *
+/* Completes the beginnings of words: complete WORDS BEGINNING.. prints the first ten words of a file that begin with each, with their
  * numbers, and a line `..` if there are more. If none does, it prints those that begin with something one edit away, behind a `~`. Each
  * line of the file is a word of at most 99 bytes, a tab, and a number. */
 #include "cedar.h"
