@@ -29,7 +29,9 @@
 //       entries_with_prefix, begin, cbegin, find,
 //       best
 //     entries_from, range, lower_bound,             CEDAR_NOT_ASCENDING if the dictionary isn't ordered; memory
-//       upper_bound, floor, ceiling, before, last
+//       upper_bound, floor, ceiling, before, last,
+//       within, completions_within
+//     matching                                      the same; CEDAR_PATTERN_TOO_LONG
 //     a step (++) of an iterator                    closed, memory; CEDAR_NOT_ASCENDING if the dictionary isn't ordered, after find or
 //                                                   after an assignment or a swap
 //     scan, segment, keywords                       what the callable throws; scan also memory
@@ -362,6 +364,19 @@ public:
     /// Returns the first entry from a key on: at it, or else behind it. upper_bound leaves the key itself out.
     std::optional<owned_entry> ceiling(std::string_view key) const { return neighbour(cedar_ceiling, key, true); }
 
+    /// Returns the entries whose keys are near a text, ascending, the first `most` of them: one edit away at most, or two. The same of the
+    /// keys that begin with what is near a text, so of the completions of one that was typed with an error. Keys below a place where none
+    /// can be near any more aren't gone over.
+    std::vector<owned_entry> within(std::string_view text, edits most_edits, std::size_t most = SIZE_MAX) const {
+        return wanted(near_to{text, most_edits == edits::two, false}, most);
+    }
+    std::vector<owned_entry> completions_within(std::string_view prefix, edits most_edits, std::size_t most = SIZE_MAX) const {
+        return wanted(near_to{prefix, most_edits == edits::two, true}, most);
+    }
+
+    /// Returns the entries whose keys fit a pattern, ascending, the first `most` of them: ? stands for any byte, and * for any bytes.
+    std::vector<owned_entry> matching(std::string_view pattern, std::size_t most = SIZE_MAX) const { return wanted(fitting{pattern}, most); }
+
     /// Returns a range over all keys with their values. It takes them in pages while it is gone through: so the first few cost the same in
     /// a dictionary of any size. cedar_entries.hpp says how long its keys stay, and what it shows if the dictionary changes meanwhile.
     roskvidh::entries entries() const & { return entries_with_prefix({}); }
@@ -513,6 +528,47 @@ private:
         if (needed == 0) return std::nullopt;
         found.resize(needed);
         return owned_entry(std::move(found), value);
+    }
+
+    struct near_to {
+        std::string_view text;
+        bool two_edits, is_beginning;
+        std::uint32_t operator()(const cedar_dictionary *d, std::string_view behind, std::string &found, std::int32_t *value,
+                                 std::size_t *needed) const {
+            return cedar_next_near(d, detail::bytes(text), text.size(), two_edits, is_beginning, detail::bytes(behind), behind.size(),
+                                   reinterpret_cast<std::uint8_t *>(found.data()), found.size(), value, needed);
+        }
+    };
+
+    struct fitting {
+        std::string_view pattern;
+        std::uint32_t operator()(const cedar_dictionary *d, std::string_view behind, std::string &found, std::int32_t *value,
+                                 std::size_t *needed) const {
+            return cedar_next_fitting(d, detail::bytes(pattern), pattern.size(), detail::bytes(behind), behind.size(),
+                                      reinterpret_cast<std::uint8_t *>(found.data()), found.size(), value, needed);
+        }
+    };
+
+    // The first entries that a call finds, each behind the one before it; none in a closed dictionary.
+    template <class Call> std::vector<owned_entry> wanted(const Call &next, std::size_t most) const {
+        std::vector<owned_entry> kept;
+        if (!is_open()) return kept;
+        const cedar_dictionary mine = inside_;
+        std::string behind, found(64, '\0');
+        while (kept.size() < most) {
+            std::int32_t value = 0;
+            std::size_t needed = 0;
+            const std::uint32_t status = next(&mine, behind, found, &value, &needed);
+            if (status == CEDAR_NO_ROOM) {
+                found.resize(needed);
+                continue;
+            }
+            detail::check(status);
+            if (needed == 0) break;
+            behind.assign(found, 0, needed);
+            kept.emplace_back(behind, value);
+        }
+        return kept;
     }
 
     std::shared_ptr<detail::page> first_behind(std::string_view key, std::optional<std::string> end, bool is_within) const {

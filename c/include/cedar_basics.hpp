@@ -24,6 +24,9 @@ enum class layout { standard, reduced };
 /// Which values come first among the best.
 enum class by_value { highest_first, lowest_first };
 
+/// How many edits a key may be away from what was asked for: each puts in, takes out or changes a byte.
+enum class edits { one, two };
+
 /// The version of a file's format: 1.1 lists the slots in use, 1.0 all slots.
 enum class file_format { v1_1, v1_0 };
 

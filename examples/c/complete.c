@@ -1,5 +1,6 @@
 /* Completes the beginnings of words: complete WORDS BEGINNING.. prints the first ten words of a file that begin with each, with their
- * numbers, and a line `..` if there are more. Each line of the file is a word of at most 99 bytes, a tab, and a number. */
+ * numbers, and a line `..` if there are more. If none does, it prints those that begin with something one edit away, behind a `~`. Each
+ * line of the file is a word of at most 99 bytes, a tab, and a number. */
 #include "cedar.h"
 #include <inttypes.h>
 #include <stdio.h>
@@ -19,6 +20,20 @@ static uint32_t read_words(cedar *d, FILE *file) {
     return status;
 }
 
+/* The words that begin with something one edit away from what was typed: each call goes on behind the word before. */
+static void suggest(const cedar *d, const char *typed) {
+    uint8_t word[WORD_ROOM], behind[WORD_ROOM];
+    size_t length = 0, needed = 0;
+    int32_t number = 0;
+    for (int shown = 0; shown < MOST_SHOWN; shown++) {
+        uint32_t status = cedar_next_near(d, bytes_of(typed), strlen(typed), false, true, behind, length, word, sizeof word, &number, &needed);
+        if (status != CEDAR_OK || needed == 0) return;
+        printf("  ~%.*s %" PRId32 "\n", (int)needed, (const char *)word, number);
+        memcpy(behind, word, needed);
+        length = needed;
+    }
+}
+
 /* A page costs what it has, however many words there are, and says whether there are more. */
 static void complete(const cedar *d, const char *beginning) {
     cedar_found found[MOST_SHOWN];
@@ -31,6 +46,8 @@ static void complete(const cedar *d, const char *beginning) {
         printf("  %.*s %" PRId32 "\n", (int)found[i].length, (const char *)keys + found[i].place, found[i].value);
     }
     if (status == CEDAR_OK && needed > 0) printf("  ..\n");
+    /* Of fewer bytes too many words are one edit away. */
+    if (status == CEDAR_OK && count == 0 && strlen(beginning) > 2) suggest(d, beginning);
 }
 
 int main(int count, char **arguments) {

@@ -1,5 +1,6 @@
 // Completes the beginnings of words: complete WORDS BEGINNING.. prints the first ten words of a file that begin with each, with their
-// numbers, and a line `..` if there are more. Each line of the file is a word, a tab, and a number.
+// numbers, and a line `..` if there are more. If none does, it prints those that begin with something one edit away, behind a `~`. Each
+// line of the file is a word, a tab, and a number.
 #include "cedar.hpp"
 #include <exception>
 #include <fstream>
@@ -26,6 +27,11 @@ static void complete(const roskvidh::dictionary &words, const std::string &begin
             break;
         }
         std::cout << "  " << word << ' ' << number << '\n';
+    }
+    // Of fewer bytes too many words are one edit away.
+    if (left < 10 || beginning.size() < 3) return;
+    for (const auto &near : words.completions_within(beginning, roskvidh::edits::one, 10)) {
+        std::cout << "  ~" << near.key << ' ' << near.value << '\n';
     }
 }
 

@@ -173,6 +173,14 @@ typedef struct Pages {
     size_t room;
 } Pages;
 
+/* Which keys are wanted: those near a query, or those that fit it as a pattern. */
+typedef struct Wanted {
+    Span query;
+    int is_pattern;
+    int two_edits;
+    int is_beginning; /* those that begin with what is near */
+} Wanted;
+
 void gathered_free(Gathered *gathered);
 bool gathered_append(Gathered *gathered, const uint8_t *key, size_t length, int32_t value);
 bool gathered_sort(Gathered *gathered);
@@ -182,6 +190,7 @@ bool gather_ordered(const cedar *dictionary, const Bounds *bounds, Gathered *gat
 bool gather_first(const cedar *dictionary, Gathered *gathered);
 bool gather_best(const cedar *dictionary, const Span *prefix, size_t most, bool lowest_first, Gathered *best);
 uint32_t gather_neighbour(const cedar *dictionary, const Span *key, bool included, bool is_floor, Gathered *found);
+uint32_t gather_wanted(const cedar *dictionary, const Wanted *wanted, const Span *behind, Gathered *found);
 bool pages_begin(const cedar *dictionary, const Bounds *bounds, Pages *pages);
 bool pages_read(const cedar *dictionary, Pages *pages);
 void pages_free(Pages *pages);
@@ -200,6 +209,7 @@ PyObject *core_longest_prefix(Core *core, PyObject *text);
 PyObject *core_erase_prefix(Core *core, PyObject *prefix);
 PyObject *core_best(Core *core, PyObject *arguments);
 PyObject *core_neighbour(Core *core, PyObject *arguments);
+PyObject *core_next_wanted(Core *core, PyObject *arguments);
 
 /* matches.c: what stands in a text. */
 extern PyType_Spec matches_spec;

@@ -247,6 +247,13 @@ bool gather_best(const cedar *dictionary, const Span *prefix, size_t most, bool 
     return status != CEDAR_MEMORY;
 }
 
+/* Takes note of a key that was written to the first bytes; of no byte, that there is none. */
+static void take_one(Gathered *found, uint32_t status, size_t length, int32_t value) {
+    found->count = status == CEDAR_OK && length > 0;
+    found->size = found->count > 0 ? length : 0;
+    found->found[0] = (cedar_found){0, found->size, value};
+}
+
 /* The key next to another one, if there is one: the last one up to it, or the first one from it on. No byte is no bound. Returns a status. */
 uint32_t gather_neighbour(const cedar *dictionary, const Span *key, bool included, bool is_floor, Gathered *found) {
     int32_t value = 0;
@@ -257,11 +264,25 @@ uint32_t gather_neighbour(const cedar *dictionary, const Span *key, bool include
         status = (is_floor ? cedar_floor : cedar_ceiling)(dictionary, key->at, key->length, included, found->bytes, found->room, &value,
                                                            &needed);
     }
-    if (status == CEDAR_OK && needed > 0) {
-        found->found[0] = (cedar_found){0, needed, value};
-        found->count = 1;
-        found->size = needed;
+    take_one(found, status, needed, value);
+    return status;
+}
+
+/* The first key behind another one that is wanted, if there is one. Returns a status. */
+uint32_t gather_wanted(const cedar *dictionary, const Wanted *wanted, const Span *behind, Gathered *found) {
+    const Span *query = &wanted->query;
+    int32_t value = 0;
+    size_t needed = FIRST_ROOM;
+    uint32_t status = CEDAR_NO_ROOM;
+    while (status == CEDAR_NO_ROOM) {
+        if (!bytes_room(found, needed) || !found_room(found, 1)) return CEDAR_MEMORY;
+        status = wanted->is_pattern
+                     ? cedar_next_fitting(dictionary, query->at, query->length, behind->at, behind->length, found->bytes, found->room, &value,
+                                          &needed)
+                     : cedar_next_near(dictionary, query->at, query->length, wanted->two_edits, wanted->is_beginning, behind->at,
+                                       behind->length, found->bytes, found->room, &value, &needed);
     }
+    take_one(found, status, needed, value);
     return status;
 }
 

@@ -190,6 +190,7 @@ static PyMethodDef core_methods[] = {
     {"_range", (PyCFunction)core_range, METH_VARARGS, NULL},
     {"_best", (PyCFunction)core_best, METH_VARARGS, NULL},
     {"_neighbour", (PyCFunction)core_neighbour, METH_VARARGS, NULL},
+    {"_next_wanted", (PyCFunction)core_next_wanted, METH_VARARGS, NULL},
     {"_count", (PyCFunction)core_count, METH_O, NULL},
     {"_figures", (PyCFunction)core_figures, METH_NOARGS, NULL},
     {NULL, NULL, 0, NULL},

@@ -347,6 +347,17 @@ PyObject *core_best(Core *core, PyObject *arguments) {
     return list;
 }
 
+/* The one key that was gathered and its value; None where none was. */
+static PyObject *one_give(Core *core, uint32_t status, const Gathered *found) {
+    if (status != CEDAR_OK) {
+        fail_with(status);
+        return NULL;
+    }
+    if (found->count > 0) return pair_give(key_give(core, found->bytes, found->size), found->found[0].value);
+    Py_INCREF(Py_None);
+    return Py_None;
+}
+
 /* The last key up to another one and its value, or the first one from it on; None where there is none. For the key, None is no bound. */
 PyObject *core_neighbour(Core *core, PyObject *arguments) {
     static const uint8_t none[1];
@@ -358,16 +369,31 @@ PyObject *core_neighbour(Core *core, PyObject *arguments) {
     if (given != Py_None && span_take(core, given, &key) < 0) return NULL;
     if (core_ready(core) == 0) {
         uint32_t status = gather_neighbour(&core->store.dictionary, &key, included, is_floor, &found);
-        if (status != CEDAR_OK) {
-            fail_with(status);
-        } else if (found.count > 0) {
-            pair = pair_give(key_give(core, found.bytes, found.size), found.found[0].value);
-        } else {
-            pair = Py_None;
-            Py_INCREF(pair);
-        }
+        pair = one_give(core, status, &found);
     }
     gathered_free(&found);
     Py_XDECREF(key.owner);
+    return pair;
+}
+
+/* The first key behind another one that is near a query, or fits it as a pattern, and its value; None where there is none. */
+PyObject *core_next_wanted(Core *core, PyObject *arguments) {
+    static const uint8_t none[1];
+    PyObject *query, *given, *pair = NULL;
+    Wanted wanted;
+    Span behind = {NULL, none, 0};
+    Turn turn;
+    Gathered found = {0};
+    if (!PyArg_ParseTuple(arguments, "OpppO", &query, &wanted.is_pattern, &wanted.two_edits, &wanted.is_beginning, &given)) return NULL;
+    if (span_take(core, query, &wanted.query) < 0) return NULL;
+    int taken = given == Py_None ? 0 : span_take(core, given, &behind);
+    if (taken == 0 && begin_below(core, READS, NULL, &turn) == 0) {
+        uint32_t status = gather_wanted(turn.dictionary, &wanted, &behind, &found);
+        turn_end(&turn);
+        pair = one_give(core, status, &found);
+    }
+    gathered_free(&found);
+    Py_DECREF(wanted.query.owner);
+    Py_XDECREF(behind.owner);
     return pair;
 }

@@ -30,7 +30,8 @@ def keys_are_texts(path: str, plain: Dict[str, int]) -> None:
     between: Iterator[str] = d.irange("a", "b", inclusive=(False, True), reverse=True)
     best: List[Tuple[str, int]] = d.best("n", 3, lowest=True)
     beside: List[Optional[Tuple[str, int]]] = [d.floor("n"), d.ceiling("n")]
-    print(best, beside)
+    near: List[Tuple[str, int]] = [*d.within("net", 2, beginning=True), *d.matching("n?t*")]
+    print(best, beside, near)
     fronts: List[Tuple[str, int]] = d.prefixes("network")
     longest: Optional[Tuple[str, int]] = d.longest_prefix("network")
     both: Cedar[str] = d | plain | loaded | built.copy()

@@ -132,6 +132,11 @@ void each_member(layout kind) {
     const auto is = [](const std::optional<roskvidh::owned_entry> &one, const char *key) { return one && one->key == key; };
     CHECK(is(d.floor("netz"), "network") && is(d.floor("net"), "net") && is(d.before("network"), "net") && !d.before("net"));
     CHECK(!d.floor("a") && !d.floor("") && is(d.ceiling("netz"), "new") && is(d.ceiling(""), "net") && !d.ceiling("z") && is(d.last(), "no"));
+    using roskvidh::edits;
+    CHECK(keys_of(d.within("nat", edits::one)) == Pairs({{"net", 7}}) && d.within("", edits::one).empty());
+    CHECK(keys_of(d.within("nat", edits::two)) == Pairs({{"net", 7}, {"new", 2}, {"no", CEDAR_MAX_VALUE}}));
+    CHECK(keys_of(d.completions_within("nat", edits::one)) == Pairs({{"net", 7}, {"network", 8}}) && d.completions_within("nat", edits::one, 1).size() == 1);
+    CHECK(keys_of(d.matching("n*")) == all && keys_of(d.matching("?e?")) == Pairs({{"net", 7}, {"new", 2}}) && d.matching("n*", 2).size() == 2);
     const auto longest = d.longest_match("networks");
     CHECK(longest && longest->value == 8 && longest->length == 7 && !d.longest_match("ten"));
     CHECK(scanned(d, "no network") == Tokens({{0, 2, CEDAR_MAX_VALUE}, {3, 3, 7}, {3, 7, 8}}) && scanned(d, "").empty());

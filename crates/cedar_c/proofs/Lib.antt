@@ -10,6 +10,7 @@ pub mod KeywordLemmas
 pub mod LengthLemmas
 pub mod LoanLemmas
 pub mod MatchLemmas
+pub mod MatchingLemmas
 pub mod HeldValues
 pub mod LooseValues
 pub mod PairLemmas

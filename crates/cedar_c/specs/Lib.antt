@@ -10,6 +10,7 @@ pub mod Groups
 pub mod Layouts
 pub mod Lending
 pub mod Matches
+pub mod Matching
 pub mod Opens
 pub mod Ownership
 pub mod Pairs

@@ -1,5 +1,6 @@
 -- The words of clauses, from one place.
 pub use Rattle.best_few.specs.Orders.{found_entry}
+pub use Rattle.byte_automata.specs.Distances.{is_near}
 pub use Rattle.cedar_complete.specs.Ends.{IsHeadOf}
 pub use Rattle.cedarwood.specs.Sorted.{entries_of}
 pub use Rattle.cedar_c.specs.Below.{FindsNoRoom, first_length, following_below, IsPlaceOf}
@@ -25,6 +26,8 @@ pub use Rattle.cedar_c.specs.Layouts.{dictionary_in, HasToGrow, layout_if, layou
 pub use Rattle.cedar_c.specs.Lending.{as_shown, LendsCedar, LendsSeen}
 pub use Rattle.cedar_c.specs.Matches.{all_longer, filled_from, filled_matches, Fit, front_keys}
 pub use Rattle.cedar_c.specs.Matches.{longer, match_of, predicted_keys}
+pub use Rattle.cedar_c.specs.Matching.{edits_if, is_wanted_near, TellsFitting, TellsWanted}
+pub use Rattle.cedar_c.specs.Matching.{wanted_behind}
 pub use Rattle.cedar_c.specs.Opens.{OpensBuilt, OpensLoaded, OpensNew}
 pub use Rattle.cedar_c.specs.Pairs.{build_fault, entries_in, keys_in, MayWantSlots, named_keys}
 pub use Rattle.cedar_c.specs.Pairs.{StoresFront, StoresPart, taken_pair}

@@ -21,6 +21,7 @@ mod held;
 mod keys;
 mod keywords;
 mod loose;
+mod matching;
 mod neighbours;
 mod pages;
 mod pairs;

@@ -16,7 +16,7 @@ use std::alloc::Global;
 use std::ops::Bound;
 
 /// An end at a key, which is included or left out; an open one if the key is empty.
-fn bound_at(key: &[u8], is_included: bool) -> Bound<&[u8]>
+pub(crate) fn bound_at(key: &[u8], is_included: bool) -> Bound<&[u8]>
     ensures { bound_map (λ key. key.now) result ≡ bound_if is_included key.now }
 {
     if key.is_empty() {
@@ -58,7 +58,7 @@ fn first_onwards<L: Layout, const SLOTS: usize>(
 }
 
 /// Writes an entry, if there is one and room for its key.
-fn tell_entry(
+pub(crate) fn tell_entry(
     found: Option<(i32, Vec<u8, Global>)>,
     buffer: &mut [u8],
     value: &mut i32,
@@ -186,7 +186,8 @@ pub extern "C" fn cedar_floor(
     //  into the first bytes, and its value; the other bytes don't change. `needed` is how many bytes its key has, or 0 if there is none.
     //  [by floor, TellsNeighbour, entries_upto, IsLastOf]
     //= It is refused exactly if the handle is closed, with `NOT_ASCENDING` if labels don't ascend, with `NO_ROOM` if its key has more bytes
-    //  than there is room for, and otherwise with `MEMORY`. Then nothing else is written. [with closed, closed_stays; also cedar_ceiling]
+    //  than there is room for, and otherwise with `MEMORY`. Then nothing else is written. [with closed, closed_stays; also cedar_ceiling,
+    //  cedar_next_near, cedar_next_fitting]
     ensures floor { IfSome (shown_in handle.old) (λ a. TellsNeighbour (dictionary_in a).state (IsLastOf (entries_upto (dictionary_in a).state.tree (bound_if is_included key.now))) buffer.old buffer.new value.old value.new needed.old needed.new result) }
     ensures closed_stays { result ≡ CLOSED → (buffer.new ≡ buffer.old) × (value.new ≡ value.old) × (needed.new ≡ needed.old) }
     ensures kept { handle.new ≡ handle.old }

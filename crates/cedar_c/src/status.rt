@@ -45,6 +45,9 @@ pub(crate) const NO_ROOM: u32 = 11;
 /// A walk can't go on after a key, since the labels of the dictionary don't ascend.
 pub(crate) const NOT_ASCENDING: u32 = 12;
 
+/// The pattern has more bytes than a pattern may have.
+pub(crate) const PATTERN_TOO_LONG: u32 = 13;
+
 /// The file ends too early.
 pub(crate) const FILE_TRUNCATED: u32 = 20;
 
@@ -166,6 +169,7 @@ fn text_of(status: u32) -> &'static str
         KEYS_NOT_SORTED => "key in sorted input is smaller than its predecessor",
         NO_ROOM => "the buffer is too short",
         NOT_ASCENDING => "the labels of the dictionary do not ascend",
+        PATTERN_TOO_LONG => "the pattern has more than 63 bytes",
         FILE_TRUNCATED => "serialized cedar trie is truncated",
         FILE_MAGIC => "input is not a cedarwood serialized trie",
         FILE_VERSION => "unsupported cedarwood format version",
