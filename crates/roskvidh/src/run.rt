@@ -2,7 +2,7 @@
 
 use crate::build::build;
 use crate::changes::change;
-use crate::dictionary::{Loaded, load, open};
+use crate::dictionary::{load, open};
 use crate::differences::diff;
 use crate::fault::{Fault, is_closed, tell};
 use crate::input::Source;
@@ -14,6 +14,7 @@ use crate::request::{Asked, Dictionary, Query, Reading, Request, Terminals, tell
 use crate::texts::read_text;
 use cedar_disk::LockFile;
 use cedarwood::Watched;
+use either_layout::on_layout;
 use std::alloc::Global;
 use std::io::{Read, Write};
 use std::rt::Files;
@@ -151,10 +152,8 @@ fn ask<'m, F: Files, W: Write>(
     writer: &mut Watched<W>,
 ) -> Result<bool, Fault<'m>> {
     let (reader, kind) = open(alloc, files, dictionary.path)?;
-    match load(alloc, dictionary, reader, kind)? {
-        Loaded::Default(trie) => answer(alloc, &trie, dictionary, kind, query, writer),
-        Loaded::Reduced(trie) => answer(alloc, &trie, dictionary, kind, query, writer),
-    }
+    let any = load(alloc, dictionary, reader, kind)?;
+    on_layout!(any, trie => answer(alloc, &trie, dictionary, kind, query, writer))
 }
 
 /// Reads a text by a dictionary's file.
@@ -168,8 +167,6 @@ fn read<'m, F: Files, R: Read + Drop, M: Meter + Drop, W: Write>(
 ) -> Result<bool, Fault<'m>> {
     let (reader, kind) = open(alloc, files, dictionary.path)?;
     let mut text = crate::input::open(alloc, files, reading.text, source)?;
-    match load(alloc, dictionary, reader, kind)? {
-        Loaded::Default(trie) => read_text(alloc, &trie, reading, &mut text, writer),
-        Loaded::Reduced(trie) => read_text(alloc, &trie, reading, &mut text, writer),
-    }
+    let any = load(alloc, dictionary, reader, kind)?;
+    on_layout!(any, trie => read_text(alloc, &trie, reading, &mut text, writer))
 }
