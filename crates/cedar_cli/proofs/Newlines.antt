@@ -17,7 +17,7 @@ use Rattle.cedar_cli.specs.declared.script.ScriptError.{ScriptError}
 use Rattle.cedar_cli.specs.declared.script.ScriptError.TheVariants.{Memory}
 use Rattle.cedar_cli.proofs.Bytes.{line_done, line_left, long_stop, may_stop, bytes_on, not_begun, Advances-append, Stops-append, Stops-more}
 use Rattle.cedar_cli.proofs.Text.{before_at, after_at, before_none}
-use Rattle.text_lines.proofs.Figures.{not_true}
+use Rattle.device_lines.proofs.Figures.{not_true}
 
 pub open_append : (a b : List ℕ) → HasNoNewline a → HasNoNewline b → HasNoNewline (a ++ b)
 open_append [] b p q = q

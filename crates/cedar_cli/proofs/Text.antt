@@ -11,9 +11,9 @@ use Rattle.std.specs.Result.{result_ok}
 use Rattle.std.specs.Str.{IsUtf8}
 use Rattle.std.specs.Str.Parse.{IsNumeral, ParsesSigned, ParsesUnsigned, digits_value, without_leading_plus, without_leading_sign, signed_digits_value}
 use Rattle.cedar_cli.specs.Command.{value_of, fits_value}
-use Rattle.text_lines.specs.Lines.{is_digit, is_filled}
+use Rattle.device_lines.specs.Lines.{is_digit, is_filled}
 use Rattle.cedar_cli.specs.Options.{fits_limit, limit_of}
-use Rattle.text_lines.proofs.Figures.{at_first, digits_test, filled_test, filled_tested, tested_digits, signed_ascii}
+use Rattle.device_lines.proofs.Figures.{at_first, digits_test, filled_test, filled_tested, tested_digits, signed_ascii}
 
 -- where none passes
 pub at_none : (p : ℕ → Bool) (xs : List ℕ) → position p xs ≡ None → length xs ≤ position_or_len p xs

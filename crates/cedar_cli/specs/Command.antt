@@ -6,7 +6,7 @@ use Rattle.std.specs.List.{before_first, after_first, list_all}
 use Rattle.std.specs.Result.{result_ok}
 use Rattle.std.specs.Str.Parse.{without_leading_sign, signed_digits_value}
 use Rattle.hex.specs.Hex.{decode_of}
-use Rattle.text_lines.specs.Lines.{is_digit, is_filled}
+use Rattle.device_lines.specs.Lines.{is_digit, is_filled}
 use Rattle.cedar_cli.specs.declared.command.Verb.{Verb}
 use Rattle.cedar_cli.specs.declared.command.Verb.TheVariants.{Put, Erase, Exact, Segment, Prefixes}
 use Rattle.cedar_cli.specs.declared.command.Verb.TheVariants.{Predict, Entries, Figures}

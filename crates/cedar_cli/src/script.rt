@@ -6,11 +6,12 @@ ghost use Rattle.cedar_cli.specs.Words.{AdvancesBy, Answers, AnswersOrFails, End
 ghost use Rattle.cedar_cli.specs.Words.{FinishesAll, FinishesComing, GrowsBefore, GrowsWithin};
 ghost use Rattle.cedar_cli.specs.Words.{has_failed, HasLineRoom, HasNoNewline, held_by, is_newline};
 ghost use Rattle.cedar_cli.specs.Words.{LineMayLackMemory, OnlyFlushFails, OnWriter, order_of};
-ghost use Rattle.cedar_cli.specs.Words.{StopsOn};
+ghost use Rattle.cedar_cli.specs.Words.{StopsOn, Unwritten};
 
 use crate::flushes::{Flushes, flush_answers};
 use crate::verbs::answer_line;
 use cedarwood::{Layout, Trie, Watched};
+use device_lines::WriteFault;
 use memchr::memchr;
 use std::alloc::{AllocError, Allocator};
 use std::io::{Read, Write};
@@ -26,6 +27,15 @@ pub enum ScriptError {
     Memory,
     /// No slot is left in the dictionary.
     SlotLimit,
+}
+
+impl From<WriteFault> for ScriptError {
+    //= A write that failed ends a run as `Write`.
+    ghost from_gives = { λ _ error. error ≡ Unwritten };
+
+    fn from(_: WriteFault) -> ScriptError {
+        ScriptError::Write
+    }
 }
 
 /// A run ends after this many reads, as at the end of its input.

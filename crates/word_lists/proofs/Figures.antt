@@ -15,8 +15,8 @@ use Rattle.std.specs.Str.{IsUtf8}
 use Rattle.std.specs.Str.Parse.{IsNumeral, ParsesSigned, without_leading_sign, signed_digits_value}
 use Rattle.memchr.specs.Find.{IsFirstByte, is_byte}
 use Rattle.word_lists.specs.Stored.{figures_number, fits_number, is_tab}
-use Rattle.text_lines.specs.Lines.{is_digit, is_filled}
-use Rattle.text_lines.proofs.Figures.{digits_test, filled_test, filled_tested, tested_digits, signed_ascii, not_true}
+use Rattle.device_lines.specs.Lines.{is_digit, is_filled}
+use Rattle.device_lines.proofs.Figures.{digits_test, filled_test, filled_tested, tested_digits, signed_ascii, not_true}
 
 -- a text that isn't empty has a byte
 pub filled_unless : (text : List ℕ) → false ≡ (length text == 0) → is_filled text ≡ true

@@ -12,7 +12,7 @@ use Rattle.cedarwood.specs.Builds.{all_stored}
 use Rattle.cedarwood.specs.declared.error.CedarError.{CedarError}
 use Rattle.cedarwood.specs.declared.error.CedarError.TheVariants.{EmptyKey, NulByte, InvalidValue}
 use Rattle.cedarwood.specs.declared.error.CedarError.TheVariants.{SlotLimit as OfSlots}
-use Rattle.text_lines.specs.Lines.{is_digit, is_filled, onto_first}
+use Rattle.device_lines.specs.Lines.{is_digit, is_filled, onto_first}
 use Rattle.word_lists.specs.Reading.{read_as}
 use Rattle.word_lists.specs.Texts.{body_of}
 use Rattle.word_lists.specs.declared.lines.StoreError.{StoreError}

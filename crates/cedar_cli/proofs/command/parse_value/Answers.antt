@@ -1,6 +1,6 @@
 use Rattle.std.proofs.Common.{◌∙◌, ap}
 use Rattle.cedar_cli.specs.Command.{value_of}
-use Rattle.text_lines.proofs.Figures.{failed, text_of}
+use Rattle.device_lines.proofs.Figures.{failed, text_of}
 use Rattle.cedar_cli.proofs.Text.{parsed, not_text}
 use Rattle.cedar_cli.proofs.command.parse_value.Goals as goal
 

@@ -1,6 +1,6 @@
 use Rattle.std.proofs.Common.{◌∙◌, ap}
 use Rattle.word_lists.specs.Stored.{figures_number}
-use Rattle.text_lines.proofs.Figures.{failed, text_of}
+use Rattle.device_lines.proofs.Figures.{failed, text_of}
 use Rattle.word_lists.proofs.Figures.{parsed, not_text}
 use Rattle.word_lists.proofs.lines.parse_figures.Goals as goal
 
