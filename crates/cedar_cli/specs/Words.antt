@@ -1,6 +1,6 @@
 -- The words of clauses, from one place.
 pub use Rattle.cedar_cli.specs.Blocks.{GrowsBefore, GrowsWithin}
-pub use Rattle.cedar_cli.specs.Command.{is_space, key_of, order_of, value_of, with_key}
+pub use Rattle.cedar_cli.specs.Command.{is_space, key_of, order_of, with_key}
 pub use Rattle.cedar_cli.specs.Devices.{held_by, IsToldOn, OnlyFlushFails, OnWriter}
 pub use Rattle.cedar_cli.specs.Lines.{HasLineRoom, HasNoNewline, is_newline}
 pub use Rattle.cedar_cli.specs.Loads.{LacksWithin}

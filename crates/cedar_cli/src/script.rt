@@ -11,8 +11,7 @@ ghost use Rattle.cedar_cli.specs.Words.{StopsOn, Unwritten};
 use crate::flushes::{Flushes, flush_answers};
 use crate::verbs::answer_line;
 use cedarwood::{Layout, Trie, Watched};
-use device_lines::WriteFault;
-use memchr::memchr;
+use device_lines::{WriteFault, position_of};
 use std::alloc::{AllocError, Allocator};
 use std::io::{Read, Write};
 
@@ -213,7 +212,7 @@ fn position_of_newline(text: &[u8]) -> Option<usize>
     ensures first { result ≡ position is_newline text.now }
     ensures within { IfSome result (λ at. at < length text.now) }
 {
-    memchr(b'\n', text)
+    position_of(b'\n', text)
 }
 
 /// Runs a line that ends with a piece and byte 10. A line of one piece is run where it is.

@@ -1,18 +1,22 @@
--- Digits of numbers in figures, and calls that read them.
-use Rattle.std.proofs.Common.{◌≡◌, ℕ, List, [], ◌∷◌, Some, None, Bool, true, false, cond, Bor, refl, ap, ◌∙◌, arith, drop, length, ◌<◌}
-use Rattle.std.proofs.lemmas.Bool.{eqb-true, false≢true, and_parts}
+-- Numbers in figures, calls that read them, and where a byte is first.
+use Rattle.std.proofs.Common.{◌≡◌, ℕ, ℤ, pos, negsuc, w32, List, [], ◌∷◌, Option, Some, None, Bool, true, false, cond, ◌&&◌, Bor, refl, sym, ap, ◌∙◌, arith, drop, length, ◌<◌, ◌≤◌}
+use Rattle.std.proofs.lemmas.Bool.{eqb-true, false≢true, leb-true, le-leb, and_parts}
 use Rattle.std.proofs.lemmas.Grind.{common_steps}
 use Rattle.std.proofs.lemmas.Fmt.{IsAscii-from_digits}
-use Rattle.std.proofs.lemmas.Str.{digit_value_digit}
+use Rattle.std.proofs.lemmas.List.Quantifiers.{position-Some}
+use Rattle.std.proofs.lemmas.List.Sums.{position_or_len_is}
+use Rattle.std.proofs.lemmas.Str.{digit_value_digit, IsUtf8-from_ascii}
 use Rattle.std.proofs.lemmas.Str.Parse.{digit_from_value}
 use Rattle.std.specs.Int.{IsInRange}
-use Rattle.std.specs.Prelude.{Result, Ok, Err, MatchResult, ◌==◌}
+use Rattle.std.specs.Int.RustNames.{FitsSigned}
+use Rattle.std.specs.Prelude.{Result, Ok, Err, IfSome, MatchResult, ◌==◌}
 use Rattle.std.specs.List.{position, position_or_len, list_all}
 use Rattle.std.specs.Result.{result_ok}
 use Rattle.std.specs.Char.{digit_value}
-use Rattle.std.specs.Str.{IsAscii}
-use Rattle.std.specs.Str.Parse.{AllDigits, without_leading_sign}
-use Rattle.device_lines.specs.Lines.{is_digit, is_filled}
+use Rattle.std.specs.Str.{IsAscii, IsUtf8}
+use Rattle.std.specs.Str.Parse.{AllDigits, IsNumeral, ParsesSigned, without_leading_sign, signed_digits_value}
+use Rattle.memchr.specs.Find.{IsFirstByte, is_byte}
+use Rattle.device_lines.specs.Lines.{figures_number, fits_number, is_digit, is_filled}
 use Rattle.std.proofs.lemmas.Str.Ascii.{IsAscii-cons}
 
 -- where an element passes first
@@ -69,3 +73,54 @@ text_of bytes U Q (Err x) text m e = absurd (cc)
 pub not_true : {b : Bool} → (b ≡ true → ⊥) → b ≡ false
 not_true {b = true} h = absurd (h refl)
 not_true {b = false} h = refl
+
+-- ---- a number of 32 bits
+
+pub fits_test : (v : ℤ) → FitsSigned w32 v → fits_number v ≡ true
+fits_test (pos n) h = let b : n < 2147483648 = h.sfits in le-leb n 2147483647 (omega arith)
+fits_test (negsuc n) h = let b : n < 2147483648 = h.sfits in rw (le-leb n 2147483647 (omega arith)) refl
+
+pub fits_tested : (v : ℤ) → fits_number v ≡ true → FitsSigned w32 v
+fits_tested (pos n) h = let b : n ≤ 2147483647 = leb-true n 2147483647 h in record { sfits = omega arith }
+fits_tested (negsuc n) h = let b : n ≤ 2147483647 = grind (arith, common_steps) in record { sfits = omega arith }
+
+-- a text that is no number in range has none
+no_value : (text : List ℕ) → (IsNumeral 10 (without_leading_sign text) × FitsSigned w32 (signed_digits_value 10 text) → ⊥) → None ≡ figures_number text
+no_value text never =
+    let ds = without_leading_sign text in
+    let v = signed_digits_value 10 text in
+    (elim (is_filled ds && list_all is_digit ds && fits_number v) as (λ b. (is_filled ds && list_all is_digit ds && fits_number v) ≡ b → None ≡ cond b (Some v) None) [
+      | true ↦ λ e.
+          let p = and_parts (is_filled ds && list_all is_digit ds) (fits_number v) e in
+          let q = and_parts (is_filled ds) (list_all is_digit ds) p.0 in
+          absurd (never ((filled_tested ds q.0, tested_digits ds q.1), fits_tested v p.1))
+      | false ↦ λ e. refl
+    ]) refl
+
+-- what `parse` reads is the text's number
+pub parsed : {E : Type 0} (text : List ℕ) (r : Result ℤ E) → ParsesSigned w32 10 text r → result_ok r ≡ figures_number text
+parsed text (Ok x) h =
+    rw (filled_test (without_leading_sign text) h.0.0.0, digits_test (without_leading_sign text) h.0.0.1, fits_test (signed_digits_value 10 text) h.0.1)
+    (ap Some h.1)
+parsed text (Err e) h = no_value text h
+
+-- bytes that are no text have no number
+pub not_text : (text : List ℕ) → (IsUtf8 text → ⊥) → None ≡ figures_number text
+not_text text h = no_value text (λ p. h (IsUtf8-from_ascii text (signed_ascii text p.0.1)))
+
+-- the first position of a byte, as a search returns it
+pub first_byte : (b : ℕ) (text : List ℕ) (found : Option ℕ) → IsFirstByte (is_byte b) text found → found ≡ position (is_byte b) text
+first_byte b text None none = sym (rw at_end (grind (arith, common_steps))) where
+  at_end : position_or_len (is_byte b) text ≡ length text
+  at_end = position_or_len_is (is_byte b) text (length text) 0 (omega arith) (λ k low. not_true (none k (omega arith) low)) (λ out. absurd (omega arith))
+first_byte b text (Some at) first = sym (rw at_first (grind (arith, common_steps))) where
+  within : at < length text
+  within = first.0.high
+
+  at_first : position_or_len (is_byte b) text ≡ at
+  at_first = position_or_len_is (is_byte b) text at 0 (omega arith) (λ k low. not_true (first.0.before k (omega arith) low)) (λ _. first.1)
+
+-- where a byte is found, it is within the text
+pub byte_within : (b : ℕ) (text : List ℕ) (found : Option ℕ) → found ≡ position (is_byte b) text → IfSome found (λ at. at < length text)
+byte_within b text None e = tt
+byte_within b text (Some at) e = (position-Some (is_byte b) text at 0 (sym e)).0

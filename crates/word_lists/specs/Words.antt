@@ -18,7 +18,7 @@ pub use Rattle.word_lists.specs.Lines.{byte_text, entries_missing, entry_line, e
 pub use Rattle.word_lists.specs.Lines.{escape, found_line, holds_entry, is_plain, missing_lines}
 pub use Rattle.word_lists.specs.Lines.{signed_line, word_text}
 pub use Rattle.word_lists.specs.Reading.{first_read, named_of, read_as}
-pub use Rattle.word_lists.specs.Stored.{absent_of, Adds, AddsLine, ErasesFirstLines, figures_number}
+pub use Rattle.word_lists.specs.Stored.{absent_of, Adds, AddsLine, ErasesFirstLines}
 pub use Rattle.word_lists.specs.Stored.{figures_of, is_tab, IsWant, line_absent, line_erased}
 pub use Rattle.word_lists.specs.Stored.{line_refusal, line_stored, line_told, lines_absent}
 pub use Rattle.word_lists.specs.Stored.{lines_erased, lines_in, lines_stored, list_told}

@@ -1,8 +1,7 @@
 use Rattle.std.proofs.Common.{◌∙◌, ap}
-use Rattle.word_lists.specs.Stored.{figures_number}
-use Rattle.device_lines.proofs.Figures.{failed, text_of}
-use Rattle.word_lists.proofs.Figures.{parsed, not_text}
-use Rattle.word_lists.proofs.lines.parse_figures.Goals as goal
+use Rattle.device_lines.specs.Lines.{figures_number}
+use Rattle.device_lines.proofs.Figures.{failed, not_text, parsed, text_of}
+use Rattle.device_lines.proofs.lines.parse_number.Goals as goal
 
 pub returns-in_err-text : goal.returns-in_err-text
 returns-in_err-text c =
