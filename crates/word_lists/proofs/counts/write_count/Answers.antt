@@ -1,5 +1,5 @@
 use Rattle.std.proofs.Common.{ap}
-use Rattle.text_lines.proofs.Writing.{breaks_all, writes_all, writes_same}
+use Rattle.device_lines.proofs.Writing.{breaks_all, writes_all, writes_same}
 use Rattle.word_lists.specs.Lines.{count_line}
 use Rattle.word_lists.proofs.counts.write_count.Goals as goal
 
