@@ -1,12 +1,11 @@
 -- What a line of a script says.
-use Rattle.std.specs.Prelude.{ℕ, Bool, ◌&&◌, ◌==◌, nat_eq, int_le, if◌then◌else◌, ℤ, pos}
-use Rattle.std.specs.Prelude.{negsuc, List, [], ◌∷◌, length, Option, Some, None}
+use Rattle.std.specs.Prelude.{ℕ, Bool, ◌&&◌, ◌==◌, nat_eq, if◌then◌else◌}
+use Rattle.std.specs.Prelude.{List, [], ◌∷◌, length, Option, Some, None}
 use Rattle.std.specs.Prelude.{option_map, option_and_then}
-use Rattle.std.specs.List.{before_first, after_first, list_all}
+use Rattle.std.specs.List.{before_first, after_first}
 use Rattle.std.specs.Result.{result_ok}
-use Rattle.std.specs.Str.Parse.{without_leading_sign, signed_digits_value}
 use Rattle.hex.specs.Hex.{decode_of}
-use Rattle.text_lines.specs.Lines.{is_digit, is_filled}
+use Rattle.device_lines.specs.Lines.{figures_number}
 use Rattle.cedar_cli.specs.declared.command.Verb.{Verb}
 use Rattle.cedar_cli.specs.declared.command.Verb.TheVariants.{Put, Erase, Exact, Segment, Prefixes}
 use Rattle.cedar_cli.specs.declared.command.Verb.TheVariants.{Predict, Entries, Figures}
@@ -14,17 +13,6 @@ use Rattle.cedar_cli.specs.declared.command.Verb.TheVariants.{Predict, Entries, 
 -- what a line asks for: what to do, and with which key
 abbrev pub Order : Type 0
 Order = Verb × List ℕ
-
--- whether a number is from -2147483648 to 2147483647
-abbrev pub fits_value : ℤ → Bool
-fits_value v = int_le (negsuc 2147483647) v && int_le v (pos 2147483647)
-
--- the value that a text says: `+`, `-` or neither, and then one or more decimal digits, which lies in -2147483648 to
--- 2147483647. Leading zeros are allowed
-abbrev pub value_of : List ℕ → Option ℤ
-value_of text =
-    if is_filled (without_leading_sign text) && list_all is_digit (without_leading_sign text) && fits_value (signed_digits_value 10 text)
-    then Some (signed_digits_value 10 text) else None
 
 -- the key that a text says: `.` for the empty key, or a nonempty, even number of hexadecimal digits of either case
 abbrev pub key_of : List ℕ → Option (List ℕ)
@@ -42,7 +30,7 @@ is_space b = b == 32
 -- the order of a line with a key, a space and a value
 abbrev pub with_key_and_value : List ℕ → Option Order
 with_key_and_value text =
-    option_and_then (λ key. option_map (λ v. (Put v, key)) (value_of (after_first is_space text))) (key_of (before_first is_space text))
+    option_and_then (λ key. option_map (λ v. (Put v, key)) (figures_number (after_first is_space text))) (key_of (before_first is_space text))
 
 -- the order of a line without a key
 abbrev pub alone : ℕ → Option Order

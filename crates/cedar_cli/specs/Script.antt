@@ -22,7 +22,7 @@ use Rattle.cedar_words.specs.Words.{Token, segments}
 use Rattle.cedar_cli.specs.Command.{Order, order_of}
 use Rattle.cedar_cli.specs.Lines.{lines_of}
 use Rattle.cedar_cli.specs.View.{View, cut_in, holds_path, put_in, slots_held, view_of}
-use Rattle.text_lines.specs.Written.{WritesFront}
+use Rattle.device_lines.specs.Written.{WritesFront}
 
 -- the error is a pair's fault, and no want of memory or slots
 abbrev pub IsPairFault : CedarError → Type 0

@@ -1,6 +1,6 @@
 -- The words of clauses, from one place.
 pub use Rattle.cedar_cli.specs.Blocks.{GrowsBefore, GrowsWithin}
-pub use Rattle.cedar_cli.specs.Command.{is_space, key_of, order_of, value_of, with_key}
+pub use Rattle.cedar_cli.specs.Command.{is_space, key_of, order_of, with_key}
 pub use Rattle.cedar_cli.specs.Devices.{held_by, IsToldOn, OnlyFlushFails, OnWriter}
 pub use Rattle.cedar_cli.specs.Lines.{HasLineRoom, HasNoNewline, is_newline}
 pub use Rattle.cedar_cli.specs.Loads.{LacksWithin}
@@ -18,12 +18,13 @@ pub use Rattle.cedar_cli.specs.Script.{token_text, tokens_text}
 pub use Rattle.cedar_cli.specs.Statuses.{AsksForFile, EndsBy, fault_text, IsReported, ShowsCause}
 pub use Rattle.cedar_cli.specs.Statuses.{TellsCause, WritesOrFailed}
 pub use Rattle.cedar_cli.specs.View.{view_of}
+pub use Rattle.cedar_cli.specs.declared.script.ScriptError.TheVariants.{Write as Unwritten}
 pub use Rattle.cedarwood.specs.Layouts.{layout_byte}
 pub use Rattle.cedarwood.specs.Words.{IsSlotLimit}
 pub use Rattle.cedarwood.specs.Tree.{number_at}
 pub use Rattle.cedarwood.specs.Dictionary.{Grows}
 pub use Rattle.cedarwood.specs.WatchedDevice.{has_failed}
+pub use Rattle.device_lines.specs.Written.{BreaksOff, Writes, WritesBytes}
+pub use Rattle.device_lines.specs.Written.{WritesOrFails}
 pub use Rattle.hex.specs.Hex.{encode_lower}
 pub use Rattle.std.specs.List.{after_first, before_first}
-pub use Rattle.text_lines.specs.Written.{BreaksOff, Writes, WritesBytes}
-pub use Rattle.text_lines.specs.Written.{WritesOrFails}

@@ -3,10 +3,10 @@
 ghost use Rattle.std.specs.Prelude.{◌*◌, ◌≡◌, ◌≤◌, IfSome, is_some, length, not};
 ghost use Rattle.std.specs.Prelude.{option_map, position, take};
 ghost use Rattle.cedar_cli.specs.Words.{after_first, before_first, is_space, key_of};
-ghost use Rattle.cedar_cli.specs.Words.{order_of, value_of, with_key};
+ghost use Rattle.cedar_cli.specs.Words.{order_of, with_key};
 
 use cedar_hex::decode_into;
-use memchr::memchr;
+use device_lines::{parse_number, position_of};
 
 /// What a line says to do.
 #[derive(Clone, Copy, Debug, PartialEq, Eq)]
@@ -47,7 +47,7 @@ pub(crate) fn parse_line(line: &[u8], room: &mut [u8]) -> Option<Command>
         [b'+', b' ', rest @ ..] => {
             let (key, value) = split_at_space(rest);
             let key_len = parse_key(key, room)?;
-            let value = parse_value(value)?;
+            let value = parse_number(value)?;
             let verb = Verb::Put(value);
             Some(Command { verb, key_len })
         }
@@ -85,7 +85,7 @@ fn parse_keyed(verb: Verb, text: &[u8], room: &mut [u8]) -> Option<Command>
 fn position_of_space(text: &[u8]) -> Option<usize>
     ensures { result ≡ position is_space text.now }
 {
-    memchr(b' ', text)
+    position_of(b' ', text)
 }
 
 /// The bytes before the first space, and those after it.
@@ -111,14 +111,6 @@ fn parse_key(text: &[u8], room: &mut [u8]) -> Option<usize>
         b"." => Some(0),
         _ => decode_into(text, room),
     }
-}
-
-/// Reads a value.
-fn parse_value(text: &[u8]) -> Option<i32>
-    ensures { result ≡ value_of text.now }
-{
-    let text = str::from_utf8(text).ok()?;
-    text.parse().ok()
 }
 
 /// Why a line of a script is answered `bad line`, and None of one that isn't. Its key is written to `room`, which has a byte for two of the

@@ -4,20 +4,21 @@ pub use Rattle.cedar_words.specs.Words.{keywords_in, Spot, spots_from, Token}
 pub use Rattle.cedarwood.specs.Words.{after_put, all_stored, entries_of, fault}
 pub use Rattle.cedarwood.specs.Words.{IsLimit, new_state, State}
 pub use Rattle.cedarwood.specs.WatchedDevice.{has_failed}
+pub use Rattle.device_lines.specs.Written.{BreaksOff, Writes, WritesBytes}
+pub use Rattle.device_lines.specs.Written.{WritesUpTo}
 pub use Rattle.hex.specs.Hex.{decode_sized}
 pub use Rattle.std.specs.Io.BufRead.{drop_through, take_through}
 pub use Rattle.std.specs.Fmt.{signed_decimal}
 pub use Rattle.std.specs.List.{before_first, position}
 pub use Rattle.std.specs.Str.{is_utf8}
-pub use Rattle.text_lines.specs.Written.{BreaksOff, Writes, WritesBytes}
-pub use Rattle.text_lines.specs.Written.{WritesUpTo}
 pub use Rattle.word_lists.specs.declared.lines.StoreError.TheVariants.{Memory}
+pub use Rattle.word_lists.specs.declared.write.ListError.TheVariants.{Write as Unwritten}
 pub use Rattle.word_lists.specs.Devices.{LinesOrFails}
 pub use Rattle.word_lists.specs.Lines.{byte_text, entries_missing, entry_line, entry_lines}
 pub use Rattle.word_lists.specs.Lines.{escape, found_line, holds_entry, is_plain, missing_lines}
 pub use Rattle.word_lists.specs.Lines.{signed_line, word_text}
 pub use Rattle.word_lists.specs.Reading.{first_read, named_of, read_as}
-pub use Rattle.word_lists.specs.Stored.{absent_of, Adds, AddsLine, ErasesFirstLines, figures_number}
+pub use Rattle.word_lists.specs.Stored.{absent_of, Adds, AddsLine, ErasesFirstLines}
 pub use Rattle.word_lists.specs.Stored.{figures_of, is_tab, IsWant, line_absent, line_erased}
 pub use Rattle.word_lists.specs.Stored.{line_refusal, line_stored, line_told, lines_absent}
 pub use Rattle.word_lists.specs.Stored.{lines_erased, lines_in, lines_stored, list_told}
