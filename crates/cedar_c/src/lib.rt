@@ -5,7 +5,6 @@
 //! read take the same words as a [`reading::Reading`].
 #![tactic(auto)]
 
-mod any;
 mod below;
 mod best;
 mod builds;

@@ -1,7 +1,8 @@
 -- The words of clauses, from one place: a caller's crate takes them from here.
 pub use Rattle.cedarwood.specs.Words.{after_erase, all_stored, Appends, asc, capacity_after}
-pub use Rattle.cedarwood.specs.Words.{default_layout, device_of, entries_of, exact, FailsToWrite}
-pub use Rattle.cedarwood.specs.Words.{fault, first_entry, first_fault, front, has_failed}
+pub use Rattle.cedarwood.specs.Words.{default_layout, device_of, entries_of, entries_with, exact}
+pub use Rattle.cedarwood.specs.Words.{FailsToWrite, fault, first_entry, first_fault, front}
+pub use Rattle.cedarwood.specs.Words.{has_failed}
 pub use Rattle.cedarwood.specs.Words.{held_in_turn, IsBuild, IsCleared, IsEmpty, IsErasedUnder}
 pub use Rattle.cedarwood.specs.Words.{IsErasures, IsIo, IsMarked, IsOnTable, IsRefusedBuild}
 pub use Rattle.cedarwood.specs.Words.{IsShrunk, IsSorted, IsSound, IsTableFile, IsUpdate}

@@ -2,9 +2,9 @@
 
 ghost use Rattle.std.specs.Prelude.{◌<◌, ◌≡◌, ◌≤◌, [], IfErr, IfOk, IfSome, is_some, length};
 ghost use Rattle.std.specs.Prelude.{MatchOption, None, Some};
-ghost use Rattle.either_layout.specs.Words.{exact, first_entry, front, inner_dictionary, IsSound};
-ghost use Rattle.either_layout.specs.Words.{last_entry, longest_front, number_at, predict};
-ghost use Rattle.either_layout.specs.Words.{value_fault, walk};
+ghost use Rattle.either_layout.specs.Words.{entries_with, exact, first_entry, front};
+ghost use Rattle.either_layout.specs.Words.{inner_dictionary, IsSound, last_entry, longest_front};
+ghost use Rattle.either_layout.specs.Words.{number_at, predict, value_fault, walk};
 
 use crate::{AnyCedar, on_layout};
 use cedarwood::CedarError;
@@ -81,6 +81,15 @@ impl AnyCedar {
         ensures refused { IfErr result (λ e. e ≡ CedarError.Memory) }
     {
         on_layout!(self, cedar => cedar.common_prefix_predict_bytes(query))
+    }
+
+    /// How many keys begin with a prefix. It visits each node below the prefix's, and allocates nothing.
+    #[must_use]
+    pub fn count_prefix_bytes(&self, prefix: &[u8]) -> usize
+        //= `count_prefix_bytes` of either layout returns how many entries begin with the prefix. [by entries_with]
+        ensures { result ≡ length (entries_with (inner_dictionary self.now).state.tree prefix.now) }
+    {
+        on_layout!(self, cedar => cedar.count_prefix_bytes(prefix))
     }
 
     /// The first key in iteration order, with its value, or None if the dictionary is empty.
