@@ -324,7 +324,7 @@ fn own_number(number: u64) -> Option<i32>
 }
 
 /// A number in figures.
-fn parse_figures(figures: &[u8]) -> Option<i32>
+pub(crate) fn parse_figures(figures: &[u8]) -> Option<i32>
     ensures { result ≡ figures_number figures.now }
 {
     let text = str::from_utf8(figures).ok()?;
