@@ -15,7 +15,7 @@ _roskvidh() {
         count) options="--limit -h --help" ;;
         list) options="--from --prefix --limit -h --help" ;;
         show) options="--dot --limit -h --help" ;;
-        cut) options="-s --sign --cheapest --unknown --progress --limit -h --help" ;;
+        cut) options="-s --sign --cheapest --costs --unknown --progress --limit -h --help" ;;
         scan) options="--only-longest --color --progress --limit -h --help" ;;
         replace) options="--strict --progress -h --help" ;;
         add) options="--store --strict --progress --limit -h --help" ;;

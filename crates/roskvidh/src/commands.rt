@@ -212,11 +212,12 @@ const CUT: Said = Said {
     notes: CUT_NOTES,
 };
 
-const CUT_TAKES: [Argument; 7] = [
+const CUT_TAKES: [Argument; 8] = [
     Argument::File,
     Argument::TextFile,
     Argument::Sign,
     Argument::Cheapest,
+    Argument::Costs,
     Argument::Unknown,
     Argument::Progress,
     Argument::Limit,
@@ -224,9 +225,12 @@ const CUT_TAKES: [Argument; 7] = [
 
 const CUT_NOTES: &str = "\
 Each line is cut by itself: at each position into the longest word that begins there, or else one character.
+With --unknown class or class=COST a run of letters, of digits or of one script that no word is costs so much as a whole, if it has
+24 characters or fewer.
 
 Example:
-  echo networks | roskvidh cut words.cedar -s '|'";
+  echo networks | roskvidh cut words.cedar -s '|'
+  echo networks | roskvidh cut words.cedar --costs costs.tsv --unknown class";
 
 const SCAN: Said = Said {
     name: "scan",

@@ -2,6 +2,7 @@
 
 use crate::build::build;
 use crate::changes::change;
+use crate::costs::costs_for;
 use crate::dictionary::{load, open};
 use crate::differences::diff;
 use crate::fault::{Fault, is_closed, tell};
@@ -76,14 +77,19 @@ where
         Err(Fault::Write) if is_closed(writer) => DONE,
         Err(fault) => {
             let _ = writer.flush();
-            let status = if matches!(fault, Fault::Locked(_)) {
-                LOCKED
-            } else {
-                FILES
-            };
+            let status = status_of(&fault);
             tell(errors, fault);
             status
         }
+    }
+}
+
+/// The status that a fault ends with.
+fn status_of(fault: &Fault<'_>) -> u8 {
+    match fault {
+        Fault::Locked(_) => LOCKED,
+        Fault::Unknown(_) => USAGE,
+        _ => FILES,
     }
 }
 
@@ -165,8 +171,9 @@ fn read<'m, F: Files, R: Read + Drop, M: Meter + Drop, W: Write>(
     source: Source<R, M>,
     writer: &mut Watched<W>,
 ) -> Result<bool, Fault<'m>> {
+    let costs = costs_for(alloc, files, reading)?;
     let (reader, kind) = open(alloc, files, dictionary.path)?;
     let mut text = crate::input::open(alloc, files, reading.text, source)?;
     let any = load(alloc, dictionary, reader, kind)?;
-    on_layout!(any, trie => read_text(alloc, &trie, reading, &mut text, writer))
+    on_layout!(any, trie => read_text(alloc, &trie, reading, &costs, &mut text, writer))
 }

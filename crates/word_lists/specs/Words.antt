@@ -13,6 +13,8 @@ pub use Rattle.std.specs.List.{before_first, position}
 pub use Rattle.std.specs.Str.{is_utf8}
 pub use Rattle.word_lists.specs.declared.lines.StoreError.TheVariants.{Memory}
 pub use Rattle.word_lists.specs.declared.write.ListError.TheVariants.{Write as Unwritten}
+pub use Rattle.word_lists.specs.Costs.{cost_of_line, cost_of_number, costs_of_lines}
+pub use Rattle.word_lists.specs.Costs.{IsFirstWithoutCost}
 pub use Rattle.word_lists.specs.Devices.{LinesOrFails}
 pub use Rattle.word_lists.specs.Lines.{byte_text, count_line, entries_missing, entry_line}
 pub use Rattle.word_lists.specs.Lines.{entry_lines}
@@ -29,7 +31,8 @@ pub use Rattle.word_lists.specs.Stored.{told_by, told_one, want_of}
 pub use Rattle.word_lists.specs.Texts.{body_of, characters, characters_begun, continues_character}
 pub use Rattle.word_lists.specs.Texts.{ending_of, ends_with, front_entry, fronts_of, greedy_line}
 pub use Rattle.word_lists.specs.Texts.{is_parted, keyword_lines, line_at, mark_text}
-pub use Rattle.word_lists.specs.Texts.{marked_line, marked_token, match_lines, OnCheapestLine}
+pub use Rattle.word_lists.specs.Texts.{marked_line, marked_token, match_lines, OnBestLine}
+pub use Rattle.word_lists.specs.Texts.{OnCheapestLine}
 pub use Rattle.word_lists.specs.Texts.{parted_token, parting, replaced_line}
 pub use Rattle.word_lists.specs.Texts.{replaced_token, replacement, spot_line, spot_lines}
 pub use Rattle.word_lists.specs.Texts.{style_text, styled_line, styled_text, tab_field, text_part}
