@@ -1,3 +1,4 @@
+pub mod BestCuts
 pub mod Changes
 pub mod Content
 pub mod Cuts

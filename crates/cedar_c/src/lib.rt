@@ -19,6 +19,7 @@ mod held;
 mod keys;
 mod keywords;
 mod loose;
+mod models;
 mod pages;
 mod pairs;
 mod planned;
