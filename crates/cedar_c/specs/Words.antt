@@ -9,6 +9,8 @@ pub use Rattle.cedar_c.specs.Below.{TellsNext}
 pub use Rattle.cedar_c.specs.Best.{best_below, bound_if, entries_onwards, entries_upto}
 pub use Rattle.cedar_c.specs.Best.{LacksRoomForKeys, order_if, TellsEntry, TellsNeighbour}
 pub use Rattle.cedar_c.specs.Best.{WritesEntries}
+pub use Rattle.cedar_c.specs.BestCuts.{are_of_one_kind, is_same_kind, kind_in, kind_run}
+pub use Rattle.cedar_c.specs.BestCuts.{LacksRoomForBestCut, WritesBestCut}
 pub use Rattle.cedar_c.specs.Changes.{IsRecord}
 pub use Rattle.cedar_c.specs.Content.{capacity_in, ChangesBy, content, ErasesUnder}
 pub use Rattle.cedar_c.specs.Content.{layout_in, marks_in, search_limit_in, size_in}
@@ -67,6 +69,8 @@ pub use Rattle.cedarwood.specs.Builds.{all_stored, first_fault, outcome}
 pub use Rattle.cedarwood.specs.Dictionary.{capacity_after}
 pub use Rattle.cedarwood.specs.Fault.{fault, IsShortage}
 pub use Rattle.cedarwood.specs.OnTable.{IsOnTable}
+pub use Rattle.cedar_words.specs.Runs.{cost_in_table}
+pub use Rattle.cedar_words.specs.Words.{IsBestCut}
 pub use Rattle.cedarwood.specs.Queries.{front, predict}
 pub use Rattle.cedarwood.specs.RangeWalks.{entries_left, IsRangePlace}
 pub use Rattle.cedarwood.specs.Ranges.{entries_with, longest_front}

@@ -113,7 +113,7 @@ fn either_cut<L: Layout, const SLOTS: usize>(
 }
 
 /// Writes some tokens into the first elements of a buffer, if it has room for all, and how many they are.
-fn write_whole(
+pub(crate) fn write_whole(
     tokens: &[(usize, usize, Option<i32>)],
     found: &mut [Found],
     needed: &mut usize,

@@ -21,6 +21,7 @@ mod keys;
 mod keywords;
 mod loose;
 mod matching;
+mod models;
 mod neighbours;
 mod pages;
 mod pairs;
