@@ -173,6 +173,10 @@ pub enum TextQuery<'a> {
     Matches,
     /// Which are in it from a position on?
     MatchesFrom { place: usize },
+    /// Which keys are in it, by their ends?
+    Overlapping,
+    /// Which of those that don't overlap end first?
+    Earliest,
     /// Which tokens cost the least together, if each byte without a value costs this?
     Cheapest { unknown: u32 },
     /// Which tokens do, if each character without a value costs this once?

@@ -1,18 +1,20 @@
 //! Replies about texts, by the keys of a dictionary.
 
+ghost use Rattle.std.specs.Prelude.{◌≡◌, IfOk};
 ghost use Rattle.cedar_calls.specs.Words.{character_price, CollectsAll, CollectsSome};
-ghost use Rattle.cedar_calls.specs.Words.{cost_in_table, IsBestCut, IsCheapCut, IsTextReply};
-ghost use Rattle.cedar_calls.specs.Words.{run_in_table};
+ghost use Rattle.cedar_calls.specs.Words.{cost_in_table, earliest, IsBestCut, IsCheapCut};
+ghost use Rattle.cedar_calls.specs.Words.{IsTextReply, overlapping, run_in_table};
 
 use crate::reply::add;
 use crate::{ModelTables, TextQuery, TextReply};
+use cedar_scan::{Earliest, Overlapping, Placed, Scanner};
 use cedar_words::{
     AllMatches, Edge, Edges, Fronts, Keywords, LongestPrefix, Segments, cheapest, cheapest_by,
     cheapest_by_characters, lattice, leftmost_longest, leftmost_longest_from, matches,
     matches_from, segment, segment_from,
 };
 use cedarwood::{CedarError, Layout, PrefixIter, Trie};
-use std::alloc::Allocator;
+use std::alloc::{AllocError, Allocator};
 
 /// Answers a question about a text. Lists are allocated from `alloc`, and an empty one isn't allocated.
 pub(crate) fn text_reply<L: Layout, const SLOTS: usize, A: Allocator + Copy>(
@@ -41,6 +43,8 @@ pub(crate) fn text_reply<L: Layout, const SLOTS: usize, A: Allocator + Copy>(
         TextQuery::MatchesFrom { place } => {
             TextReply::Keys(collect_matches(alloc, matches_from(trie, text, *place)))
         }
+        TextQuery::Overlapping => TextReply::Keys(all_ends(trie, alloc, text)),
+        TextQuery::Earliest => TextReply::Keys(first_ends(trie, alloc, text)),
         TextQuery::Cheapest { unknown } => {
             TextReply::Tokens(least_cut(trie, alloc, text, *unknown))
         }
@@ -102,6 +106,64 @@ fn collect_matches<L: Layout, const SLOTS: usize, A: Allocator + Copy>(
     spots: AllMatches<'_, Trie<L, SLOTS, A>>,
 ) -> Result<Vec<(usize, usize, i32), A>, CedarError>
     ensures { CollectsAll result spots.entry }
+{
+    let mut found = Vec::new(alloc);
+    for spot in spots {
+        add(&mut found, spot)?;
+    }
+    Ok(found)
+}
+
+/// All keys in a text, by their ends. A scanner is made only if the text has a byte.
+fn all_ends<L: Layout, const SLOTS: usize, A: Allocator + Copy>(
+    trie: &Trie<L, SLOTS, A>,
+    alloc: A,
+    text: &[u8],
+) -> Result<Vec<(usize, usize, i32), A>, CedarError>
+    ensures { CollectsSome result (λ found. found.items ≡ overlapping trie.now.state.tree text.now) text.now }
+{
+    if text.is_empty() {
+        return Ok(Vec::new(alloc));
+    }
+    let scanner = Scanner::new(trie, alloc)?;
+    Ok(collect_ends(alloc, scanner.overlapping(text))?)
+}
+
+/// The keys in a text that don't overlap and end first. A scanner is made only if the text has a byte.
+fn first_ends<L: Layout, const SLOTS: usize, A: Allocator + Copy>(
+    trie: &Trie<L, SLOTS, A>,
+    alloc: A,
+    text: &[u8],
+) -> Result<Vec<(usize, usize, i32), A>, CedarError>
+    ensures { CollectsSome result (λ found. found.items ≡ earliest trie.now.state.tree text.now) text.now }
+{
+    if text.is_empty() {
+        return Ok(Vec::new(alloc));
+    }
+    let scanner = Scanner::new(trie, alloc)?;
+    Ok(collect_first_ends(alloc, scanner.earliest(text))?)
+}
+
+/// The keys that are left of those by their ends.
+fn collect_ends<T: Placed, A: Allocator + Copy>(
+    alloc: A,
+    spots: Overlapping<'_, T>,
+) -> Result<Vec<(usize, usize, i32), A>, AllocError>
+    ensures { IfOk result (λ found. found.items ≡ spots.entry.rest) }
+{
+    let mut found = Vec::new(alloc);
+    for spot in spots {
+        add(&mut found, spot)?;
+    }
+    Ok(found)
+}
+
+/// The keys that are left of those that don't overlap.
+fn collect_first_ends<T: Placed, A: Allocator + Copy>(
+    alloc: A,
+    spots: Earliest<'_, T>,
+) -> Result<Vec<(usize, usize, i32), A>, AllocError>
+    ensures { IfOk result (λ found. found.items ≡ spots.entry.rest) }
 {
     let mut found = Vec::new(alloc);
     for spot in spots {

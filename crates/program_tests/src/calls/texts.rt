@@ -164,6 +164,40 @@ fn expect_cuts(rt: &impl Abort, answers: &[Answer<Global>]) {
     assert!(rt; matches!(missing, Answer::Missing));
 }
 
+// Keys by their ends, all of them and those that don't overlap; a text without a byte has none.
+fn scans(settings: CedarBuilder) -> [Call<'static>; 5] {
+    [
+        Call::Unsorted {
+            settings,
+            pairs: &PAIRS,
+        },
+        ask_of(b"abcd", TextQuery::Overlapping),
+        ask_of(b"abcd", TextQuery::Earliest),
+        ask_of(b"", TextQuery::Overlapping),
+        ask_of(b"", TextQuery::Earliest),
+    ]
+}
+
+fn expect_scans(rt: &impl Abort, answers: &[Answer<Global>]) {
+    let [_, all, first, none, none_first] = answers else {
+        panic!(rt; "other answers");
+    };
+    assert_eq!(rt;
+        keys(all),
+        [(0, 1, 5), (0, 2, 6), (0, 3, 4), (1, 3, 1)].as_slice()
+    );
+    assert_eq!(rt; keys(first), [(0, 1, 5), (1, 3, 1)].as_slice());
+    assert!(rt; is_listed(none) && is_listed(none_first));
+}
+
+// Whether the answer has a list of keys.
+fn is_listed(answer: &Answer<Global>) -> bool {
+    matches!(
+        answer,
+        Answer::Replied(Reply::InText(TextReply::Keys(Ok(_))))
+    )
+}
+
 #[tactic(auto, using(cedarwood::proofs::DictionaryLemmas::default_limit))]
 fn expect_texts<L: Layout>(
     rt: &impl Abort,
@@ -173,6 +207,9 @@ fn expect_texts<L: Layout>(
     let mut tries: Tries<L, MOST_SLOTS, Global> = Vec::new(alloc);
     let answers = run(alloc, &mut tries, &calls(settings))?;
     expect_answers(rt, &answers);
+    let mut tries: Tries<L, MOST_SLOTS, Global> = Vec::new(alloc);
+    let answers = run(alloc, &mut tries, &scans(settings))?;
+    expect_scans(rt, &answers);
     Ok(())
 }
 
