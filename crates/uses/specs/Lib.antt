@@ -3,4 +3,5 @@ pub mod Keywords
 pub mod Pages
 pub mod Parts
 pub mod Saves
+pub mod Suggestions
 pub mod Words

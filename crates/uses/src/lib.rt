@@ -13,3 +13,4 @@ mod service;
 #[cfg(test)]
 mod tests;
 mod tokenizer;
+mod typing;
