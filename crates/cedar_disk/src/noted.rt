@@ -9,7 +9,8 @@ ghost use Rattle.std.specs.Prelude.{is_ok, length, OnErr, OnOk, true};
 ghost use Rattle.cedar_disk.specs.NotedFiles.{is_beside, noted_calls};
 ghost use Rattle.cedar_disk.specs.OpenedFiles.{folder_calls, found_path};
 ghost use Rattle.cedar_disk.specs.Words.{call_with, compaction_path, folder_sync_call};
-ghost use Rattle.cedar_disk.specs.Words.{HasJustTaken, is_locked_after, LiesBeside, LiesIn};
+ghost use Rattle.cedar_disk.specs.Words.{HasJustTaken, is_locked_after, IsAnswered, LiesBeside};
+ghost use Rattle.cedar_disk.specs.Words.{LiesIn};
 ghost use Rattle.cedar_disk.specs.Words.{lock_call, MayLeave, Only, opened_as, path_of, way_of};
 ghost use Rattle.cedar_disk.specs.Words.{open_call, refused_call, rename_call, seen_after};
 ghost use Rattle.cedar_disk.specs.Words.{sync_call, took_name, TookSome, truncate_call};
@@ -492,7 +493,8 @@ fn write_on<T: Write>(file: &mut T, at: usize, bytes: &[u8]) -> Wrote
 fn wrote_of(at: usize, _bytes: &[u8], answer: io::Result<usize>) -> Wrote
     requires offset { at < 2 ^ 63 }
     requires bound { IfOk answer (λ count. count ≤ length _bytes.now) }
-    ensures { TookSome at (length _bytes.now) result }
+    ensures took { TookSome at (length _bytes.now) result }
+    ensures answered { IsAnswered answer result }
 {
     match answer {
         Ok(0) => Wrote::Failed(io::ErrorKind::WriteZero.into()),
