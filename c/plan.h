@@ -15,8 +15,8 @@ typedef struct cedar_step {
     size_t length;
 } cedar_step;
 
-/* The steps are carried out one after another, and none behind one that failed: then what the file stands for isn't known until it is
- * opened again. */
+/* The steps are carried out one after another, and none behind one that failed: then what the file stands for isn't known, and a
+ * compaction puts another file in its place. */
 typedef struct cedar_plan {
     size_t count;
     cedar_step steps[CEDAR_PLAN_MOST];

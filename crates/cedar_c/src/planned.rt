@@ -1,9 +1,9 @@
 //! The dictionary of a store, whose file C keeps (`c/store.c`): each call writes down a plan, and C carries it out before it acknowledges
 //! the change. These exports are the library's own, and no program sees them.
 
-ghost use Rattle.std.specs.Prelude.{◌≡◌, ◌≢◌, ◌⊎◌, ◌↔◌, ◌+◌, ◌<◌, ◌^◌, false, IfErr, IfOk, IfSome};
-ghost use Rattle.std.specs.Prelude.{IsFalse, IsSome, IsTrue, None, Some, length, option_map, take};
-ghost use Rattle.std.specs.Prelude.{true};
+ghost use Rattle.std.specs.Prelude.{◌≡◌, ◌≢◌, ◌≤◌, ◌⊎◌, ◌↔◌, ◌+◌, ◌<◌, ◌^◌, false, IfErr, IfOk};
+ghost use Rattle.std.specs.Prelude.{IfSome, IsFalse, IsSome, IsTrue, None, Some, length};
+ghost use Rattle.std.specs.Prelude.{option_map, take, true};
 ghost use Rattle.cedar_c.specs.Words.{AddsChange, after_erase, after_put, content, CutsNone};
 ghost use Rattle.cedar_c.specs.Words.{damage_of, end_of, erase_at, fault, format_if, format_in};
 ghost use Rattle.cedar_c.specs.Words.{HasExtent, inner_dictionary, inner_layout, IsErasurePlan};
@@ -53,6 +53,9 @@ pub extern "C" fn cedar_plan_open(
     //= Once the plan of an opening is carried out, the file is at rest, on the disk, represents that dictionary, and has as many records as
     //  before. A crash at any moment, even if a step fails, leaves a file that represents it. [by IsOpening]
     ensures ready { result ≡ OK → IfSome (state_in handle.new) (IsOpening bytes.now (works_of buffer.new plan.new) (format_if is_summed.new) end.new) }
+
+    //= The plan of an opening has no more steps than C has room for.
+    ensures steps { result ≡ OK → plan.new.count ≤ 4 }
 
     //= An opening writes how many records the file has.
     ensures counted { result ≡ OK → record_count bytes.now ≡ Some records.new }

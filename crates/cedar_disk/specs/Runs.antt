@@ -1,7 +1,8 @@
 -- What calls on a file do one behind another: time goes on, bytes are written in as many calls as the system takes, and a file takes the
 -- name of another one.
 use Rattle.std.specs.Prelude.{◌≡◌, ◌≢◌, ◌⊎◌, ◌<◌, ◌≤◌, ◌^◌, ℕ, true, false, List}
-use Rattle.std.specs.Prelude.{◌∷◌, length, take, IsTrue}
+use Rattle.std.specs.Prelude.{◌∷◌, length, take, IsTrue, Result, Ok, Err, IsErrAnd}
+use Rattle.std_io.specs.declared.io.error.Error.{Error}
 use Rattle.std_io.specs.declared.io.kind.ErrorKind.{ErrorKind}
 use Rattle.std_io.specs.declared.io.kind.ErrorKind.TheVariants.{FileTooLarge, Interrupted}
 use Rattle.std_io.specs.declared.io.kind.ErrorKind.TheVariants.{QuotaExceeded, StorageFull}
@@ -39,6 +40,14 @@ TookSome at n (Bytes count) = (0 < count) × (count ≤ n) × (at < 2 ^ 63)
 TookSome at n Nothing = Unit {0}
 TookSome at n (Full e) = IsWantOfRoom (error_kind e)
 TookSome at n (Failed e) = IsFailure (error_kind e)
+
+-- a write is taken for what the system has answered: for one that took bytes, only if it has returned how many; for one
+-- that a signal came before, only if it has said so; and for one without room, by the error that it has returned
+abbrev pub IsAnswered : Result ℕ Error → Wrote → Type 0
+IsAnswered answer (Bytes n) = answer ≡ Ok n
+IsAnswered answer Nothing = IsErrAnd answer (λ e. error_kind e ≡ Interrupted)
+IsAnswered answer (Full e) = answer ≡ Err e
+IsAnswered answer (Failed e) = Unit {0}
 
 -- time goes on from the one list of calls to the other: what a crash may leave now, or might have left before, and
 -- nothing else

@@ -1,5 +1,5 @@
 -- What is at a path and isn't a file: the calls on it, and what these show.
-use Rattle.std.specs.Prelude.{◌≡◌, ◌==◌, ◌++◌, ◌∷◌, [], if◌then◌else◌, length, ℕ, true, List}
+use Rattle.std.specs.Prelude.{◌≡◌, ◌==◌, ◌++◌, ◌∷◌, [], if◌then◌else◌, length, ℕ, List}
 use Rattle.std.specs.Fs.{file_type, IsFile}
 use Rattle.std.specs.declared.fs.attrs.Metadata.{Metadata}
 use Rattle.cedar_disk.specs.Calls.{Call}
@@ -8,20 +8,12 @@ use Rattle.cedar_disk.specs.Calls.{Call}
 abbrev pub IsNoFile : Metadata → Type 0
 IsNoFile found = IsFile (file_type found) → ⊥
 
--- something that isn't a file was opened at this path
-abbrev pub found_at : List ℕ → Call
-found_at path = (9, 0, true, path)
-
--- something that isn't a file took these bytes
-abbrev pub send_call : List ℕ → Call
-send_call bytes = (10, 0, true, bytes)
-
 -- a path behind its length, so that its end is known whatever follows
 abbrev pub address : List ℕ → List ℕ
 address path = length path ∷ path
 
--- what the calls on something that isn't a file say: where it was found (`address`), and then all bytes that it took,
--- in their order
+-- what the calls on something that isn't a file say: where it was found (`address`, a call of kind 9), and then all
+-- bytes that it took, in their order (calls of kind 10)
 abbrev pub told_after : List Call → List ℕ
 told_after [] = []
 told_after (call ∷ earlier) = if call.0 == 9 then address call.3 else if call.0 == 10 then told_after earlier ++ call.3 else told_after earlier

@@ -6,18 +6,19 @@
 
 ghost use Rattle.std.specs.Prelude.{◌≡◌, ◌≤◌, ◌<◌, ◌^◌, ◌∷◌, [], false, IfOk, IfSome};
 ghost use Rattle.std.specs.Prelude.{is_ok, length, OnErr, OnOk, true};
-ghost use Rattle.cedar_disk.specs.NotedFiles.{is_beside, noted_calls};
+ghost use Rattle.cedar_disk.specs.NotedFiles.{is_beside, made_as, noted_calls};
 ghost use Rattle.cedar_disk.specs.OpenedFiles.{folder_calls, found_path};
 ghost use Rattle.cedar_disk.specs.Words.{call_with, compaction_path, folder_sync_call};
-ghost use Rattle.cedar_disk.specs.Words.{HasJustTaken, is_locked_after, LiesBeside, LiesIn};
-ghost use Rattle.cedar_disk.specs.Words.{lock_call, MayLeave, Only, opened_as, path_of, way_of};
+ghost use Rattle.cedar_disk.specs.Words.{HasJustTaken, is_locked_after, IsAnswered, LiesBeside};
+ghost use Rattle.cedar_disk.specs.Words.{LiesIn, lock_call, MayLeave, Only, opened_as};
+ghost use Rattle.cedar_disk.specs.Words.{opened_new, path_of, way_of};
 ghost use Rattle.cedar_disk.specs.Words.{open_call, refused_call, rename_call, seen_after};
 ghost use Rattle.cedar_disk.specs.Words.{sync_call, took_name, TookSome, truncate_call};
 ghost use Rattle.cedar_disk.specs.Words.{write_by_outcome};
 
 use crate::history::History;
 use crate::names::compaction_beside;
-use crate::opening::{Folder, Found, Wanted, find_file, open_folder_of};
+use crate::opening::{Folder, Found, OPENED_AT, Wanted, find_file, open_folder_of};
 use crate::system::{is_file_itself, keep_owner, lock_file, read_all};
 use crate::wrote::Wrote;
 use crate::{LockFile, OpenError};
@@ -67,6 +68,8 @@ pub(crate) struct Noted<T: Read + Write + Seek + OpenFile + Drop> {
     file: T,
     // Whether it is the one beside.
     is_beside: bool,
+    // Under which name it was made, if it was.
+    made: History,
     history: History,
 }
 
@@ -113,6 +116,7 @@ impl<F: Files + Drop, A: Allocator + Copy> Place<F, A> {
         Ok(Noted {
             file,
             is_beside: false,
+            made: History::new(),
             history,
         })
     }
@@ -173,6 +177,7 @@ pub(crate) fn make_beside<F: Files>(
     requires names { LiesBeside _path.now name.now }
     ensures noted { IfOk result (λ made. noted_calls made ≡ open_call [] ∷ []) }
     ensures name { IfOk result (λ made. is_beside made ≡ true) }
+    ensures own { IfOk result (λ made. made_as made ≡ opened_new name.now ∷ []) }
 {
     make_noted(files, name, mode)
 }
@@ -203,17 +208,21 @@ pub(crate) fn remove_made<F: Files>(files: &F, name: &str, _path: &str)
 fn make_noted<F: Files>(files: &F, name: &str, mode: u32) -> io::Result<Noted<F::File>>
     ensures noted { IfOk result (λ made. noted_calls made ≡ open_call [] ∷ []) }
     ensures name { IfOk result (λ made. is_beside made ≡ true) }
+    ensures own { IfOk result (λ made. made_as made ≡ opened_new name.now ∷ []) }
 {
     let file = OpenOptions::new()
         .write(true)
         .create_new(true)
         .mode(mode)
         .open(files, name)?;
+    let mut made = History::new();
+    made.note(&[OPENED_AT, Wanted::New.way(), 1], name.as_bytes());
     let mut history = History::new();
     history.note(&[OPENED, 0, 1], &[]);
     Ok(Noted {
         file,
         is_beside: true,
+        made,
         history,
     })
 }
@@ -224,6 +233,7 @@ impl<T: Read + Write + Seek + OpenFile + Drop> Noted<T> {
     fn note(&mut self, kind: u64, at: usize, ok: bool, bytes: &[u8])
         ensures noted { noted_calls self.new ≡ call_with kind at ok bytes.now ∷ noted_calls self.old }
         ensures name { is_beside self.new ≡ is_beside self.old }
+        ensures own { made_as self.new ≡ made_as self.old }
     {
         self.history.note(&[kind, at as u64, u64::from(ok)], bytes);
     }
@@ -239,6 +249,7 @@ impl<T: Read + Write + Seek + OpenFile + Drop> Noted<T> {
         ensures noted { noted_calls self.new ≡ call_with kind at (is_ok result) bytes.now ∷ noted_calls self.old }
         ensures same { result ≡ answer }
         ensures name { is_beside self.new ≡ is_beside self.old }
+        ensures own { made_as self.new ≡ made_as self.old }
     {
         match answer {
             Ok(()) => {
@@ -276,6 +287,7 @@ impl<T: Read + Write + Seek + OpenFile + Drop> Noted<T> {
         requires took { TookSome at (length bytes.now) wrote }
         ensures noted { noted_calls self.new ≡ write_by_outcome at bytes.now wrote ∷ noted_calls self.old }
         ensures name { is_beside self.new ≡ is_beside self.old }
+        ensures own { made_as self.new ≡ made_as self.old }
     {
         match wrote {
             Wrote::Bytes(count) => self.note(WRITTEN, at, true, &bytes[..count]),
@@ -292,6 +304,7 @@ impl<T: Read + Write + Seek + OpenFile + Drop> Noted<T> {
         ensures noted { noted_calls self.new ≡ write_by_outcome end bytes.now result ∷ noted_calls self.old }
         ensures took { TookSome end (length bytes.now) result }
         ensures name { is_beside self.new ≡ is_beside self.old }
+        ensures own { made_as self.new ≡ made_as self.old }
     {
         let wrote = write_on(&mut self.file, end, bytes);
         self.note_write(end, bytes, wrote);
@@ -302,6 +315,7 @@ impl<T: Read + Write + Seek + OpenFile + Drop> Noted<T> {
     pub(crate) fn flush(&mut self) -> io::Result<()>
         ensures noted { noted_calls self.new ≡ noted_calls self.old }
         ensures name { is_beside self.new ≡ is_beside self.old }
+        ensures own { made_as self.new ≡ made_as self.old }
     {
         self.file.flush()
     }
@@ -338,6 +352,7 @@ impl<T: Read + Write + Seek + OpenFile + Drop> Noted<T> {
     pub(crate) fn sync(&mut self) -> io::Result<()>
         ensures noted { noted_calls self.new ≡ sync_call (is_ok result) ∷ noted_calls self.old }
         ensures name { is_beside self.new ≡ is_beside self.old }
+        ensures own { made_as self.new ≡ made_as self.old }
     {
         let answer = if self.is_beside {
             self.file.sync_all()
@@ -400,7 +415,7 @@ impl<T: Read + Write + Seek + OpenFile + Drop> Noted<T> {
         self.sync_names(&place.folder)
     }
 
-    /// Gives this file, which lies beside the one at a path, that one's name.
+    /// Gives this file, which was made beside the one at a path, that one's name.
     pub(crate) fn take_path<F: Files>(
         &mut self,
         files: &F,
@@ -409,10 +424,12 @@ impl<T: Read + Write + Seek + OpenFile + Drop> Noted<T> {
     ) -> io::Result<()>
         requires beside { is_beside self.old ≡ true }
         requires names { LiesBeside path.now name.now }
+        requires own { made_as self.old ≡ opened_new name.now ∷ [] }
         requires durable { Only (seen_after (noted_calls self.old)) (MayLeave (noted_calls self.old)) }
         ensures noted { noted_calls self.new ≡ took_name path.now (is_ok result) ∷ noted_calls self.old }
         ensures kept { OnErr result (is_beside self.new ≡ true) }
         ensures taken { OnOk result (is_beside self.new ≡ false) }
+        ensures own { made_as self.new ≡ made_as self.old }
     {
         let answer = fs::rename(files, name, path);
         self.is_beside = answer.is_err();
@@ -442,10 +459,11 @@ impl<T: Read + Write + Seek + OpenFile + Drop> Noted<T> {
         self.note_answer(NAMED, 0, &[], answer)
     }
 
-    /// Removes the file, which lies beside the one at a path.
+    /// Removes the file, which was made beside the one at a path.
     pub(crate) fn remove<F: Files>(&self, files: &F, name: &str, _path: &str)
         requires beside { is_beside self.now ≡ true }
         requires names { LiesBeside _path.now name.now }
+        requires own { made_as self.now ≡ opened_new name.now ∷ [] }
     {
         let _ = fs::remove_file(files, name);
     }
@@ -492,7 +510,8 @@ fn write_on<T: Write>(file: &mut T, at: usize, bytes: &[u8]) -> Wrote
 fn wrote_of(at: usize, _bytes: &[u8], answer: io::Result<usize>) -> Wrote
     requires offset { at < 2 ^ 63 }
     requires bound { IfOk answer (λ count. count ≤ length _bytes.now) }
-    ensures { TookSome at (length _bytes.now) result }
+    ensures took { TookSome at (length _bytes.now) result }
+    ensures answered { IsAnswered answer result }
 {
     match answer {
         Ok(0) => Wrote::Failed(io::ErrorKind::WriteZero.into()),

@@ -17,7 +17,7 @@ use std::io::{self, Read};
 use std::path::PathBuf;
 use std::rt::Files;
 
-const OPENED_AT: u64 = 11;
+pub(crate) const OPENED_AT: u64 = 11;
 
 const TO_READ: u64 = 3;
 
@@ -36,7 +36,7 @@ pub(crate) enum Wanted {
 
 impl Wanted {
     // The number that an opening is noted with.
-    fn way(self) -> u64
+    pub(crate) fn way(self) -> u64
         ensures { result ≡ way_of self }
     {
         match self {

@@ -3,9 +3,10 @@
 ghost use Rattle.std.specs.Prelude.{◌≡◌, ◌∷◌, [], false, IfErr, IfOk, IsTrue};
 ghost use Rattle.std.specs.Prelude.{length, OnOk, Some, true};
 ghost use Rattle.cedar_disk.specs.Words.{asked_after, Keeps, LiesBeside, LiesIn, is_usable_after};
-ghost use Rattle.cedar_disk.specs.Words.{IsPlaced, IsWholeBeside, IsUnplacedAt, open_call, path_of};
+ghost use Rattle.cedar_disk.specs.Words.{IsPlaced, IsWholeBeside, IsUnplacedAt, open_call};
+ghost use Rattle.cedar_disk.specs.Words.{opened_new, path_of};
 ghost use Rattle.cedar_disk.specs.Words.{seen_after, WriteAppends, WritesAtMost};
-ghost use Rattle.cedar_disk.specs.NotedFiles.{is_beside, noted_calls};
+ghost use Rattle.cedar_disk.specs.NotedFiles.{is_beside, made_as, noted_calls};
 ghost use Rattle.cedar_disk.specs.OpenedFiles.{folder_calls};
 
 use crate::names::{NAMES, PATH_LEN, name_beside};
@@ -42,6 +43,7 @@ pub struct NewFile<'a, F: Files> {
     ghost unasked: { asked_after (noted_calls file) ≡ false },
     ghost beside: { is_beside file ≡ true },
     ghost named: { LiesBeside path.now name.bytes },
+    ghost own: { made_as file ≡ opened_new name.bytes ∷ [] },
     ghost home: { LiesIn path.now (path_of (folder_calls folder)) },
 }
 
@@ -223,6 +225,7 @@ pub(crate) fn make_named<F: Files>(
     mode: u32,
 ) -> io::Result<(ArrayString<PATH_LEN>, Noted<F::File>)>
     ensures named { IfOk result (λ made. LiesBeside path.now made.0.bytes) }
+    ensures own { IfOk result (λ made. made_as made.1 ≡ opened_new made.0.bytes ∷ []) }
     ensures noted { IfOk result (λ made. noted_calls made.1 ≡ open_call [] ∷ []) }
     ensures beside { IfOk result (λ made. is_beside made.1 ≡ true) }
 {

@@ -13,7 +13,8 @@ pub enum DeviceError {
     Memory,
     /// A write found no room. Some of its bytes may be there, and the file can still be cut, synced and written to.
     NoRoom,
-    /// The disk failed. What it holds is unknown until the file is opened again.
+    /// The disk failed, and nothing shows what it holds. To open the file again isn't enough: after a failed sync a read may show what the
+    /// disk doesn't have. So put whole bytes in their place by `ReplaceDevice::replace`, of this device or of one that was opened again.
     Failed,
 }
 

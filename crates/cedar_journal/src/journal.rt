@@ -141,7 +141,7 @@ impl<D: Device> Journal<D> {
     ///
     /// # Errors
     /// `Full` if the records end after `MAX_END`: nothing is written. `NoRoom` if the device has no room for the record: what the write has
-    /// left was cut off, and the journal goes on. `Device` if the device fails: open the file again.
+    /// left was cut off, and the journal goes on. `Device` if the device fails: [`DeviceError::Failed`] says what can be done.
     pub fn stage<A: Allocator>(&mut self, frame: &Frame<A>) -> Result<(), JournalError>
         requires { IsSettled D.seen D.may_leave self.old.device self.old.format self.old.end }
 
@@ -188,7 +188,7 @@ impl<D: Device> Journal<D> {
     /// Opens the gate of the record that was staged. On `Ok` it is acknowledged: from then on each crash leaves a file that has it.
     ///
     /// # Errors
-    /// The device's. The record may or may not count: open the file again.
+    /// The device's. The record may or may not count: [`DeviceError::Failed`] says what can be done.
     pub fn commit<A: Allocator>(&mut self, frame: &Frame<A>) -> Result<(), DeviceError>
         requires { IsStaged D.seen D.may_leave self.old.device self.old.format self.old.end (payload_of frame.now) }
 
@@ -220,7 +220,7 @@ impl<D: Device> Journal<D> {
     ///
     /// # Errors
     /// `Full` if the records end after `MAX_END`: nothing is written. `NoRoom` as of `stage`. `Device` if the device fails: the record may or
-    /// may not count; open the file again.
+    /// may not count, and [`DeviceError::Failed`] says what can be done.
     pub fn append<A: Allocator>(&mut self, frame: &Frame<A>) -> Result<(), JournalError>
         requires { IsSettled D.seen D.may_leave self.old.device self.old.format self.old.end }
 
@@ -264,7 +264,7 @@ impl<D: ReplaceDevice> Journal<D> {
     ///
     /// # Errors
     /// `Kept` if the records are those from before, and the journal goes on. `Failed` if they are those or the new ones: open the
-    /// file again.
+    /// file again, and replace its bytes with what is read.
     pub fn replace<A: Allocator>(&mut self, image: &Image<A>) -> Result<(), ReplaceError>
         requires { IsSettled D.seen D.may_leave self.old.device self.old.format self.old.end }
 

@@ -11,7 +11,7 @@ use std::alloc::AllocError;
 pub enum ReplaceError {
     /// Nothing was replaced. The device is as it was, and can still be used.
     Kept(DeviceError),
-    /// The disk failed. It has the old bytes or the new ones: open the file again.
+    /// The disk failed. It has the old bytes or the new ones: open the file again, and replace its bytes with what is read.
     Failed,
 }
 
