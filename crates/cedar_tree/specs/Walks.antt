@@ -10,6 +10,10 @@ use Rattle.cedar_tree.specs.Queries.{Entry}
 abbrev pub front_from : Tree → List ℕ → ℕ → List (ℤ × ℕ)
 front_from t q place = filter_map (λ n. option_map (λ v. (v, n)) (number_at t (take (n + 1) q))) (range_with_len place (length q - place))
 
+-- what `front` has for a position: the number at the first n + 1 bytes of q, and n, or nothing where no number is there
+abbrev pub front_at : Tree → List ℕ → ℕ → Option (ℤ × ℕ)
+front_at t q n = option_map (λ v. (v, n)) (number_at t (take (n + 1) q))
+
 -- a node that a walk comes to: its path, and its number if it has one
 abbrev pub Visit : Type 0
 Visit = List ℕ × Option ℤ
@@ -52,3 +56,7 @@ visits_after t (label ∷ up) =
 -- not yet below it
 abbrev pub visits_left : Tree → List ℕ → List Visit
 visits_left t up = map (visit_from (forwards up)) (visits_below (node_up t up).children) ++ visits_after t up
+
+-- all nodes of a tree, as a walk from its root on visits them
+abbrev pub tree_visits : Tree → List Visit
+tree_visits t = ([], t.number) ∷ visits_left t []
