@@ -155,6 +155,10 @@ pub record IsFreePlace (table : PlaceFields) (slot : ℕ) : Type 0 where
 abbrev pub NoneFree : PlaceFields → Type 0
 NoneFree table = (slot : ℕ) → 0 < slot / 256 → slot / 256 < table.blocks.active → is_free table.slots.nodes slot ≡ false
 
+-- the block b has come into use, where no slot outside block 0 was free
+abbrev pub AddsNeededBlock : PlaceFields → PlaceFields → ℕ → Type 0
+AddsNeededBlock before after b = NoneFree before × AddsBlock before after b
+
 -- the block b is in the open list
 pub record IsOpenBlock (blocks : BlockFields) (b : ℕ) : Type 0 where
   pub not_root : 0 < b
