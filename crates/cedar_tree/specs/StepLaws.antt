@@ -1,11 +1,13 @@
 -- The laws by which puts, cuts and walks go along a path one node at a time, each as a statement. Functions of this crate have them as
 -- their contracts.
-use Rattle.std.specs.Prelude.{◌≡◌, ℕ, ℤ, Bool, true, false, List, [], ◌∷◌, ◌++◌, ◌⊎◌, Option, None}
+use Rattle.std.specs.Prelude.{◌≡◌, ℕ, ℤ, Bool, true, false, List, [], ◌∷◌, ◌++◌, ◌⊎◌, length, map}
+use Rattle.std.specs.Prelude.{Option, None}
 use Rattle.cedar_tree.specs.Tree.{Forest, child, Tree, empty_tree, has_label, subtree, number_at, put}
 use Rattle.cedar_tree.specs.Tree.{is_bare, without, cut, IsSoundBelow, IsAscending}
-use Rattle.cedar_tree.specs.Queries.{node_at}
+use Rattle.cedar_tree.specs.Queries.{node_at, predict}
 use Rattle.cedar_tree.specs.Edits.{HasPath, with_leaf, without_leaf, without_number}
-use Rattle.cedar_tree.specs.Walks.{behind, forwards, node_up, visits_after, visits_left}
+use Rattle.cedar_tree.specs.Walks.{behind, forwards, node_up, tree_visits, visited_entries}
+use Rattle.cedar_tree.specs.Walks.{visits_after, visits_left}
 
 -- the node that a leaf was taken from lacks its label, and is otherwise as it was
 abbrev pub CutLeafChangesItsNode : Type 0
@@ -78,3 +80,9 @@ abbrev pub WalkGoesRight : Type 0
 WalkGoesRight =
     (t : Tree) (up : List ℕ) (l : ℕ) (m : ℕ) (n : Option ℤ) (below : Forest) (rest : Forest) → IsSoundBelow (node_up t up).children
     → behind (node_up t up).children l ≡ child m n below rest → visits_after t (l ∷ up) ≡ (forwards (m ∷ up), n) ∷ visits_left t (m ∷ up)
+
+-- from the node of a query on, a walk over all nodes of a sound tree visits what is predicted for the query
+abbrev pub WalkVisitsPredicted : Type 0
+WalkVisitsPredicted =
+    (t : Tree) (q : List ℕ) → IsSoundBelow t.children
+    → predict t q ≡ map (λ entry. (entry.1, length entry.0)) (visited_entries (tree_visits (node_at t q)))

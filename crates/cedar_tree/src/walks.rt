@@ -1,12 +1,12 @@
 //! Laws of walks that are under way.
 
-ghost use Rattle.std.specs.Prelude.{◌+◌, ◌-◌, ◌<◌, ◌∷◌, ◌≡◌, ◌≤◌, [], false, length, List, map};
+ghost use Rattle.std.specs.Prelude.{[], ◌+◌, ◌-◌, ◌<◌, ◌∷◌, ◌≡◌, ◌≤◌, false, length, List};
 ghost use Rattle.std.specs.Prelude.{slice_index, take, ℕ};
 ghost use Rattle.cedar_tree.specs.Words.{behind, cons_option, empty_tree, forwards, front};
-ghost use Rattle.cedar_tree.specs.Words.{front_at, front_from, has_label, IsSoundBelow, node_at};
-ghost use Rattle.cedar_tree.specs.Words.{node_up, none, predict, subtree, Tree, tree_visits};
-ghost use Rattle.cedar_tree.specs.Words.{visited_entries, visits_after, visits_left, walk};
-ghost use Rattle.cedar_tree.specs.Words.{WalkGoesDown, WalkGoesRight};
+ghost use Rattle.cedar_tree.specs.Words.{front_at, front_from, has_label, node_at, node_up, none};
+ghost use Rattle.cedar_tree.specs.Words.{subtree, Tree, tree_visits, visited_entries, visits_after};
+ghost use Rattle.cedar_tree.specs.Words.{visits_left, walk, WalkGoesDown, WalkGoesRight};
+ghost use Rattle.cedar_tree.specs.Words.{WalkVisitsPredicted};
 
 /// A walk over all nodes goes on to the first child of its node, or otherwise to the sibling after it, or otherwise to the one after
 /// the nearest node above that has one. The walk from there on is then what it has left.
@@ -26,7 +26,7 @@ pub fn walks_begin()
     ensures entries { (t : Tree) → walk t ≡ visited_entries (tree_visits t) }
 
     //= From the node of a query on it visits what is predicted for it (sound tree).
-    ensures predicted { (t : Tree) (q : List ℕ) → IsSoundBelow t.children → predict t q ≡ map (λ entry. (entry.1, length entry.0)) (visited_entries (tree_visits (node_at t q))) }
+    ensures predicted { WalkVisitsPredicted }
 
     //= The node at the end of a climbed path is that of the path reversed.
     ensures nodes { (t : Tree) (up : List ℕ) → node_up t up ≡ node_at t (forwards up) }
