@@ -1,6 +1,6 @@
 -- What holds of a table between any two of its operations.
 use Rattle.std.specs.Prelude.{bit_xor, ◌≡◌, ℕ, ◌+◌, ◌*◌, ◌/◌, ◌^◌, ◌<◌, ◌≤◌, ◌≤ℤ◌, ℤ, true, false}
-use Rattle.std.specs.Prelude.{cond, ◌==◌, List, [], ◌∷◌, length, pos, replicate, slice_index_or}
+use Rattle.std.specs.Prelude.{◌⊎◌, cond, ◌==◌, List, [], ◌∷◌, length, pos, replicate, slice_index_or}
 use Rattle.cedar_slots.specs.Blocks.{blank_block, block_at, BlockFields, counts_at}
 use Rattle.cedar_slots.specs.Blocks.{HasLists, head_of, kind_of, Sized}
 use Rattle.cedar_slots.specs.declared.blocks.BlockType.{BlockType}
@@ -183,6 +183,10 @@ pub record SameSlots (before after : PlaceFields) : Type 0 where
   pub active : after.blocks.active ≡ before.blocks.active
   pub len : length after.blocks.records ≡ length before.blocks.records
   pub max_trial : after.blocks.max_trial ≡ before.blocks.max_trial
+
+-- the slots are the same, or the block b has come into use
+abbrev pub KeepsOrAdds : PlaceFields → PlaceFields → ℕ → Type 0
+KeepsOrAdds before after b = SameSlots before after ⊎ AddsBlock before after b
 
 -- the first block, in which the root alone is held
 abbrev pub root_block : BlockRecord

@@ -5,9 +5,9 @@ pub use Rattle.cedar_slots.specs.Blocks.{next_at, Popped, prev_at, PutsFirst, Sa
 pub use Rattle.cedar_slots.specs.Counting.{SetsCounts}
 pub use Rattle.cedar_slots.specs.Places.{AddsBlock, AddsNeededBlock, FreesSlot, Grown, IsBase}
 pub use Rattle.cedar_slots.specs.Places.{IsFreePlace, IsNewPlaces, IsOpenBlock, IsPowerOfTwo}
-pub use Rattle.cedar_slots.specs.Places.{IsSlotLimit, IsStart, MayRefuse, NoneFree, reject_at}
-pub use Rattle.cedar_slots.specs.Places.{Rejects, room_for_one, SameSlots, Shaped, Sound, TakesSlot}
-pub use Rattle.cedar_slots.specs.Places.{Within}
+pub use Rattle.cedar_slots.specs.Places.{IsSlotLimit, IsStart, KeepsOrAdds, MayRefuse, NoneFree}
+pub use Rattle.cedar_slots.specs.Places.{reject_at, Rejects, room_for_one, SameSlots, Shaped, Sound}
+pub use Rattle.cedar_slots.specs.Places.{TakesSlot, Within}
 pub use Rattle.cedar_slots.specs.Ring.{occurs}
 pub use Rattle.cedar_slots.specs.Slots.{AllFree, base_at, blank_info, check_at, given_after}
 pub use Rattle.cedar_slots.specs.Slots.{given_alone, is_free, node_record_at}

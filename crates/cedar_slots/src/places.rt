@@ -46,10 +46,10 @@ impl<A: Allocator> Places<A> {
     ghost use Rattle.cedar_slots.specs.Words.{AddsBlock, AddsNeededBlock, blocks_of, counts_at};
     ghost use Rattle.cedar_slots.specs.Words.{FreesSlot, Grown, is_free, IsBase, IsFreePlace};
     ghost use Rattle.cedar_slots.specs.Words.{IsNewPlaces, IsOpenBlock, IsPowerOfTwo, IsSlotLimit};
-    ghost use Rattle.cedar_slots.specs.Words.{IsStart, MayRefuse, node_record_at, NoneFree};
-    ghost use Rattle.cedar_slots.specs.Words.{places_of, range_with_len, reject_at, Rejects};
-    ghost use Rattle.cedar_slots.specs.Words.{room_for_one, SameSlots, Shaped, slots_of, Sound};
-    ghost use Rattle.cedar_slots.specs.Words.{TakesSlot, TriesAtMost, Within};
+    ghost use Rattle.cedar_slots.specs.Words.{IsStart, KeepsOrAdds, MayRefuse, node_record_at};
+    ghost use Rattle.cedar_slots.specs.Words.{NoneFree, places_of, range_with_len, reject_at};
+    ghost use Rattle.cedar_slots.specs.Words.{Rejects, room_for_one, SameSlots, Shaped, slots_of};
+    ghost use Rattle.cedar_slots.specs.Words.{Sound, TakesSlot, TriesAtMost, Within};
 
     /// One block, in which the root alone is held.
     pub fn new(alloc: A, root: NodeRecord, max_trial: i32) -> Result<Places<A>, AllocError>
@@ -486,7 +486,7 @@ impl<A: Allocator> Places<A> {
         ensures found { IfOk result (λ base. IsBase (places_of self.new) base labels.now) }
 
         //= It leaves all slots as they were, or makes one block; after a refusal all slots are as they were. [with err]
-        ensures made { IfOk result (λ base. SameSlots (places_of self.old) (places_of self.new) ⊎ AddsBlock (places_of self.old) (places_of self.new) (base / 256)) }
+        ensures made { IfOk result (λ base. KeepsOrAdds (places_of self.old) (places_of self.new) (base / 256)) }
 
         //= It fails as `add_block` does.
         ensures refused { IfErr result (λ error. MayRefuse (places_of self.old) slots error) }

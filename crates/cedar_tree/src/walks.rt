@@ -1,6 +1,6 @@
 //! Laws of walks that are under way.
 
-ghost use Rattle.std.specs.Prelude.{[], ◌+◌, ◌-◌, ◌<◌, ◌∷◌, ◌≡◌, ◌≤◌, false, length, List};
+ghost use Rattle.std.specs.Prelude.{◌+◌, ◌-◌, ◌<◌, ◌∷◌, ◌≡◌, ◌≤◌, [], false, length, List};
 ghost use Rattle.std.specs.Prelude.{slice_index, take, ℕ};
 ghost use Rattle.cedar_tree.specs.Words.{behind, cons_option, empty_tree, forwards, front};
 ghost use Rattle.cedar_tree.specs.Words.{front_at, front_from, has_label, node_at, node_up, none};
