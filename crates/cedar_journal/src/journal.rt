@@ -62,8 +62,8 @@ impl<D: Device> Journal<D> {
         requires extent { HasExtent (D.seen device) extent }
 
         //= An opened journal is at rest and on the disk, and represents the payloads that the file represented. [also open_read]
-        ensures settled { IfOk result (λ journal. IsSettled D.seen D.may_leave journal.device journal.format journal.end
-            × SamePayloads (D.seen device) (D.seen journal.device)) }
+        ensures settled { IfOk result (λ opened. IsSettled D.seen D.may_leave opened.device opened.format opened.end
+            × SamePayloads (D.seen device) (D.seen opened.device)) }
 
         //= A crash at any moment while it is opened leaves the same payloads, and never a file of another kind; even if a device fails.
         //  [with any_moment_err; also open_read]
@@ -106,8 +106,8 @@ impl<D: Device> Journal<D> {
         requires restarted { Only (D.seen device) (D.may_leave device) }
         requires extent { HasExtent (D.seen device) extent }
         requires bytes { bytes.now ≡ D.seen device }
-        ensures settled { IfOk result (λ journal. IsSettled D.seen D.may_leave journal.device journal.format journal.end
-            × SamePayloads (D.seen device) (D.seen journal.device)) }
+        ensures settled { IfOk result (λ opened. IsSettled D.seen D.may_leave opened.device opened.format opened.end
+            × SamePayloads (D.seen device) (D.seen opened.device)) }
         ensures any_moment { IfOk result (λ journal. LeavesOnly D.moment D.left_since device journal.device
             (SamePayloads (D.seen device))) }
         ensures any_moment_err { IfErr result (λ e. LeavesOnly D.moment D.left_since device e.1
