@@ -10,10 +10,6 @@ use Rattle.cedar_tree.specs.Queries.{Entry}
 abbrev pub front_from : Tree → List ℕ → ℕ → List (ℤ × ℕ)
 front_from t q place = filter_map (λ n. option_map (λ v. (v, n)) (number_at t (take (n + 1) q))) (range_with_len place (length q - place))
 
--- what `front` has for a position: the number at the first n + 1 bytes of q, and n, or nothing where no number is there
-abbrev pub front_at : Tree → List ℕ → ℕ → Option (ℤ × ℕ)
-front_at t q n = option_map (λ v. (v, n)) (number_at t (take (n + 1) q))
-
 -- a node that a walk comes to: its path, and its number if it has one
 abbrev pub Visit : Type 0
 Visit = List ℕ × Option ℤ

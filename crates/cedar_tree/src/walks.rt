@@ -2,8 +2,8 @@
 
 ghost use Rattle.std.specs.Prelude.{◌+◌, ◌-◌, ◌<◌, ◌∷◌, ◌≡◌, ◌≤◌, [], false, length, List};
 ghost use Rattle.std.specs.Prelude.{slice_index, take, ℕ};
-ghost use Rattle.cedar_tree.specs.Words.{behind, cons_option, empty_tree, forwards, front};
-ghost use Rattle.cedar_tree.specs.Words.{front_at, front_from, has_label, node_at, node_up, none};
+ghost use Rattle.cedar_tree.specs.Words.{behind, cons_option, empty_tree, forwards, found_at};
+ghost use Rattle.cedar_tree.specs.Words.{front, front_from, has_label, node_at, node_up, none};
 ghost use Rattle.cedar_tree.specs.Words.{subtree, Tree, tree_visits, visited_entries, visits_after};
 ghost use Rattle.cedar_tree.specs.Words.{visits_left, walk, WalkGoesDown, WalkGoesRight};
 ghost use Rattle.cedar_tree.specs.Words.{WalkVisitsPredicted};
@@ -36,7 +36,7 @@ pub fn walks_begin()
 pub fn front_goes_on()
     //= The prefix walk goes on a byte at a time and ends at the query's end. [with more, node, ends]
     ensures begins { (t : Tree) (q : List ℕ) → front_from t q 0 ≡ front t q }
-    ensures more { (t : Tree) (q : List ℕ) (n : ℕ) → n < length q → front_from t q n ≡ cons_option (front_at t q n) (front_from t q (n + 1)) }
+    ensures more { (t : Tree) (q : List ℕ) (n : ℕ) → n < length q → front_from t q n ≡ cons_option (found_at t q n) (front_from t q (n + 1)) }
     ensures node { (t : Tree) (q : List ℕ) (n : ℕ) → n < length q → node_at t (take (n + 1) q) ≡ subtree (node_at t (take n q)).children (slice_index q n) }
 
     //= It ends if no node is reached, and then the query has none. [with gone]
