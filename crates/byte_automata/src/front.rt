@@ -1,8 +1,8 @@
 //! Keys that begin with what another automaton accepts.
 
 ghost use Rattle.std.specs.Prelude.{◌≡◌};
-ghost use Rattle.byte_automata.specs.Words.{front_after, front_may_match, front_prunes, front_tells};
-ghost use Rattle.byte_automata.specs.Words.{has_front, is_none, without_match};
+ghost use Rattle.byte_automata.specs.Words.{front_after, front_may_match, front_prunes};
+ghost use Rattle.byte_automata.specs.Words.{front_tells, has_front, is_none, without_match};
 
 use crate::Automaton;
 

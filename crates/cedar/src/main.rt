@@ -47,11 +47,11 @@ fn answer(rt: &HostRuntime, texts: &[&str]) -> ExitCode {
     if is_alone(arguments, "--version") {
         return print(rt, VERSION);
     }
-    answer_script(rt, called(name), arguments)
+    answer_script(rt, program_name(name), arguments)
 }
 
 /// The name that messages begin with: the program's own, whatever path it was started by.
-fn called(path: &str) -> &'static str {
+fn program_name(path: &str) -> &'static str {
     if path.ends_with(REDUCED_NAME) {
         REDUCED_NAME
     } else {

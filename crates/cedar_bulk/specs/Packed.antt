@@ -1,14 +1,14 @@
 -- How full the blocks of a table are that is made of sorted pairs. One slot alone goes wherever a slot is free. So
 -- blocks are made for nodes that take several slots at once, or if all blocks but the first are full.
 use Rattle.std.specs.Prelude.{◌≡◌, ◌⊎◌, ℕ, ◌+◌, ◌*◌, ◌≤◌, nat_lt, cond, ℤ, List, []}
-use Rattle.std.specs.Prelude.{◌∷◌, ◌++◌, length, Option}
+use Rattle.std.specs.Prelude.{◌∷◌, ◌++◌, length, Option, option_to_list}
 use Rattle.cedar_model.specs.Tree.{Forest, none, child, Tree}
 use Rattle.cedar_bulk.specs.declared.spans.Span.{Span}
 use Rattle.cedar_model.specs.Edit.Packing.{Packs, TakesOne}
 use Rattle.cedar_model.specs.Meaning.StandsFor.{labels}
 use Rattle.cedar_model.specs.Table.TableFields.{Fields}
 use Rattle.cedar_bulk.specs.Sorted.{entries_by, slot_labels}
-use Rattle.cedar_bulk.specs.Spans.{Filling, IsTreeOfSpan, Part}
+use Rattle.cedar_bulk.specs.Spans.{Filling, IsTreeOfSpan, Part, part_of, parts_of}
 
 -- ---- the tree
 
@@ -66,3 +66,8 @@ PacksTail slots before after s =
 -- a turn leaves as few slots free: a table on its way with these spans that has few free slots has few with those
 abbrev pub PacksTurn : ℕ → Fields → Fields → List Part → List Part → Type 0
 PacksTurn slots before after parts left = (g : Forest) (most : ℕ) → Filling slots before parts g most → Packed before parts g → Packed after left g
+
+-- the turn of a span that comes behind those that wait leaves as few slots free (`PacksTurn`)
+abbrev pub PacksNext : {K : Type 0} → (K → List ℕ) → ℕ → Fields → Fields → List (Span K) → Span K → List (Span K) → Option (Span K) → Type 0
+PacksNext bytes slots before after waiting span left next =
+    PacksTurn slots before after (parts_of bytes waiting ++ part_of bytes span ∷ []) (parts_of bytes (left ++ option_to_list next))

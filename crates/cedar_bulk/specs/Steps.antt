@@ -1,6 +1,6 @@
 -- What the steps of a build do.
 use Rattle.std.specs.Prelude.{◌≡◌, ◌⊎◌, ◌+◌, ◌*◌, ◌<◌, ◌≤◌, ℕ, ℤ, drop, length, List, [], ◌∷◌}
-use Rattle.std.specs.Prelude.{◌++◌, map, None, Option, Some, take, true}
+use Rattle.std.specs.Prelude.{◌++◌, map, None, Option, option_to_list, Some, take, true}
 use Rattle.cedar_model.specs.Tree.{Forest, IsAscending, none, Tree}
 use Rattle.cedar_model.specs.Queries.{Entry, prefixes}
 use Rattle.cedar_model.specs.Edits.{add_leaf, edit_at}
@@ -16,7 +16,8 @@ use Rattle.cedar_model.specs.Table.TableFields.{capacity_of, Fields, size_of}
 use Rattle.cedar_bulk.specs.declared.spans.Span.{Span}
 use Rattle.cedar_bulk.specs.Sorted.{entries_by, Fills}
 use Rattle.cedar_bulk.specs.SortedMarks.{KeepsOwn}
-use Rattle.cedar_bulk.specs.Spans.{based_at, Covers, Filling, IsTreeOfSpan, Part, parts_of, work}
+use Rattle.cedar_bulk.specs.Spans.{based_at, Covers, Filling, IsTreeOfSpan, Part, part_of, parts_of}
+use Rattle.cedar_bulk.specs.Spans.{work}
 
 -- ---- one node
 
@@ -85,6 +86,12 @@ WantsMore slots T s = (ps : List Part) (g : Forest) (most : ℕ) → Filling slo
 abbrev pub TakesTurn : ℕ → Fields → Fields → List Part → List Part → Type 0
 TakesTurn slots before after parts left =
     (g : Forest) (most : ℕ) → Filling slots before parts g most → Filling slots after left g most × (work left < work parts)
+
+-- the turn of a span that comes behind those that wait leaves others that wait, and the span whose turn is next, if there is one
+-- (`TakesTurn`)
+abbrev pub TurnsNext : {K : Type 0} → (K → List ℕ) → ℕ → Fields → Fields → List (Span K) → Span K → List (Span K) → Option (Span K) → Type 0
+TurnsNext bytes slots before after waiting span left next =
+    TakesTurn slots before after (parts_of bytes waiting ++ part_of bytes span ∷ []) (parts_of bytes (left ++ option_to_list next))
 
 -- ---- the whole
 

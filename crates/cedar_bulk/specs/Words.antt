@@ -1,7 +1,7 @@
 -- The words of clauses, from one place.
 pub use Rattle.cedar_bulk.specs.Asked.{IsUnfilled, WantsBase, WantsChain, WantsLabel}
 pub use Rattle.cedar_bulk.specs.Asked.{WantsLabels, WantsNumber, WantsSlots}
-pub use Rattle.cedar_bulk.specs.Packed.{count_crowded_forest, IsPacked, PacksSpan}
+pub use Rattle.cedar_bulk.specs.Packed.{count_crowded_forest, IsPacked, PacksNext, PacksSpan}
 pub use Rattle.cedar_bulk.specs.Packed.{PacksTail, PacksTurn}
 pub use Rattle.cedar_bulk.specs.Sorted.{entries_by, Fills, GetsBase, GetsLabels, GetsNumber}
 pub use Rattle.cedar_bulk.specs.Sorted.{GoesLast, run, slot_labels}
@@ -11,8 +11,8 @@ pub use Rattle.cedar_bulk.specs.Spans.{IsTreeOfSpan, Lists, Part, part_of, parts
 pub use Rattle.cedar_bulk.specs.Steps.{AddsChildren, AddsSpans, AppendsLeaf, based_behind}
 pub use Rattle.cedar_bulk.specs.Steps.{CoversChildren, EndsFilling, FillsSpan, FillsTail}
 pub use Rattle.cedar_bulk.specs.Steps.{HasBlocksFor, KeepsOwnOf, LacksMemoryOr, OfTree, StaysBare}
-pub use Rattle.cedar_bulk.specs.Steps.{StaysOwn, TakesTurn, WantsMore, WantsMoreThan}
-pub use Rattle.cedar_model.specs.Edit.NodeEdits.{IsAt, LinkedBehind, LinkedChild}
+pub use Rattle.cedar_bulk.specs.Steps.{StaysOwn, TurnsNext, WantsMore, WantsMoreThan}
+pub use Rattle.cedar_model.specs.Edit.NodeEdits.{IsAt, LinksIn}
 pub use Rattle.cedar_model.specs.Edit.Packing.{MakesIfFull, Packs, TakesOne}
 pub use Rattle.cedar_model.specs.Edit.Steps.{MakesBlocks, SameModes}
 pub use Rattle.cedar_model.specs.Meaning.Family.{base_of, below}

@@ -3,9 +3,8 @@
 ghost use Rattle.std.specs.Prelude.{◌++◌, ◌<◌, ◌∷◌, ◌≡◌, ◌≢◌, ◌⊎◌, [], bit_xor, List};
 ghost use Rattle.std.specs.Prelude.{MatchOption, pos, ℕ};
 ghost use Rattle.cedar_bulk.specs.Words.{AppendsLeaf, AtBase, below, capacity_of, cells, fields};
-ghost use Rattle.cedar_bulk.specs.Words.{GetsLabels, Held, IsAt, IsTable, LinkedBehind};
-ghost use Rattle.cedar_bulk.specs.Words.{LinkedChild, SameFrame, SameSettings, size_of};
-ghost use Rattle.cedar_bulk.specs.Words.{WantsLabel, WantsLabels};
+ghost use Rattle.cedar_bulk.specs.Words.{GetsLabels, Held, IsAt, IsTable, LinksIn, SameFrame};
+ghost use Rattle.cedar_bulk.specs.Words.{SameSettings, size_of, WantsLabel, WantsLabels};
 
 use cedar_table::{Layout, Table};
 use std::alloc::Allocator;
@@ -34,7 +33,7 @@ fn link_last<L: Layout, const SLOTS: usize, A: Allocator>(
     requires last { MatchOption before ((cells table.old).child node ≡ 0) (λ b. (cells table.old).sibling b ≡ 0) }
     requires fresh { (cells table.old).sibling slot ≡ 0 }
     ensures sound { IsTable SLOTS (fields table.new).places }
-    ensures linked { MatchOption before (LinkedChild (cells table.old) (cells table.new) node slot label) (λ b. LinkedBehind (cells table.old) (cells table.new) b slot label) }
+    ensures linked { LinksIn (cells table.old) (cells table.new) before node slot label }
     ensures frame { SameFrame (fields table.old) (fields table.new) }
 {
     match before {

@@ -11,10 +11,10 @@ ghost use Rattle.cedar_bulk.specs.Words.{GoesOnAlike, HasBlocksFor, HoldsTree, i
 ghost use Rattle.cedar_bulk.specs.Words.{IsSlotLimit, IsTable, IsTreeOfSpan, IsUnfilled};
 ghost use Rattle.cedar_bulk.specs.Words.{IsWellFormed, KeepsOwnOf, labels, LacksMemoryOr};
 ghost use Rattle.cedar_bulk.specs.Words.{MakesBlocks, marks, MayRefuse, none, OfTree, Packs};
-ghost use Rattle.cedar_bulk.specs.Words.{PacksSpan, PacksTail, PacksTurn, Part, part_of, parts_of};
-ghost use Rattle.cedar_bulk.specs.Words.{prefixes, prefixes_forest, SameModes, SameSettings};
-ghost use Rattle.cedar_bulk.specs.Words.{size_of, SlotLimit, SortedMarks, TakesOne, TakesTurn};
-ghost use Rattle.cedar_bulk.specs.Words.{Tree, tree_of, WantsMore, WantsMoreThan};
+ghost use Rattle.cedar_bulk.specs.Words.{PacksNext, PacksSpan, PacksTail, PacksTurn, Part, part_of};
+ghost use Rattle.cedar_bulk.specs.Words.{parts_of, prefixes, prefixes_forest, SameModes};
+ghost use Rattle.cedar_bulk.specs.Words.{SameSettings, size_of, SlotLimit, SortedMarks, TakesOne};
+ghost use Rattle.cedar_bulk.specs.Words.{Tree, tree_of, TurnsNext, WantsMore, WantsMoreThan};
 
 use crate::fill::{fill_node, name_alone};
 use crate::spans::{
@@ -152,11 +152,11 @@ fn fill_turn<'a, L: Layout, const SLOTS: usize, A: Allocator, K: AsSlice<u8>>(
     pending: &mut Vec<Span<'a, K>, A>,
 ) -> Result<Option<Span<'a, K>>, Shortage>
     requires filling { (g : Forest) × (most : ℕ) × Filling SLOTS (fields table.old) (parts_of K.items pending.old.items ++ part_of K.items span ∷ []) g most }
-    ensures turn { IfOk result (λ next. TakesTurn SLOTS (fields table.old) (fields table.new) (parts_of K.items pending.old.items ++ part_of K.items span.entry ∷ []) (parts_of K.items (pending.new.items ++ option_to_list next))) }
+    ensures turn { IfOk result (TurnsNext K.items SLOTS (fields table.old) (fields table.new) pending.old.items span.entry pending.new.items) }
     ensures last { IfOk result (λ next. next ≡ None → length pending.new.items ≡ 0) }
     ensures refused { IfErr result (LacksMemoryOr (WantsMoreThan SLOTS (fields table.old) (parts_of K.items pending.old.items ++ part_of K.items span.entry ∷ []))) }
     ensures blocks { (n : ℕ) × MakesBlocks n (fields table.old) (fields table.new) }
-    ensures packs { IfOk result (λ next. PacksTurn SLOTS (fields table.old) (fields table.new) (parts_of K.items pending.old.items ++ part_of K.items span.entry ∷ []) (parts_of K.items (pending.new.items ++ option_to_list next))) }
+    ensures packs { IfOk result (PacksNext K.items SLOTS (fields table.old) (fields table.new) pending.old.items span.entry pending.new.items) }
     ensures root_check { (cells table.new).check 0 ≡ (cells table.old).check 0 }
     ensures settings { SameSettings (fields table.old) (fields table.new) }
 {

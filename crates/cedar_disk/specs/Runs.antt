@@ -7,12 +7,17 @@ use Rattle.std_io.specs.declared.io.kind.ErrorKind.{ErrorKind}
 use Rattle.std_io.specs.declared.io.kind.ErrorKind.TheVariants.{FileTooLarge, Interrupted}
 use Rattle.std_io.specs.declared.io.kind.ErrorKind.TheVariants.{QuotaExceeded, StorageFull}
 use Rattle.std_io.specs.IoError.{error_kind}
-use Rattle.cedar_journal.specs.Device.{Elapses, Follows, Torn}
+use Rattle.cedar_journal.specs.Device.{Elapses, Follows, HasCause, Torn}
+use Rattle.cedar_journal.specs.declared.device.DeviceError.{DeviceError}
 use Rattle.cedar_disk.specs.Calls.{Call, LeftSince, MayLeave, all_within, faults_in, full_call}
 use Rattle.cedar_disk.specs.Calls.{full_in, interrupted_call, is_named_after, is_usable_after}
 use Rattle.cedar_disk.specs.Calls.{folder_sync_call, overlay, rename_call, seen_after, write_call}
 use Rattle.cedar_disk.specs.declared.wrote.Wrote.{Wrote}
 use Rattle.cedar_disk.specs.declared.wrote.Wrote.TheVariants.{Bytes, Nothing, Full, Failed}
+
+-- what is counted in the calls of a step: its error, and nothing if it succeeds (`HasCause`)
+abbrev pub HasCauseIn : {T : Type 0} → List Call → List Call → Result T DeviceError → Type 0
+HasCauseIn before after result = HasCause (faults_in before) (faults_in after) (full_in before) (full_in after) result
 
 -- a write of these bytes at this offset as it is noted, by what the system took: exactly these bytes; any of them may
 -- be there; or none, if a signal came first or it found no room

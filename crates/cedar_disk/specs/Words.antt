@@ -11,13 +11,13 @@ pub use Rattle.cedar_disk.specs.Names.{compaction_path, HasNoSlash, LiesBeside, 
 pub use Rattle.cedar_disk.specs.Names.{new_suffix}
 pub use Rattle.cedar_disk.specs.Openings.{opened_any, opened_as, opened_existing, opened_folder}
 pub use Rattle.cedar_disk.specs.Openings.{opened_new, opened_to_read, path_of, way_of}
-pub use Rattle.cedar_disk.specs.Runs.{AreWritten, AreWrittenInPart, IsAnswered, IsUnplaced}
-pub use Rattle.cedar_disk.specs.Runs.{Spoils, TimePasses, TookSome, write_by_outcome}
+pub use Rattle.cedar_disk.specs.Runs.{AreWritten, AreWrittenInPart, HasCauseIn, IsAnswered}
+pub use Rattle.cedar_disk.specs.Runs.{IsUnplaced, Spoils, TimePasses, TookSome, write_by_outcome}
 pub use Rattle.cedar_disk.specs.Sending.{address, IsNoFile, IsSentTo, told_after}
 pub use Rattle.cedar_disk.specs.Whole.{IsPlaced, IsWholeBeside, IsUnplacedAt, PathLeaves}
 pub use Rattle.cedar_disk.specs.Whole.{HasJustTaken, WholeFilesAreSafe, asked_after}
 pub use Rattle.cedar_disk.specs.declared.system.OpenError.TheVariants.{Memory}
-pub use Rattle.cedar_journal.specs.Device.{Cut, Follows, HasCause, LeavesOnly, Only, Torn}
+pub use Rattle.cedar_journal.specs.Device.{Cut, Follows, LeavesOnly, Only, Torn}
 pub use Rattle.std.specs.Borrow.{ftrue}
 pub use Rattle.std.specs.Io.{WritesAtMost}
 pub use Rattle.std.specs.Io.KnownBytes.{Keeps, WriteAppends}

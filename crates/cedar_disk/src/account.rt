@@ -3,11 +3,10 @@
 ghost use Rattle.std.specs.Prelude.{◌≡◌, ◌<◌, ◌≤◌, ◌⊎◌, ◌∷◌, [], false, IsErrOf, IsTrue, length};
 ghost use Rattle.std.specs.Prelude.{List, OnErr, OnOk, take, true, ℕ};
 ghost use Rattle.cedar_disk.specs.Words.{all_within, compaction_path, Cut, faults_in, Follows};
-ghost use Rattle.cedar_disk.specs.Words.{full_in, TimePasses, HasCause, is_locked_after};
-ghost use Rattle.cedar_disk.specs.Words.{is_named_after, is_usable_after, LeavesOnly, LeftSince};
-ghost use Rattle.cedar_disk.specs.Words.{lock_call};
+ghost use Rattle.cedar_disk.specs.Words.{HasCauseIn, is_locked_after, is_named_after};
+ghost use Rattle.cedar_disk.specs.Words.{is_usable_after, LeavesOnly, LeftSince, lock_call};
 ghost use Rattle.cedar_disk.specs.Words.{MayLeave, Only, open_call, overlay, refused_call};
-ghost use Rattle.cedar_disk.specs.Words.{seen_after, Torn};
+ghost use Rattle.cedar_disk.specs.Words.{seen_after, TimePasses, Torn};
 ghost use Rattle.cedar_disk.specs.NotedFiles.{is_beside, noted_calls};
 
 use crate::noted::{Noted, Place};
@@ -87,7 +86,7 @@ impl<T: Read + Write + Seek + OpenFile + Drop> Account<T> {
         ensures no_room { IsErrOf result DeviceError.NoRoom → Torn at (length bytes.now) (seen_after (calls_of self.old)) (seen_after (calls_of self.new)) }
         ensures crash { Follows (Torn at (length bytes.now)) (MayLeave (calls_of self.old)) (MayLeave (calls_of self.new)) }
         ensures time { TimePasses (calls_of self.old) (calls_of self.new) }
-        ensures cause { HasCause (faults_in (calls_of self.old)) (faults_in (calls_of self.new)) (full_in (calls_of self.old)) (full_in (calls_of self.new)) result }
+        ensures cause { HasCauseIn (calls_of self.old) (calls_of self.new) result }
     {
         self.is_dirty = true;
         match write_all(&mut self.file, at, bytes) {
@@ -107,7 +106,7 @@ impl<T: Read + Write + Seek + OpenFile + Drop> Account<T> {
         ensures written { OnOk result (seen_after (calls_of self.new) ≡ overlay (seen_after (calls_of self.old)) at bytes.now) }
         ensures crash { Follows (Torn at (length bytes.now)) (MayLeave (calls_of self.old)) (MayLeave (calls_of self.new)) }
         ensures time { TimePasses (calls_of self.old) (calls_of self.new) }
-        ensures cause { HasCause (faults_in (calls_of self.old)) (faults_in (calls_of self.new)) (full_in (calls_of self.old)) (full_in (calls_of self.new)) result }
+        ensures cause { HasCauseIn (calls_of self.old) (calls_of self.new) result }
         ensures roomy { IsErrOf result DeviceError.NoRoom → ⊥ }
     {
         match self.write(at, bytes) {
@@ -132,7 +131,7 @@ impl<T: Read + Write + Seek + OpenFile + Drop> Account<T> {
         ensures cut { OnOk result (seen_after (calls_of self.new) ≡ take len (seen_after (calls_of self.old))) }
         ensures crash { Follows (Cut len) (MayLeave (calls_of self.old)) (MayLeave (calls_of self.new)) }
         ensures time { TimePasses (calls_of self.old) (calls_of self.new) }
-        ensures cause { HasCause (faults_in (calls_of self.old)) (faults_in (calls_of self.new)) (full_in (calls_of self.old)) (full_in (calls_of self.new)) result }
+        ensures cause { HasCauseIn (calls_of self.old) (calls_of self.new) result }
         ensures roomy { IsErrOf result DeviceError.NoRoom → ⊥ }
     {
         self.is_dirty = true;
@@ -152,7 +151,7 @@ impl<T: Read + Write + Seek + OpenFile + Drop> Account<T> {
         ensures seen { seen_after (calls_of self.new) ≡ seen_after (calls_of self.old) }
         ensures crash { (c : List ℕ) → MayLeave (calls_of self.new) c → MayLeave (calls_of self.old) c }
         ensures time { TimePasses (calls_of self.old) (calls_of self.new) }
-        ensures cause { HasCause (faults_in (calls_of self.old)) (faults_in (calls_of self.new)) (full_in (calls_of self.old)) (full_in (calls_of self.new)) result }
+        ensures cause { HasCauseIn (calls_of self.old) (calls_of self.new) result }
         ensures roomy { IsErrOf result DeviceError.NoRoom → ⊥ }
     {
         if !self.is_dirty {

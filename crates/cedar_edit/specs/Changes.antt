@@ -18,18 +18,13 @@ use Rattle.cedar_model.specs.Meaning.WellFormed.{cells_in, IsWellFormed, TableHo
 use Rattle.cedar_model.specs.Edit.NodeEdits.{GoesBehind, GoesFirst, IsAt}
 use Rattle.cedar_model.specs.Edit.Own.{LacksNode}
 use Rattle.cedar_model.specs.Edit.Packing.{joins, PacksKey, StaysSmall}
-use Rattle.cedar_model.specs.Edit.Steps.{MakesBlocks, root_of, SameModes}
+use Rattle.cedar_model.specs.Edit.Steps.{MakesBlocks, root_of, SameModes, tree_after_trim}
+use Rattle.cedar_model.specs.Edit.Trims.{LosesLeaf}
 use Rattle.cedar_model.specs.Relocation.Renaming.{Renames}
 use Rattle.cedar_model.specs.Relocation.Reserved.{cells_without, SetReserved}
 use Rattle.cedar_model.specs.Relocation.Wanted.{rest_of}
 
 -- ---- the tree
-
--- the tree of the slots T becomes a table's by a change of one node's number and children: those of the node at slot
--- a
-abbrev pub EditsNode : ℕ → Cells → Fields → ℕ → (Option ℤ → Option ℤ) → (Forest → Forest) → Type 0
-EditsNode size T after a number children =
-    (f : Forest) (w : List ℕ) → HoldsTree size T f → IsAt T w a → TableHolds after (edit_at w number children f)
 
 -- the tree of the slots T, whose labels ascend if they are ordered, becomes a table's by a new leaf at label l of
 -- slot a
@@ -37,6 +32,17 @@ abbrev pub AddsLeaf : ℕ → Bool → Cells → Fields → ℕ → ℕ → Type
 AddsLeaf size ordered T after a l =
     (f : Forest) (w : List ℕ) → HoldsTree size T f → (ordered ≡ true → IsAscending f) → IsAt T w a
     → TableHolds after (edit_at w (λ n. n) (add_leaf ordered l) f)
+
+-- the node at slot a, which was bare, is taken away, and s is the slot of the node above it (`LosesLeaf`)
+abbrev pub RemovesNode : Fields → Fields → ℕ → ℕ → Type 0
+RemovesNode before after a s =
+    (f : Forest) (w : List ℕ) → TableHolds before f → IsAt (cells_in before) w a → LosesLeaf (size_of after) (cells_in after) f w s
+
+-- the node at slot a is taken away if it is bare, and then each node above it that is left so (`tree_after_trim`)
+abbrev pub TrimsNode : Fields → Fields → ℕ → Type 0
+TrimsNode before after a =
+    (f : Forest) (w : List ℕ) → TableHolds before f → IsAt (cells_in before) w a
+    → TableHolds after (tree_after_trim (root_of f) w).children
 
 -- the slots as if the one that the node at slot a has for label l were free, whatever it holds
 abbrev pub cells_besides : Fields → ℕ → ℕ → Cells

@@ -1,7 +1,8 @@
 -- What reads and writes say of the bytes that a source has left and a writer holds, where those are known.
-use Rattle.std.specs.Prelude.{ℕ, ◌≡◌, ◌<◌, ◌/◌, ◌⊎◌, Bool, true, false, List, length, take, Option}
+use Rattle.std.specs.Prelude.{ℕ, ◌≡◌, ◌<◌, ◌/◌, ◌⊎◌, ◌++◌, Bool, true, false, List, length, take, Option}
 use Rattle.std.specs.Prelude.{Some, None, ⊤, Result, IfErr, IfOk, MatchResult}
 use Rattle.std.specs.Io.KnownBytes.{Consumes}
+use Rattle.std.specs.List.{flat_map}
 pub use Rattle.device_lines.specs.WatchedDevice.{EndsWithin}
 use Rattle.cedar_format.specs.declared.error.CedarPersistenceError.{CedarPersistenceError}
 use Rattle.cedar_format.specs.declared.error.CedarPersistenceError.TheVariants.{Io, Truncated}
@@ -30,6 +31,12 @@ pub record ReadsBy {X : Type 0} (bytes_of : X → List ℕ) (len : ℕ) (before 
   pub bytes : IfOk result (λ x. Consumes before after (bytes_of x))
   pub misses : IfErr result (Misses before failed_after len)
   pub failed : failed_before ≡ true → failed_after ≡ true
+
+-- some bytes were read of a source that had `before` left and has `after` now, and they are those of the records that have come behind
+-- the old ones
+abbrev pub ReadsRecords : {X : Type 0} → (X → List ℕ) → Option (List ℕ) → Option (List ℕ) → List X → List X → Type 0
+ReadsRecords bytes_of before after old new =
+    (bytes : List ℕ) × Consumes before after bytes × (flat_map bytes_of new ≡ flat_map bytes_of old ++ bytes)
 
 -- the error is `AllocationFailed`: memory was refused
 abbrev pub IsLack : CedarPersistenceError → Type 0

@@ -5,6 +5,7 @@ use Rattle.cedar_slots.specs.declared.records.NodeRecord.{NodeRecord}
 use Rattle.cedar_slots.specs.declared.records.NInfoRecord.{NInfoRecord}
 use Rattle.cedar_slots.specs.declared.records.BlockRecord.{BlockRecord}
 use Rattle.cedar_format.specs.Numbers.{i16_bytes, i32_bytes, IsI16, IsI32}
+use Rattle.cedar_format.specs.declared.body.Decoded.{Decoded}
 
 -- the bytes of a slot's base and check
 abbrev pub node_bytes : NodeRecord → List ℕ
@@ -21,6 +22,10 @@ block_bytes block = concat (i32_bytes block.prev ∷ i32_bytes block.next ∷ i1
 -- the bytes of the four lists, one after another
 abbrev pub body_bytes : List NodeRecord → List NInfoRecord → List BlockRecord → List ℤ → List ℕ
 body_bytes nodes infos blocks reject = flat_map node_bytes nodes ++ (flat_map info_bytes infos ++ (flat_map block_bytes blocks ++ flat_map i16_bytes reject))
+
+-- the bytes of the four lists of a file that was read
+abbrev pub decoded_bytes : {A : Type 0} → Decoded A → List ℕ
+decoded_bytes d = body_bytes d.nodes.items d.n_infos.items d.blocks.items d.reject.items
 
 -- base and check lie in the range of their type
 pub record FitsNode (node : NodeRecord) : Type 0 where

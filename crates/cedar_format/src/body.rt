@@ -2,12 +2,11 @@
 
 ghost use Rattle.std.specs.Prelude.{◌*◌, ◌+◌, ◌/◌, ◌<◌, ◌^◌, ◌≡◌, ◌≤◌, [], false, IfErr, IfOk};
 ghost use Rattle.std.specs.Prelude.{length, OnOk, true, vec_capacity};
-ghost use Rattle.cedar_format.specs.Words.{Appends, blank_block, blank_info, blank_node};
-ghost use Rattle.cedar_format.specs.Words.{body_bytes, body_len, Consumes, CountsWithin, DecodesBy};
-ghost use Rattle.cedar_format.specs.Words.{device_of, filled_bytes, filled_list, FitsBody};
-ghost use Rattle.cedar_format.specs.Words.{FitsFilled, has_failed, IsAtEnd, IsIo, IsSlotLimit};
-ghost use Rattle.cedar_format.specs.Words.{LacksTable, Misses, need, Passes, tables_len};
-ghost use Rattle.cedar_format.specs.Words.{TellsBreaks, Trails};
+ghost use Rattle.cedar_format.specs.Words.{blank_block, blank_info, blank_node, body_len, Consumes};
+ghost use Rattle.cedar_format.specs.Words.{CountsWithin, decoded_bytes, DecodesBy, DeviceAppends};
+ghost use Rattle.cedar_format.specs.Words.{filled_bytes, filled_list, FitsBody, FitsFilled};
+ghost use Rattle.cedar_format.specs.Words.{has_failed, IsAtEnd, IsIo, IsSlotLimit, LacksTable};
+ghost use Rattle.cedar_format.specs.Words.{Misses, need, Passes, tables_len, TellsBreaks, Trails};
 
 use crate::buffer::BUFFER_LEN;
 use crate::error::CedarPersistenceError;
@@ -82,9 +81,9 @@ fn read_lists<S: Source, A: Allocator>(
     ensures n_infos { IfOk result (λ d. (length d.n_infos.items ≡ tables.header.n_infos_len) × (vec_capacity d.n_infos ≡ vec_capacity tables.n_infos)) }
     ensures blocks { IfOk result (λ d. (length d.blocks.items ≡ tables.header.blocks_len) × (vec_capacity d.blocks ≡ vec_capacity tables.blocks)) }
     ensures reject { IfOk result (λ d. length d.reject.items ≡ tables.header.reject_len) }
-    ensures bytes { IfOk result (λ d. Consumes (S.remaining reader.old) (S.remaining reader.new) (body_bytes d.nodes.items d.n_infos.items d.blocks.items d.reject.items)) }
+    ensures bytes { IfOk result (λ d. Consumes (S.remaining reader.old) (S.remaining reader.new) (decoded_bytes d)) }
     ensures fits { IfOk result (λ d. FitsBody d.nodes.items d.n_infos.items d.blocks.items d.reject.items) }
-    ensures len { IfOk result (λ d. length (body_bytes d.nodes.items d.n_infos.items d.blocks.items d.reject.items) ≡ body_len tables.header) }
+    ensures len { IfOk result (λ d. length (decoded_bytes d) ≡ body_len tables.header) }
     ensures misses { IfErr result (Misses (S.remaining reader.old) (S.failed reader.new) (body_len tables.header)) }
     ensures failed { S.failed reader.old ≡ true → S.failed reader.new ≡ true }
     ensures told { TellsBreaks (S.broken reader.old) (S.broken reader.new) result }
@@ -267,7 +266,7 @@ pub fn write_lists<W: Write>(
 ) -> Result<(), CedarPersistenceError>
     //= The four lists of a table are written as exactly their bytes and nothing else, with blanks after the first three up to the number of
     //  slots that the file lists. [with fits]
-    ensures bytes { OnOk result (Appends (W.contents (device_of writer.old)) (W.contents (device_of writer.new)) (filled_bytes slots nodes.now n_infos.now blocks.now reject.now)) }
+    ensures bytes { OnOk result (DeviceAppends W.contents writer.old writer.new (filled_bytes slots nodes.now n_infos.now blocks.now reject.now)) }
     ensures fits { OnOk result (FitsFilled slots nodes.now n_infos.now blocks.now reject.now) }
 
     //= It fails only if its writer does.

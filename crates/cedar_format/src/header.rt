@@ -3,7 +3,7 @@
 ghost use Rattle.std.specs.Prelude.{◌+◌, ◌<◌, ◌^◌, ◌≡◌, ◌≢◌, ◌≤◌, ◌⊎◌, Err, false, IfErr, IfNone};
 ghost use Rattle.std.specs.Prelude.{IfOk, IfSome, IsSome, length, List, nat_eq, Ok, OnOk};
 ghost use Rattle.std.specs.Prelude.{slice_index, take, true, ℕ};
-ghost use Rattle.cedar_format.specs.Words.{Appends, Consumes, device_of, error_kind, FitsHeader};
+ghost use Rattle.cedar_format.specs.Words.{Consumes, DeviceAppends, error_kind, FitsHeader};
 ghost use Rattle.cedar_format.specs.Words.{has_failed, header_at, header_bytes, header_refusal};
 ghost use Rattle.cedar_format.specs.Words.{i32_at, InvalidHeader, Io, IsHeader, IsIo, IsLack};
 ghost use Rattle.cedar_format.specs.Words.{IsVersion, kind_refusal, listed_slots, magic, refusal};
@@ -334,7 +334,7 @@ pub fn write_header<W: Write>(
     header: Header,
 ) -> Result<(), CedarPersistenceError>
     //= A header is written as exactly its bytes, in the version that it names. [with err]
-    ensures bytes { OnOk result (Appends (W.contents (device_of writer.old)) (W.contents (device_of writer.new)) (header_bytes layout header)) }
+    ensures bytes { OnOk result (DeviceAppends W.contents writer.old writer.new (header_bytes layout header)) }
 
     //= Each number of a header fits its field.
     ensures fits { FitsHeader header }

@@ -1,9 +1,9 @@
 //! Lists of records, in large pieces.
 
 ghost use Rattle.std.specs.Prelude.{◌*◌, ◌++◌, ◌+◌, ◌≡◌, ◌≤◌, [], All, flat_map, IfErr, length};
-ghost use Rattle.std.specs.Prelude.{List, OnOk, replicate, true, vec_capacity, vec_len, ℕ};
-ghost use Rattle.cedar_format.specs.Words.{Appends, Consumes, device_of, filled_list, has_failed};
-ghost use Rattle.cedar_format.specs.Words.{IsIo, Misses, TellsBreaks};
+ghost use Rattle.std.specs.Prelude.{OnOk, replicate, true, vec_capacity, vec_len};
+ghost use Rattle.cedar_format.specs.Words.{Consumes, DeviceAppends, filled_list, has_failed, IsIo};
+ghost use Rattle.cedar_format.specs.Words.{Misses, ReadsRecords, TellsBreaks};
 
 use crate::buffer::BUFFER_LEN;
 use crate::error::CedarPersistenceError;
@@ -52,7 +52,7 @@ fn read_piece<S: Source, T: Record, A: Allocator>(
     requires fits { All T.Fits records.old.items }
     ensures count { OnOk result (vec_len records.new ≡ vec_len records.old + count) }
     ensures capacity { vec_capacity records.new ≡ vec_capacity records.old }
-    ensures bytes { OnOk result ((bytes : List ℕ) × Consumes (S.remaining reader.old) (S.remaining reader.new) bytes × (flat_map T.bytes_of records.new.items ≡ flat_map T.bytes_of records.old.items ++ bytes)) }
+    ensures bytes { OnOk result (ReadsRecords T.bytes_of (S.remaining reader.old) (S.remaining reader.new) records.old.items records.new.items) }
     ensures fits { OnOk result (All T.Fits records.new.items) }
     ensures misses { IfErr result (Misses (S.remaining reader.old) (S.failed reader.new) (count * T.LEN)) }
     ensures failed { S.failed reader.old ≡ true → S.failed reader.new ≡ true }
@@ -96,7 +96,7 @@ pub(crate) fn write_records<W: Write, T: Record>(
     buffer: &mut [u8; BUFFER_LEN],
     records: &[T],
 ) -> Result<(), CedarPersistenceError>
-    ensures bytes { OnOk result (Appends (W.contents (device_of writer.old)) (W.contents (device_of writer.new)) (flat_map T.bytes_of records.now)) }
+    ensures bytes { OnOk result (DeviceAppends W.contents writer.old writer.new (flat_map T.bytes_of records.now)) }
     ensures fits { OnOk result (All T.Fits records.now) }
     ensures err { IfErr result (λ e. IsIo e × (has_failed writer.new ≡ true)) }
     ensures failed { has_failed writer.old ≡ true → has_failed writer.new ≡ true }
@@ -118,7 +118,7 @@ fn write_piece<W: Write, T: Record>(
     records: &[T],
 ) -> Result<(), CedarPersistenceError>
     requires piece { length records.now * T.LEN ≤ 16384 }
-    ensures bytes { OnOk result (Appends (W.contents (device_of writer.old)) (W.contents (device_of writer.new)) (flat_map T.bytes_of records.now)) }
+    ensures bytes { OnOk result (DeviceAppends W.contents writer.old writer.new (flat_map T.bytes_of records.now)) }
     ensures fits { OnOk result (All T.Fits records.now) }
     ensures err { IfErr result (λ e. IsIo e × (has_failed writer.new ≡ true)) }
     ensures failed { has_failed writer.old ≡ true → has_failed writer.new ≡ true }
@@ -137,7 +137,7 @@ pub(crate) fn write_filled<W: Write, T: Record>(
     len: usize,
     blank: T,
 ) -> Result<(), CedarPersistenceError>
-    ensures bytes { OnOk result (Appends (W.contents (device_of writer.old)) (W.contents (device_of writer.new)) (flat_map T.bytes_of (filled_list blank len records.now))) }
+    ensures bytes { OnOk result (DeviceAppends W.contents writer.old writer.new (flat_map T.bytes_of (filled_list blank len records.now))) }
     ensures fits { OnOk result (All T.Fits (filled_list blank len records.now)) }
     ensures err { IfErr result (λ e. IsIo e × (has_failed writer.new ≡ true)) }
     ensures failed { has_failed writer.old ≡ true → has_failed writer.new ≡ true }
@@ -153,7 +153,7 @@ fn write_blanks<W: Write, T: Record>(
     count: usize,
     blank: T,
 ) -> Result<(), CedarPersistenceError>
-    ensures bytes { OnOk result (Appends (W.contents (device_of writer.old)) (W.contents (device_of writer.new)) (flat_map T.bytes_of (replicate count blank))) }
+    ensures bytes { OnOk result (DeviceAppends W.contents writer.old writer.new (flat_map T.bytes_of (replicate count blank))) }
     ensures fits { OnOk result (All T.Fits (replicate count blank)) }
     ensures err { IfErr result (λ e. IsIo e × (has_failed writer.new ≡ true)) }
     ensures failed { has_failed writer.old ≡ true → has_failed writer.new ≡ true }
@@ -176,7 +176,7 @@ fn write_piece_of<W: Write, T: Record>(
     blank: T,
 ) -> Result<(), CedarPersistenceError>
     requires piece { count * T.LEN ≤ 16384 }
-    ensures bytes { OnOk result (Appends (W.contents (device_of writer.old)) (W.contents (device_of writer.new)) (flat_map T.bytes_of (replicate count blank))) }
+    ensures bytes { OnOk result (DeviceAppends W.contents writer.old writer.new (flat_map T.bytes_of (replicate count blank))) }
     ensures fits { OnOk result (All T.Fits (replicate count blank)) }
     ensures err { IfErr result (λ e. IsIo e × (has_failed writer.new ≡ true)) }
     ensures failed { has_failed writer.old ≡ true → has_failed writer.new ≡ true }

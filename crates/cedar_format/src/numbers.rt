@@ -1,8 +1,8 @@
 //! One number at a time, little-endian.
 
 ghost use Rattle.std.specs.Prelude.{◌∷◌, ◌≡◌, [], IfErr, OnOk, true};
-ghost use Rattle.cedar_format.specs.Words.{Appends, device_of, has_failed, i16_bytes, i32_bytes};
-ghost use Rattle.cedar_format.specs.Words.{IsIo, ReadsBy, TellsBreaks, u16_bytes, u64_bytes};
+ghost use Rattle.cedar_format.specs.Words.{DeviceAppends, has_failed, i16_bytes, i32_bytes, IsIo};
+ghost use Rattle.cedar_format.specs.Words.{ReadsBy, TellsBreaks, u16_bytes, u64_bytes};
 
 use crate::buffer::{i16_of, i32_of, u16_of, u64_of};
 use crate::error::CedarPersistenceError;
@@ -15,7 +15,7 @@ pub(crate) fn write_bytes<W: Write>(
     writer: &mut Watched<W>,
     bytes: &[u8],
 ) -> Result<(), CedarPersistenceError>
-    ensures bytes { OnOk result (Appends (W.contents (device_of writer.old)) (W.contents (device_of writer.new)) bytes.now) }
+    ensures bytes { OnOk result (DeviceAppends W.contents writer.old writer.new bytes.now) }
     ensures err { IfErr result (λ e. IsIo e × (has_failed writer.new ≡ true)) }
     ensures failed { has_failed writer.old ≡ true → has_failed writer.new ≡ true }
 {
@@ -82,7 +82,7 @@ pub fn read_u64<S: Source>(reader: &mut S) -> Result<u64, CedarPersistenceError>
 #[tactic(auto, unfolding(crate::specs::Numbers::i16_bytes))]
 pub fn write_i16<W: Write>(writer: &mut Watched<W>, value: i16) -> Result<(), CedarPersistenceError>
     //= A number is written as exactly its bytes, or the writer failed. [with err; also write_i32, write_usize]
-    ensures bytes { OnOk result (Appends (W.contents (device_of writer.old)) (W.contents (device_of writer.new)) (i16_bytes value)) }
+    ensures bytes { OnOk result (DeviceAppends W.contents writer.old writer.new (i16_bytes value)) }
     ensures err { IfErr result (λ e. IsIo e × (has_failed writer.new ≡ true)) }
     ensures failed { has_failed writer.old ≡ true → has_failed writer.new ≡ true }
 {
@@ -92,7 +92,7 @@ pub fn write_i16<W: Write>(writer: &mut Watched<W>, value: i16) -> Result<(), Ce
 /// Writes a number as 4 bytes.
 #[tactic(auto, unfolding(crate::specs::Numbers::i32_bytes))]
 pub fn write_i32<W: Write>(writer: &mut Watched<W>, value: i32) -> Result<(), CedarPersistenceError>
-    ensures bytes { OnOk result (Appends (W.contents (device_of writer.old)) (W.contents (device_of writer.new)) (i32_bytes value)) }
+    ensures bytes { OnOk result (DeviceAppends W.contents writer.old writer.new (i32_bytes value)) }
     ensures err { IfErr result (λ e. IsIo e × (has_failed writer.new ≡ true)) }
     ensures failed { has_failed writer.old ≡ true → has_failed writer.new ≡ true }
 {
@@ -105,7 +105,7 @@ pub fn write_usize<W: Write>(
     writer: &mut Watched<W>,
     value: usize,
 ) -> Result<(), CedarPersistenceError>
-    ensures bytes { OnOk result (Appends (W.contents (device_of writer.old)) (W.contents (device_of writer.new)) (u64_bytes value)) }
+    ensures bytes { OnOk result (DeviceAppends W.contents writer.old writer.new (u64_bytes value)) }
     ensures err { IfErr result (λ e. IsIo e × (has_failed writer.new ≡ true)) }
     ensures failed { has_failed writer.old ≡ true → has_failed writer.new ≡ true }
 {

@@ -61,6 +61,10 @@ recovered_by (Some (stands payloads)) = Some payloads
 unfoldable pub file_payloads : List ℕ → Option (List (List ℕ))
 file_payloads file = recovered_by (file_reading file)
 
+-- a file represents the payloads that another one does (`file_payloads`)
+abbrev pub SamePayloads : List ℕ → List ℕ → Type 0
+SamePayloads before after = file_payloads after ≡ file_payloads before
+
 -- these payloads and one more; none if there are none
 abbrev pub with_payload : List ℕ → Option (List (List ℕ)) → Option (List (List ℕ))
 with_payload payload None = None

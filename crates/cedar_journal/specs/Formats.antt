@@ -7,6 +7,11 @@ use Rattle.cedar_journal.specs.declared.format.Format.{Format}
 use Rattle.cedar_journal.specs.declared.format.Format.TheVariants.{Plain, Summed}
 use Rattle.cedar_journal.specs.Records.{length_bytes, payloads_in}
 
+-- how many bytes a record has besides its payload
+abbrev pub overhead : Format → ℕ
+overhead Plain = 5
+overhead Summed = 9
+
 -- what some records are read as
 pub data Reading : Type 0 where
   -- these payloads
@@ -48,6 +53,12 @@ unfoldable pub records_read : Format → List ℕ → Reading
 records_read Plain bytes = stands (payloads_in bytes)
 records_read Summed bytes = read_first (length bytes) bytes
 
+-- some records are read as one with this payload, and then those behind it
+abbrev pub BeginsWithRecord : Format → List ℕ → List ℕ → Type 0
+BeginsWithRecord format bytes payload =
+    records_read format bytes
+    ≡ read_behind (overhead format + length payload) (payload ∷ []) (records_read format (drop (overhead format + length payload) bytes))
+
 -- none of these records is damaged
 abbrev pub AreUndamaged : Format → List ℕ → Type 0
 AreUndamaged format bytes = (payloads : List (List ℕ)) × (records_read format bytes ≡ stands payloads)
@@ -64,11 +75,6 @@ AreWhole format front = ArePieces format front (payloads_read (records_read form
 abbrev pub opening : Format → ℕ
 opening Plain = 1
 opening Summed = 255
-
--- how many bytes a record has besides its payload
-abbrev pub overhead : Format → ℕ
-overhead Plain = 5
-overhead Summed = 9
 
 -- the sum of a record with this payload
 abbrev pub sum_of : List ℕ → ℕ

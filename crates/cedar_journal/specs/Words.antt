@@ -1,11 +1,11 @@
 -- The words that the contracts of this crate cite, from one place.
 pub use Rattle.cedar_journal.specs.Device.{Cut, Elapses, Follows, HasCause, HasFront, Holds}
 pub use Rattle.cedar_journal.specs.Device.{HasReadCause, FoundNoRoom, LeavesOnly, Only, Torn}
-pub use Rattle.cedar_journal.specs.Files.{with_payload, ends_closed, extent_end, file_reading}
-pub use Rattle.cedar_journal.specs.Files.{extent_format}
-pub use Rattle.cedar_journal.specs.Files.{format_of, HasExtent, HasRecords, is_at_rest, is_begun}
-pub use Rattle.cedar_journal.specs.Files.{IsFault, IsNewFile, IsFoundThere, file_payloads}
-pub use Rattle.cedar_journal.specs.Formats.{read_behind, damaged, AreUndamaged, opening}
+pub use Rattle.cedar_journal.specs.Files.{ends_closed, extent_end, extent_format, file_payloads}
+pub use Rattle.cedar_journal.specs.Files.{file_reading, format_of, HasExtent, HasRecords}
+pub use Rattle.cedar_journal.specs.Files.{is_at_rest, is_begun, IsFault, IsFoundThere, IsNewFile}
+pub use Rattle.cedar_journal.specs.Files.{SamePayloads, with_payload}
+pub use Rattle.cedar_journal.specs.Formats.{AreUndamaged, BeginsWithRecord, damaged, opening}
 pub use Rattle.cedar_journal.specs.Formats.{overhead, records_read, stands}
 pub use Rattle.cedar_journal.specs.Frames.{payload_of}
 pub use Rattle.cedar_journal.specs.Image.{image_bytes, payloads_of}

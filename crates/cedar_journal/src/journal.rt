@@ -5,11 +5,11 @@
 
 ghost use Rattle.std.specs.Prelude.{◌+◌, ◌<◌, ◌^◌, ◌≡◌, ◌≤◌, IfErr, IfOk, IsErrOf, IsOkAnd};
 ghost use Rattle.std.specs.Prelude.{length, OnErr, OnOk, Some, true};
-ghost use Rattle.cedar_journal.specs.Words.{with_payload, Device, HasExtent, IfKept, image_bytes};
-ghost use Rattle.cedar_journal.specs.Words.{extent_end, extent_format, FoundNoRoom, is_at_rest};
-ghost use Rattle.cedar_journal.specs.Words.{IsBeforeOrAfter, IsSettled};
-ghost use Rattle.cedar_journal.specs.Words.{IsStaged, LeavesOnly, Only, overhead, payload_of};
-ghost use Rattle.cedar_journal.specs.Words.{file_payloads, payloads_of, StandsForEither};
+ghost use Rattle.cedar_journal.specs.Words.{Device, extent_end, extent_format, file_payloads};
+ghost use Rattle.cedar_journal.specs.Words.{FoundNoRoom, HasExtent, IfKept, image_bytes};
+ghost use Rattle.cedar_journal.specs.Words.{is_at_rest, IsBeforeOrAfter, IsSettled, IsStaged};
+ghost use Rattle.cedar_journal.specs.Words.{LeavesOnly, Only, overhead, payload_of, payloads_of};
+ghost use Rattle.cedar_journal.specs.Words.{SamePayloads, StandsForEither, with_payload};
 
 use crate::records::{ends_closed, open_gate};
 use crate::repair::{cut_off, make_ready};
@@ -62,15 +62,15 @@ impl<D: Device> Journal<D> {
         requires extent { HasExtent (D.seen device) extent }
 
         //= An opened journal is at rest and on the disk, and represents the payloads that the file represented. [also open_read]
-        ensures settled { IfOk result (λ journal. IsSettled D.seen D.may_leave journal.device journal.format journal.end
-            × (file_payloads (D.seen journal.device) ≡ file_payloads (D.seen device))) }
+        ensures settled { IfOk result (λ opened. IsSettled D.seen D.may_leave opened.device opened.format opened.end
+            × SamePayloads (D.seen device) (D.seen opened.device)) }
 
         //= A crash at any moment while it is opened leaves the same payloads, and never a file of another kind; even if a device fails.
         //  [with any_moment_err; also open_read]
         ensures any_moment { IfOk result (λ journal. LeavesOnly D.moment D.left_since device journal.device
-            (λ c. file_payloads c ≡ file_payloads (D.seen device))) }
+            (SamePayloads (D.seen device))) }
         ensures any_moment_err { IfErr result (λ e. LeavesOnly D.moment D.left_since device e.1
-            (λ c. file_payloads c ≡ file_payloads (D.seen device))) }
+            (SamePayloads (D.seen device))) }
 
         //= An opening returns `NoRoom` only if a write has found no room and nothing has failed, and any other error only if a call of the
         //  device has failed. [with memory, no_room; also open_read]
@@ -106,12 +106,12 @@ impl<D: Device> Journal<D> {
         requires restarted { Only (D.seen device) (D.may_leave device) }
         requires extent { HasExtent (D.seen device) extent }
         requires bytes { bytes.now ≡ D.seen device }
-        ensures settled { IfOk result (λ journal. IsSettled D.seen D.may_leave journal.device journal.format journal.end
-            × (file_payloads (D.seen journal.device) ≡ file_payloads (D.seen device))) }
+        ensures settled { IfOk result (λ opened. IsSettled D.seen D.may_leave opened.device opened.format opened.end
+            × SamePayloads (D.seen device) (D.seen opened.device)) }
         ensures any_moment { IfOk result (λ journal. LeavesOnly D.moment D.left_since device journal.device
-            (λ c. file_payloads c ≡ file_payloads (D.seen device))) }
+            (SamePayloads (D.seen device))) }
         ensures any_moment_err { IfErr result (λ e. LeavesOnly D.moment D.left_since device e.1
-            (λ c. file_payloads c ≡ file_payloads (D.seen device))) }
+            (SamePayloads (D.seen device))) }
         ensures failed { IfErr result (λ e. e.0 ≡ DeviceError.Failed → D.faults device < D.faults e.1) }
         ensures memory { IfErr result (λ e. e.0 ≡ DeviceError.Memory → D.faults device < D.faults e.1) }
         ensures no_room { IfErr result (λ e. e.0 ≡ DeviceError.NoRoom → FoundNoRoom D.faults D.full device e.1) }
@@ -149,16 +149,16 @@ impl<D: Device> Journal<D> {
         ensures staged { OnOk result (IsStaged D.seen D.may_leave self.new.device self.old.format self.old.end (payload_of frame.now)) }
         ensures end { self.new.end ≡ self.old.end }
         ensures format { self.new.format ≡ self.old.format }
-        ensures same { OnOk result (file_payloads (D.seen self.new.device) ≡ file_payloads (D.seen self.old.device)) }
+        ensures same { OnOk result (SamePayloads (D.seen self.old.device) (D.seen self.new.device)) }
 
         //= A crash at any moment while a record is staged leaves the payloads as they were.
         ensures any_moment { LeavesOnly D.moment D.left_since self.old.device self.new.device
-            (λ c. file_payloads c ≡ file_payloads (D.seen self.old.device)) }
+            (SamePayloads (D.seen self.old.device)) }
 
         //= If the device had no room for a record, the file is at rest and on the disk, and represents the same payloads. `NoRoom` is
         //  returned only if a write found no room, and nothing failed. [with same_left, wanting]
         ensures no_room { IsErrOf result JournalError.NoRoom → IsSettled D.seen D.may_leave self.new.device self.new.format self.new.end }
-        ensures same_left { IsErrOf result JournalError.NoRoom → file_payloads (D.seen self.new.device) ≡ file_payloads (D.seen self.old.device) }
+        ensures same_left { IsErrOf result JournalError.NoRoom → SamePayloads (D.seen self.old.device) (D.seen self.new.device) }
         ensures wanting { IsErrOf result JournalError.NoRoom → FoundNoRoom D.faults D.full self.old.device self.new.device }
 
         //= Otherwise staging fails exactly if the records end after 2^60, and then nothing is written, or if the device fails: an error of
@@ -238,9 +238,9 @@ impl<D: Device> Journal<D> {
         //  from before; a crash leaves these. `NoRoom` is returned only if a write found no room, and nothing failed. [with same_left, kept,
         //  wanting, end, format]
         ensures no_room { IsErrOf result JournalError.NoRoom → IsSettled D.seen D.may_leave self.new.device self.new.format self.new.end }
-        ensures same_left { IsErrOf result JournalError.NoRoom → file_payloads (D.seen self.new.device) ≡ file_payloads (D.seen self.old.device) }
+        ensures same_left { IsErrOf result JournalError.NoRoom → SamePayloads (D.seen self.old.device) (D.seen self.new.device) }
         ensures kept { IsErrOf result JournalError.NoRoom → LeavesOnly D.moment D.left_since self.old.device self.new.device
-            (λ c. file_payloads c ≡ file_payloads (D.seen self.old.device)) }
+            (SamePayloads (D.seen self.old.device)) }
         ensures wanting { IsErrOf result JournalError.NoRoom → FoundNoRoom D.faults D.full self.old.device self.new.device }
         ensures end { OnErr result (self.new.end ≡ self.old.end) }
         ensures format { self.new.format ≡ self.old.format }

@@ -72,7 +72,7 @@ fn write<A: Allocator + Copy>(
     ensures past { OnOk result ((v : _) × (v.items ≡ file.old.items) × (past.new.items ≡ past.old.items ++ v ∷ [])) }
     ensures past_err { OnErr result (past.new.items ≡ past.old.items) }
 {
-    let next = overwritten(alloc, file, at, bytes)?;
+    let next = overlay(alloc, file, at, bytes)?;
     replace(alloc, file, past, next)
 }
 
@@ -110,7 +110,7 @@ fn copy_over<A: Allocator + Copy>(
 }
 
 // The bytes with others written over them from the byte `at` on, and past the end.
-fn overwritten<A: Allocator>(
+fn overlay<A: Allocator>(
     alloc: A,
     old: &[u8],
     at: usize,

@@ -1,12 +1,12 @@
 //! Records as bytes: what is at the start of some bytes, where whole records end, and how far the file of a journal goes.
 
-ghost use Rattle.std.specs.Prelude.{◌*◌, ◌+◌, ◌∷◌, ◌≡◌, ◌≤◌, ◌↔◌, [], drop, false, get_or, IfErr};
-ghost use Rattle.std.specs.Prelude.{IfNone, IfOk, IfSome, IsErr, length, None, Some, true};
-ghost use Rattle.cedar_journal.specs.Words.{read_behind, behind_record, damaged, ends_closed};
-ghost use Rattle.cedar_journal.specs.Words.{file_reading, format_of, HasExtent, HasRecords};
-ghost use Rattle.cedar_journal.specs.Words.{has_record, is_begun, IsFault, IsFoundThere};
-ghost use Rattle.cedar_journal.specs.Words.{AreUndamaged, opening, overhead, payload, records_read};
-ghost use Rattle.cedar_journal.specs.Words.{file_payloads, stands};
+ghost use Rattle.std.specs.Prelude.{◌*◌, ◌+◌, ◌↔◌, ◌≡◌, ◌≤◌, [], drop, false, IfErr, IfNone, IfOk};
+ghost use Rattle.std.specs.Prelude.{IfSome, IsErr, length, None, Some, true};
+ghost use Rattle.cedar_journal.specs.Words.{AreUndamaged, BeginsWithRecord, behind_record, damaged};
+ghost use Rattle.cedar_journal.specs.Words.{ends_closed, file_payloads, file_reading, format_of};
+ghost use Rattle.cedar_journal.specs.Words.{has_record, HasExtent, HasRecords, is_begun, IsFault};
+ghost use Rattle.cedar_journal.specs.Words.{IsFoundThere, opening, overhead, payload, records_read};
+ghost use Rattle.cedar_journal.specs.Words.{stands};
 
 use crate::Format;
 use crc32c::crc32c;
@@ -46,8 +46,7 @@ fn number(a: u8, b: u8, c: u8, d: u8) -> usize
 pub fn next_payload(format: Format, bytes: &[u8]) -> Option<&[u8]>
     //= Records of either format, none of which is damaged, are read one after another, as far as they count. [with read, none]
     ensures some { IfSome result (λ p. overhead format + length p.now ≤ length bytes.now) }
-    ensures read { AreUndamaged format bytes.now → IfSome result (λ p. records_read format bytes.now
-        ≡ read_behind (overhead format + length p.now) (p.now ∷ []) (records_read format (drop (overhead format + length p.now) bytes.now))) }
+    ensures read { AreUndamaged format bytes.now → IfSome result (λ p. BeginsWithRecord format bytes.now p.now) }
     ensures none { AreUndamaged format bytes.now → IfNone result (records_read format bytes.now ≡ stands []) }
 {
     match format {
@@ -59,8 +58,7 @@ pub fn next_payload(format: Format, bytes: &[u8]) -> Option<&[u8]>
 // As `next_payload`, of version 1.
 fn plain_payload(bytes: &[u8]) -> Option<&[u8]>
     ensures some { IfSome result (λ p. 5 + length p.now ≤ length bytes.now) }
-    ensures read { IfSome result (λ p. records_read Format.Plain bytes.now
-        ≡ read_behind (5 + length p.now) (p.now ∷ []) (records_read Format.Plain (drop (5 + length p.now) bytes.now))) }
+    ensures read { IfSome result (λ p. BeginsWithRecord Format.Plain bytes.now p.now) }
     ensures none { IfNone result (records_read Format.Plain bytes.now ≡ stands []) }
 {
     match first_payload(bytes) {
@@ -72,8 +70,7 @@ fn plain_payload(bytes: &[u8]) -> Option<&[u8]>
 // As `next_payload`, of version 2.
 fn summed_payload(bytes: &[u8]) -> Option<&[u8]>
     ensures some { IfSome result (λ p. 9 + length p.now ≤ length bytes.now) }
-    ensures read { AreUndamaged Format.Summed bytes.now → IfSome result (λ p. records_read Format.Summed bytes.now
-        ≡ read_behind (9 + length p.now) (p.now ∷ []) (records_read Format.Summed (drop (9 + length p.now) bytes.now))) }
+    ensures read { AreUndamaged Format.Summed bytes.now → IfSome result (λ p. BeginsWithRecord Format.Summed bytes.now p.now) }
     ensures none { AreUndamaged Format.Summed bytes.now → IfNone result (records_read Format.Summed bytes.now ≡ stands []) }
 {
     if bytes.len() < 9 {

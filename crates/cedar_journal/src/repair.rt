@@ -2,9 +2,9 @@
 
 ghost use Rattle.std.specs.Prelude.{◌<◌, ◌∷◌, ◌≡◌, ◌≤◌, [], IfOk, IsErrOf, length};
 ghost use Rattle.std.specs.Prelude.{List, OnErr, OnOk, Some, take, ℕ};
-ghost use Rattle.cedar_journal.specs.Words.{extent_end, extent_format, file_payloads, HasExtent};
-ghost use Rattle.cedar_journal.specs.Words.{HasFront, HasRecords, IsNewFile, IsSettled};
-ghost use Rattle.cedar_journal.specs.Words.{FoundNoRoom, LeavesOnly, Only};
+ghost use Rattle.cedar_journal.specs.Words.{extent_end, extent_format, file_payloads, FoundNoRoom};
+ghost use Rattle.cedar_journal.specs.Words.{HasExtent, HasFront, HasRecords, IsNewFile, IsSettled};
+ghost use Rattle.cedar_journal.specs.Words.{LeavesOnly, Only, SamePayloads};
 
 use crate::records::{HEADER_FRAME, HEADER_LEN};
 use crate::{Device, DeviceError, Extent, Format};
@@ -19,9 +19,9 @@ pub(crate) fn make_ready<D: Device>(
     ensures settled { IfOk result (λ at. IsSettled D.seen D.may_leave device.new at.0 at.1) }
     ensures format { IfOk result (λ at. at.0 ≡ extent_format extent) }
     ensures end { IfOk result (λ at. at.1 ≡ extent_end extent) }
-    ensures same { OnOk result (file_payloads (D.seen device.new) ≡ file_payloads (D.seen device.old)) }
+    ensures same { OnOk result (SamePayloads (D.seen device.old) (D.seen device.new)) }
     ensures any_moment { LeavesOnly D.moment D.left_since device.old device.new
-        (λ c. file_payloads c ≡ file_payloads (D.seen device.old)) }
+        (SamePayloads (D.seen device.old)) }
     ensures failed { IsErrOf result DeviceError.Failed → D.faults device.old < D.faults device.new }
     ensures memory { IsErrOf result DeviceError.Memory → D.faults device.old < D.faults device.new }
     ensures no_room { IsErrOf result DeviceError.NoRoom → FoundNoRoom D.faults D.full device.old device.new }
@@ -44,9 +44,9 @@ fn close_behind<D: Device>(device: &mut D, format: Format, end: usize) -> Result
     requires restarted { Only (D.seen device.old) (D.may_leave device.old) }
     requires records { HasRecords (D.seen device.old) format end }
     ensures settled { OnOk result (IsSettled D.seen D.may_leave device.new format end) }
-    ensures same { OnOk result (file_payloads (D.seen device.new) ≡ file_payloads (D.seen device.old)) }
+    ensures same { OnOk result (SamePayloads (D.seen device.old) (D.seen device.new)) }
     ensures any_moment { LeavesOnly D.moment D.left_since device.old device.new
-        (λ c. file_payloads c ≡ file_payloads (D.seen device.old)) }
+        (SamePayloads (D.seen device.old)) }
     ensures failed { IsErrOf result DeviceError.Failed → D.faults device.old < D.faults device.new }
     ensures memory { IsErrOf result DeviceError.Memory → D.faults device.old < D.faults device.new }
     ensures no_room { IsErrOf result DeviceError.NoRoom → FoundNoRoom D.faults D.full device.old device.new }

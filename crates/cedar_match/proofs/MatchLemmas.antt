@@ -9,6 +9,7 @@ use Rattle.cedar_tree.specs.Tree.{Forest, none, child, Tree}
 use Rattle.cedar_tree.specs.Queries.{Entry, prefixes, prefixes_forest, walk}
 use Rattle.cedar_tree.proofs.VisitLemmas.{visits_from_none, walk_visits}
 use Rattle.cedar_tree.specs.Walks.{behind, forwards, node_up, Visit, visit_from, visited_entries, visits_after, visits_below, visits_left}
+use Rattle.cedar_walk.proofs.WalkLemmas.NextNode.{forwards_length}
 use Rattle.cedar_match.specs.declared.nodes.Node.{Node}
 use Rattle.cedar_match.specs.Matching.{ReachesNode, entries_to_come, MatchLeads, leads_on, MatchLeadsTo, left_from, left_past, visit_count, nodes_to_come, path_on, states_along, wanted_entries}
 
@@ -21,10 +22,6 @@ forwards_end (x ∷ w) l = ap (λ u. u ++ x ∷ []) (forwards_end w l)
 pub forwards_twice : (w : List ℕ) → forwards (forwards w) ≡ w
 forwards_twice [] = refl
 forwards_twice (x ∷ w) = forwards_end (forwards w) x ∙ ap (λ u. x ∷ u) (forwards_twice w)
-
-forwards_long : (w : List ℕ) → length (forwards w) ≡ length w
-forwards_long [] = refl
-forwards_long (x ∷ w) = let e = forwards_long w in omega (arith, e, length-append (forwards w) (x ∷ []))
 
 -- ---- nodes that don't pass a test
 
@@ -215,7 +212,7 @@ past_short t (l ∷ up) v vs is = at (behind (node_up t up).children l) (past_sh
     at none later h = (let few = later h in omega (arith, few))
     at (child m n below rest) later h =
         let e = first (forwards up) _ n m h in
-        omega (arith, ap length e, length-append (forwards up) (m ∷ []), forwards_long up)
+        omega (arith, ap length e, length-append (forwards up) (m ∷ []), forwards_length up)
 
 module _ {S : Type 0} (stands : List ℕ → ℕ → Type 0) (tree : Tree) (accepts : List ℕ → Bool) (after : S → ℕ → S) (may : S → Bool) (initial : S) where
   led_on : (key : List ℕ) (next : Node) → leads_on after may initial key ≡ true → (next.depth ≡ length key + 1 → may (fold after initial key) ≡ true)
@@ -270,7 +267,7 @@ module _ {S : Type 0} (stands : List ℕ → ℕ → Type 0) (tree : Tree) (acce
   leads_past key next led cannot prunes comes =
       let short = past_short tree (forwards key) (path_on key next, next.number) (left_from tree (path_on key next)) comes.visits in
       let long = on_long key next comes.deep.0 comes.deep.1 in
-      let here = led_on key next led (λ whole. absurd (omega (arith, whole, short, long, forwards_long key))) comes.deep in
+      let here = led_on key next led (λ whole. absurd (omega (arith, whole, short, long, forwards_length key))) comes.deep in
       record {
         there = comes.there;
         led = here;

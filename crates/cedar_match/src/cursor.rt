@@ -190,7 +190,7 @@ impl<'a, T: Nodes, M: Automaton + Drop, A: Allocator> MatchingCursor<'a, T, M, A
         ensures refused { IfErr result (λ e. (e ≡ CedarError.Memory) × (self.new.left ≡ self.old.left) × (0 < self.new.nodes)) }
         ensures fewer { self.new.nodes ≤ self.old.nodes }
     {
-        uncounted::<Brand, T, M, A>(self, Blank::new(1))
+        advance_uncounted::<Brand, T, M, A>(self, Blank::new(1))
     }
 
     /// `advance`, which counts each node that it comes to: over a whole walk, those nodes at each of whose proper prefixes the automaton can
@@ -258,7 +258,7 @@ impl<'a, T: Nodes, M: Automaton + Drop, A: Allocator + Copy> MatchingCursor<'a, 
 }
 
 /// Goes on with a count of its own, which nothing reads.
-fn uncounted<C: Ledger, T: Nodes, M: Automaton + Drop, A: Allocator>(
+fn advance_uncounted<C: Ledger, T: Nodes, M: Automaton + Drop, A: Allocator>(
     walk: &mut MatchingCursor<'_, T, M, A>,
     blank: Blank,
 ) -> Result<Option<i32>, CedarError>

@@ -4,11 +4,12 @@ use Rattle.std.specs.Prelude.{bit_xor, pos, unwrap_or}
 use Rattle.std.proofs.lemmas.Bool.{and_from, and_parts, eqb-true, lt-ltb, ltb-true, true≢false}
 use Rattle.std.proofs.lemmas.Bool.Decides.{eqb_tells}
 use Rattle.cedar_tree.specs.Tree.{number_at, Tree}
+use Rattle.cedar_model.proofs.MeaningLemmas.ExclusiveOr.{xor_again, xor_injective}
 use Rattle.cedar_scan.specs.declared.state.PlacedNode.{PlacedNode}
 use Rattle.cedar_scan.specs.declared.state.State.{State}
 use Rattle.cedar_scan.specs.Automata.{AreLaid, AreNodes, child_in, IsChildSlot, IsGoto, IsLaid, IsListedNode, IsPlacing, state_at, with_base, with_node}
 use Rattle.cedar_scan.specs.Suffixes.{is_node}
-use Rattle.cedar_scan.proofs.ListLemmas.{field_kept, same_front, same_last, snoc, snoc_not_empty, still_inside, written_elsewhere, written_here, xor_again, xor_one}
+use Rattle.cedar_scan.proofs.ListLemmas.{field_kept, same_front, same_last, snoc, snoc_not_empty, still_inside, written_elsewhere, written_here}
 use Rattle.cedar_scan.proofs.SuffixLemmas.{node_front, number_is_node}
 
 module _ (t : Tree) (slot_of : List ℕ → ℕ) (p : IsPlacing t slot_of) where
@@ -183,7 +184,7 @@ module _ (t : Tree) (slot_of : List ℕ → ℕ) (p : IsPlacing t slot_of) where
           let slot : s ≡ slot_of (w ++ child.label ∷ []) = child.slot ∙ ap (λ v. slot_of (v ++ child.label ∷ [])) front in
           let base : (state_at states (slot_of w)).base ≡ bit_xor s child.label = (read_at w child.label there).base ∙ ap (λ x. bit_xor x child.label) (sym slot) in
           let back : bit_xor (state_at states (slot_of w)).base child.label ≡ s = ap (λ b. bit_xor b child.label) base ∙ xor_again s child.label in
-          let label : child.label ≡ l = xor_one (state_at states (slot_of w)).base child.label l (back ∙ is) in
+          let label : child.label ≡ l = xor_injective (state_at states (slot_of w)).base child.label l (back ∙ is) in
           true≢false (sym there ∙ ap (λ x. is_node t (w ++ x ∷ [])) label ∙ none)
     ]
 

@@ -1,8 +1,6 @@
--- Lists that end with one more element, fields of states that are written, and exclusive or.
+-- Lists that end with one more element, and fields of states that are written.
 use Rattle.std.proofs.Common.{◌≡◌, ℕ, ◌<◌, List, [], ◌∷◌, ◌++◌, get_or, length, length-append, take, refl, sym, ap, ◌∙◌, arith, inl, inr}
-use Rattle.std.specs.Prelude.{bit_xor, pos, slice_set}
-use Rattle.std.specs.Int.Bits.{xor_self, xor_zero_l, xor_zero_r}
-use lib.Bits.{xor_assoc}
+use Rattle.std.specs.Prelude.{pos, slice_set}
 use Rattle.std.proofs.lemmas.Bool.Decides.{eqb_tells}
 use Rattle.std.proofs.lemmas.List.{append_cancel_left, get_or-set_other, get_or-set_same, length-set, take-append-le, take_all}
 use Rattle.cedar_scan.specs.declared.state.State.{State}
@@ -34,11 +32,8 @@ same_last p w m l e =
     let front = same_front p w m l e in
     one_element m l (append_cancel_left w (m ∷ []) (l ∷ []) (ap (λ x. x ++ m ∷ []) (sym front) ∙ e))
 
-no_snoc : (w : List ℕ) (l : ℕ) → w ++ l ∷ [] ≡ [] → ⊥
-no_snoc w l e = let one = length-append w (l ∷ []) in let none = ap length e in absurd (omega (arith, one, none))
-
 pub snoc_not_empty : (w : List ℕ) (l : ℕ) → w ++ l ∷ [] ≡ [] → ⊥
-snoc_not_empty w l e = no_snoc w l e
+snoc_not_empty w l e = let one = length-append w (l ∷ []) in let none = ap length e in absurd (omega (arith, one, none))
 
 pub whole_front : {X : Type 0} (n : ℕ) (xs ys : List X) → n ≡ length xs → take n (xs ++ ys) ≡ xs
 whole_front n xs ys e = take-append-le n xs ys (omega (arith, e)) ∙ take_all n xs (omega (arith, e))
@@ -64,15 +59,3 @@ written_elsewhere states i v y other = get_or-set_other states i y v (record { b
 
 pub still_inside : (states : List State) (i : ℕ) (v : State) → length (slice_set states i v) ≡ length states
 still_inside states i v = length-set states i v
-
--- ---- exclusive or
-
-pub xor_back : (b l : ℕ) → bit_xor b (bit_xor b l) ≡ l
-xor_back b l = sym (xor_assoc b b l) ∙ ap (λ x. bit_xor x l) (xor_self b) ∙ xor_zero_l l
-
--- the base is found back from a child's slot
-pub xor_again : (b l : ℕ) → bit_xor (bit_xor b l) l ≡ b
-xor_again b l = xor_assoc b l l ∙ ap (bit_xor b) (xor_self l) ∙ xor_zero_r b
-
-pub xor_one : (b x y : ℕ) → bit_xor b x ≡ bit_xor b y → x ≡ y
-xor_one b x y e = sym (xor_back b x) ∙ ap (bit_xor b) e ∙ xor_back b y

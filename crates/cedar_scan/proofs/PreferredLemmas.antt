@@ -4,6 +4,7 @@ use Rattle.std.specs.Prelude.{int_le}
 use Rattle.std.specs.List.{cons_option, filter_map, last_or, range_with_len}
 use Rattle.std.proofs.lemmas.List.{take_more}
 use Rattle.cedar_tree.specs.Tree.{child, Forest, has_label, none, number_at, subtree, Tree}
+use Rattle.cedar_tree.specs.Queries.{found_at}
 use Rattle.cedar_words.specs.Spots.{keyword_of, keywords_in, keywords_of, spot, Spot}
 use Rattle.cedar_words.specs.Tokens.{found_number, len_of, longest, tokens_behind}
 use Rattle.cedar_scan.specs.Automata.{IsPlacing}
@@ -70,9 +71,6 @@ placing_for LeftmostLongest t slot_of p = p
 placing_for LeftmostFirst t slot_of p = placing_kept t slot_of p
 
 -- ---- of the keys that a text begins with, the longest that can count is the one that counts
-
-abbrev found_at : Tree → List ℕ → ℕ → Option (ℤ × ℕ)
-found_at t q n = option_map (λ v. (v, n)) (number_at t (take (n + 1) q))
 
 abbrev number_found : Option (ℤ × ℕ) → Option ℤ
 number_found found = option_map (λ f. f.0) found

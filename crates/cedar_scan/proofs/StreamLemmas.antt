@@ -14,7 +14,8 @@ use Rattle.cedar_scan.specs.Automata.{IsAutomaton, state_at}
 use Rattle.cedar_scan.specs.Scans.{CostsNext, GivesFound, GivesNext, IsCursor, IsScanned, last_of, pending_key, read_of, all_left}
 use Rattle.cedar_scan.specs.Streams.{CostsInPiece, EndsPiece, GivesInPiece, IsStream, left_in, path_in, path_up, StreamAt}
 use Rattle.cedar_scan.specs.Suffixes.{held_suffix, is_node, key_suffix, keys_ending, Occurrence, occurrence_ending, all_ending}
-use Rattle.cedar_scan.proofs.ListLemmas.{snoc, xor_back}
+use Rattle.cedar_model.proofs.MeaningLemmas.ExclusiveOr.{xor_back}
+use Rattle.cedar_scan.proofs.ListLemmas.{snoc}
 use Rattle.cedar_scan.proofs.SuffixLemmas.{held_goes_on, held_is_node, held_of_node, held_shorter, node_front, spots_of_held}
 use Rattle.cedar_scan.proofs.ScanLemmas.{last_behind, last_last, last_whole, length_last_most}
 

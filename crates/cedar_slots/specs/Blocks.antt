@@ -129,6 +129,11 @@ pub record Sized (blocks : BlockFields) : Type 0 where
   pub active_in : blocks.active ≤ length blocks.records
   pub fits : length blocks.records ≤ 2 ^ 22
 
+-- block b, which no list has had, is the first of a list now, and the lists are otherwise as they were
+abbrev pub PutsFirst : BlockFields → BlockFields → BlockType → ℕ → Type 0
+PutsFirst before after list b =
+    (lists : BlockType → List ℕ) → ListRings before lists → total lists b ≡ 0 → ListRings after (lists_with lists list (b ∷ lists list))
+
 -- what is left of the lists once a block has left one
 pub record Popped (after : BlockFields) (lists : BlockType → List ℕ) (list : BlockType) (b : ℕ) : Type 0 where
   pub rest : List ℕ

@@ -1,6 +1,6 @@
 -- What holds of a table between any two of its operations.
 use Rattle.std.specs.Prelude.{bit_xor, ◌≡◌, ℕ, ◌+◌, ◌*◌, ◌/◌, ◌^◌, ◌<◌, ◌≤◌, ◌≤ℤ◌, ℤ, true, false}
-use Rattle.std.specs.Prelude.{cond, ◌==◌, List, [], ◌∷◌, length, pos, replicate, slice_index_or}
+use Rattle.std.specs.Prelude.{◌⊎◌, cond, ◌==◌, List, [], ◌∷◌, length, pos, replicate, slice_index_or}
 use Rattle.cedar_slots.specs.Blocks.{blank_block, block_at, BlockFields, counts_at}
 use Rattle.cedar_slots.specs.Blocks.{HasLists, head_of, kind_of, Sized}
 use Rattle.cedar_slots.specs.declared.blocks.BlockType.{BlockType}
@@ -155,6 +155,10 @@ pub record IsFreePlace (table : PlaceFields) (slot : ℕ) : Type 0 where
 abbrev pub NoneFree : PlaceFields → Type 0
 NoneFree table = (slot : ℕ) → 0 < slot / 256 → slot / 256 < table.blocks.active → is_free table.slots.nodes slot ≡ false
 
+-- the block b has come into use, where no slot outside block 0 was free
+abbrev pub AddsNeededBlock : PlaceFields → PlaceFields → ℕ → Type 0
+AddsNeededBlock before after b = NoneFree before × AddsBlock before after b
+
 -- the block b is in the open list
 pub record IsOpenBlock (blocks : BlockFields) (b : ℕ) : Type 0 where
   pub not_root : 0 < b
@@ -179,6 +183,10 @@ pub record SameSlots (before after : PlaceFields) : Type 0 where
   pub active : after.blocks.active ≡ before.blocks.active
   pub len : length after.blocks.records ≡ length before.blocks.records
   pub max_trial : after.blocks.max_trial ≡ before.blocks.max_trial
+
+-- the slots are the same, or the block b has come into use
+abbrev pub KeepsOrAdds : PlaceFields → PlaceFields → ℕ → Type 0
+KeepsOrAdds before after b = SameSlots before after ⊎ AddsBlock before after b
 
 -- the first block, in which the root alone is held
 abbrev pub root_block : BlockRecord

@@ -1,14 +1,13 @@
 -- The words of clauses, from one place.
 pub use Rattle.cedar_slots.specs.Blocks.{block_at, counts_at, fresh_counts, HasLists, head_of}
-pub use Rattle.cedar_slots.specs.Blocks.{KeepsCounts, KeepsLinks, kind_of}
-pub use Rattle.cedar_slots.specs.Blocks.{linked_blocks, ListRings, lists_with, next_at, Popped}
-pub use Rattle.cedar_slots.specs.Blocks.{prev_at, SameFrom, Sized, total}
+pub use Rattle.cedar_slots.specs.Blocks.{KeepsCounts, KeepsLinks, kind_of, linked_blocks, ListRings}
+pub use Rattle.cedar_slots.specs.Blocks.{next_at, Popped, prev_at, PutsFirst, SameFrom, Sized}
 pub use Rattle.cedar_slots.specs.Counting.{SetsCounts}
-pub use Rattle.cedar_slots.specs.Places.{AddsBlock, FreesSlot, Grown, IsBase, IsFreePlace}
-pub use Rattle.cedar_slots.specs.Places.{IsNewPlaces, IsOpenBlock, IsPowerOfTwo}
-pub use Rattle.cedar_slots.specs.Places.{IsSlotLimit, IsStart, MayRefuse, NoneFree, reject_at}
-pub use Rattle.cedar_slots.specs.Places.{Rejects, room_for_one, SameSlots, Shaped}
-pub use Rattle.cedar_slots.specs.Places.{Sound, TakesSlot, Within}
+pub use Rattle.cedar_slots.specs.Places.{AddsBlock, AddsNeededBlock, FreesSlot, Grown, IsBase}
+pub use Rattle.cedar_slots.specs.Places.{IsFreePlace, IsNewPlaces, IsOpenBlock, IsPowerOfTwo}
+pub use Rattle.cedar_slots.specs.Places.{IsSlotLimit, IsStart, KeepsOrAdds, MayRefuse, NoneFree}
+pub use Rattle.cedar_slots.specs.Places.{reject_at, Rejects, room_for_one, SameSlots, Shaped, Sound}
+pub use Rattle.cedar_slots.specs.Places.{TakesSlot, Within}
 pub use Rattle.cedar_slots.specs.Ring.{occurs}
 pub use Rattle.cedar_slots.specs.Slots.{AllFree, base_at, blank_info, check_at, given_after}
 pub use Rattle.cedar_slots.specs.Slots.{given_alone, is_free, node_record_at}

@@ -1,7 +1,7 @@
 //! The blocks, and the lists that they are in.
 
-ghost use Rattle.std.specs.Prelude.{◌+ℤ◌, ◌+◌, ◌<ℤ◌, ◌<◌, ◌^◌, ◌∷◌, ◌≡◌, ◌≤ℤ◌, ◌≤◌, IsTrue};
-ghost use Rattle.std.specs.Prelude.{length, List, pos, unsigned_abs, ℕ, ℤ};
+ghost use Rattle.std.specs.Prelude.{◌+ℤ◌, ◌+◌, ◌<ℤ◌, ◌<◌, ◌^◌, ◌≡◌, ◌≤ℤ◌, ◌≤◌, IsTrue, length};
+ghost use Rattle.std.specs.Prelude.{List, pos, unsigned_abs, ℕ, ℤ};
 
 use crate::padded::Padded;
 use crate::records::BlockRecord;
@@ -173,8 +173,8 @@ impl<A: Allocator> Blocks<A> {
     ghost use Rattle.cedar_slots.specs.Words.{block_at, blocks_of, BlockType, counts_at};
     ghost use Rattle.cedar_slots.specs.Words.{fresh_counts, HasLists, head_of, KeepsCounts};
     ghost use Rattle.cedar_slots.specs.Words.{KeepsLinks, kind_of, linked_blocks, ListRings};
-    ghost use Rattle.cedar_slots.specs.Words.{lists_with, next_at, occurs, Popped, prev_at};
-    ghost use Rattle.cedar_slots.specs.Words.{SameFrom, SetsCounts, Sized, total};
+    ghost use Rattle.cedar_slots.specs.Words.{next_at, occurs, Popped, prev_at, PutsFirst};
+    ghost use Rattle.cedar_slots.specs.Words.{SameFrom, SetsCounts, Sized};
 
     /// Returns the first block of a list, or 0.
     pub fn head(&self, list: BlockType) -> i32
@@ -300,7 +300,7 @@ impl<A: Allocator> Blocks<A> {
         requires active_in { self.old.active ≤ length self.old.records.items }
         requires fits { length self.old.records.items ≤ 2 ^ 30 }
         ensures idle { SameFrom self.old.active self.old.records.items self.new.records.items }
-        ensures pushed { (lists : BlockType → List ℕ) → ListRings (blocks_of self.old) lists → total lists block ≡ 0 → ListRings (blocks_of self.new) (lists_with lists list (block ∷ lists list)) }
+        ensures pushed { PutsFirst (blocks_of self.old) (blocks_of self.new) list block }
         ensures counts { KeepsCounts self.old.records.items self.new.records.items }
         ensures len { length self.new.records.items ≡ length self.old.records.items }
         ensures used { self.new.records.used ≡ self.old.records.used }

@@ -1,6 +1,6 @@
 //! A list of which only a prefix has been written yet.
 
-ghost use Rattle.std.specs.Prelude.{◌+◌, ◌++◌, ◌<◌, ◌≡◌, ◌≤◌, IfOk, length, OnErr, OnOk, replicate};
+ghost use Rattle.std.specs.Prelude.{◌++◌, ◌+◌, ◌<◌, ◌≡◌, ◌≤◌, IfOk, length, OnOk, replicate};
 ghost use Rattle.std.specs.Prelude.{slice_index_or, slice_set, take, vec_capacity, vec_len};
 ghost use Rattle.cedar_slots.specs.Padded.{Items, with_blanks};
 

@@ -43,13 +43,13 @@ fn first_rejects<A: Allocator>(alloc: A) -> Result<Vec<i16, A>, AllocError>
 }
 
 impl<A: Allocator> Places<A> {
-    ghost use Rattle.cedar_slots.specs.Words.{AddsBlock, blocks_of, counts_at, FreesSlot, Grown};
-    ghost use Rattle.cedar_slots.specs.Words.{is_free, IsBase, IsFreePlace, IsNewPlaces};
-    ghost use Rattle.cedar_slots.specs.Words.{IsOpenBlock, IsPowerOfTwo, IsSlotLimit, IsStart};
-    ghost use Rattle.cedar_slots.specs.Words.{MayRefuse, node_record_at, NoneFree, places_of};
-    ghost use Rattle.cedar_slots.specs.Words.{range_with_len, reject_at, Rejects, room_for_one};
-    ghost use Rattle.cedar_slots.specs.Words.{SameSlots, Shaped, slots_of, Sound, TakesSlot};
-    ghost use Rattle.cedar_slots.specs.Words.{TriesAtMost, Within};
+    ghost use Rattle.cedar_slots.specs.Words.{AddsBlock, AddsNeededBlock, blocks_of, counts_at};
+    ghost use Rattle.cedar_slots.specs.Words.{FreesSlot, Grown, is_free, IsBase, IsFreePlace};
+    ghost use Rattle.cedar_slots.specs.Words.{IsNewPlaces, IsOpenBlock, IsPowerOfTwo, IsSlotLimit};
+    ghost use Rattle.cedar_slots.specs.Words.{IsStart, KeepsOrAdds, MayRefuse, node_record_at};
+    ghost use Rattle.cedar_slots.specs.Words.{NoneFree, places_of, range_with_len, reject_at};
+    ghost use Rattle.cedar_slots.specs.Words.{Rejects, room_for_one, SameSlots, Shaped, slots_of};
+    ghost use Rattle.cedar_slots.specs.Words.{Sound, TakesSlot, TriesAtMost, Within};
 
     /// One block, in which the root alone is held.
     pub fn new(alloc: A, root: NodeRecord, max_trial: i32) -> Result<Places<A>, AllocError>
@@ -341,7 +341,7 @@ impl<A: Allocator> Places<A> {
         ensures found { IfOk result (λ slot. IsFreePlace (places_of self.new) slot) }
 
         //= It makes a block, or fails, only if no slot outside block 0 is free. [with refused]
-        ensures made { IfOk result (λ slot. (places_of self.new ≡ places_of self.old) ⊎ (NoneFree (places_of self.old) × AddsBlock (places_of self.old) (places_of self.new) (slot / 256))) }
+        ensures made { IfOk result (λ slot. (places_of self.new ≡ places_of self.old) ⊎ AddsNeededBlock (places_of self.old) (places_of self.new) (slot / 256)) }
         ensures refused { IfErr result (λ error. NoneFree (places_of self.old) × MayRefuse (places_of self.old) slots error) }
 
         //= After a refusal the table is as it was.
@@ -486,7 +486,7 @@ impl<A: Allocator> Places<A> {
         ensures found { IfOk result (λ base. IsBase (places_of self.new) base labels.now) }
 
         //= It leaves all slots as they were, or makes one block; after a refusal all slots are as they were. [with err]
-        ensures made { IfOk result (λ base. SameSlots (places_of self.old) (places_of self.new) ⊎ AddsBlock (places_of self.old) (places_of self.new) (base / 256)) }
+        ensures made { IfOk result (λ base. KeepsOrAdds (places_of self.old) (places_of self.new) (base / 256)) }
 
         //= It fails as `add_block` does.
         ensures refused { IfErr result (λ error. MayRefuse (places_of self.old) slots error) }

@@ -1,4 +1,5 @@
 -- A table and its parts as their fields.
+pub mod Nodes
 pub mod Parts
 pub mod Room
 pub mod Views

@@ -2,7 +2,7 @@
 
 ghost use Rattle.std.specs.Prelude.{◌<◌, ◌≢◌, MatchOption};
 ghost use Rattle.cedar_table.specs.Words.{cells, fields, Held, IsTable, LinkedBehind, LinkedChild};
-ghost use Rattle.cedar_table.specs.Words.{SameFrame, SetsChild, SetsSibling, size_of};
+ghost use Rattle.cedar_table.specs.Words.{LinksIn, SameFrame, SetsChild, SetsSibling, size_of};
 
 use crate::table::Table;
 use cedar_model::Layout;
@@ -58,7 +58,7 @@ impl<L: Layout, const SLOTS: usize, A: Allocator> Table<L, SLOTS, A> {
         ensures sound { IsTable SLOTS (fields self.new).places }
 
         //= `link` puts a slot into a node's chain, behind another one or first of all, and changes nothing else.
-        ensures linked { MatchOption before (LinkedChild (cells self.old) (cells self.new) node slot label) (λ b. LinkedBehind (cells self.old) (cells self.new) b slot label) }
+        ensures linked { LinksIn (cells self.old) (cells self.new) before node slot label }
         ensures frame { SameFrame (fields self.old) (fields self.new) }
     {
         match before {

@@ -1,13 +1,12 @@
 //! One node of a table, read and written: its base, its owner, its slots for labels, its labels, and the node of a key.
 
-ghost use Rattle.std.specs.Prelude.{◌<◌, ◌^◌, ◌↔◌, ◌≡◌, ◌≢◌, [], IsTrue, length, List};
-ghost use Rattle.std.specs.Prelude.{MatchOption, None, pos, Some, true, ℕ};
-ghost use Rattle.cedar_table.specs.Words.{base_of, below, cells, ChecksAt, edit_at, empty_tree};
-ghost use Rattle.cedar_table.specs.Words.{Family, fields, FieldSet, Forest, HasNode, HasPath, Head};
-ghost use Rattle.cedar_table.specs.Words.{Held, is_value, IsAt, IsNode, IsTable, IsWellFormed};
-ghost use Rattle.cedar_table.specs.Words.{Links, node_at, Nothing, number_at, owned_slots};
-ghost use Rattle.cedar_table.specs.Words.{OwnNumber, OwnsNothing, Rebased, reduced_layout};
-ghost use Rattle.cedar_table.specs.Words.{SameFrame, size_of, TableHolds, tree_of};
+ghost use Rattle.std.specs.Prelude.{◌<◌, ◌^◌, ◌↔◌, ◌≡◌, ◌≢◌, [], IsTrue, length, MatchOption, None};
+ghost use Rattle.std.specs.Prelude.{pos, Some, true, ℕ};
+ghost use Rattle.cedar_table.specs.Words.{base_of, below, cells, ChecksAt, EditsNode, fields};
+ghost use Rattle.cedar_table.specs.Words.{FieldSet, Forest, HasNode, Held, is_value, IsEmptyAt};
+ghost use Rattle.cedar_table.specs.Words.{IsNode, IsNodeAt, IsTable, IsWellFormed, Links, Nothing};
+ghost use Rattle.cedar_table.specs.Words.{OfFamily, owned_slots, OwnNumber, OwnsNothing, Rebased};
+ghost use Rattle.cedar_table.specs.Words.{reduced_layout, SameFrame, size_of, tree_of};
 
 use crate::table::Table;
 use arrayvec::ArrayVec;
@@ -112,7 +111,7 @@ impl<L: Layout, const SLOTS: usize, A: Allocator> Table<L, SLOTS, A> {
         requires node { IsNode (size_of (fields self.now)) (cells self.now) node }
 
         //= `first_label` returns the first label of a node's chain, or 0.
-        ensures { (h : Head) (ls : List ℕ) → Family (size_of (fields self.now)) (cells self.now) node h ls → Links (cells self.now) node result ls }
+        ensures { OfFamily (fields self.now) node (λ h ls. Links (cells self.now) node result ls) }
     {
         if self.has_number_slot(node) {
             return self.sibling(self.base_of(node));
@@ -130,7 +129,7 @@ impl<L: Layout, const SLOTS: usize, A: Allocator> Table<L, SLOTS, A> {
 
         //= `labels_of` returns the labels under which a node owns slots, 0 for its number first; `None` if they are more than it may
         //  return.
-        ensures { (h : Head) (ls : List ℕ) → Family (size_of (fields self.now)) (cells self.now) node h ls → MatchOption result (MOST < length (owned_slots h ls)) (λ labels. labels.items ≡ owned_slots h ls) }
+        ensures { OfFamily (fields self.now) node (λ h ls. MatchOption result (MOST < length (owned_slots h ls)) (λ labels. labels.items ≡ owned_slots h ls)) }
     {
         let mut labels = number_label(self, node);
         let base = self.base_of(node);
@@ -152,7 +151,7 @@ impl<L: Layout, const SLOTS: usize, A: Allocator> Table<L, SLOTS, A> {
         requires node { IsNode (size_of (fields self.now)) (cells self.now) node }
 
         //= `all_labels_of` returns all of them.
-        ensures { (h : Head) (ls : List ℕ) → Family (size_of (fields self.now)) (cells self.now) node h ls → result.items ≡ owned_slots h ls }
+        ensures { OfFamily (fields self.now) node (λ h ls. result.items ≡ owned_slots h ls) }
     {
         match self.labels_of(node) {
             Some(labels) => labels,
@@ -165,7 +164,7 @@ impl<L: Layout, const SLOTS: usize, A: Allocator> Table<L, SLOTS, A> {
         requires { IsWellFormed SLOTS (fields self.now) }
 
         //= `node_of` returns the slot of a path's node. If it returns `None`, the tree has no number there, and nothing below.
-        ensures { MatchOption result ((number_at (tree_of (fields self.now)) key.now ≡ None) × (node_at (tree_of (fields self.now)) key.now ≡ empty_tree)) (λ s. (s < size_of (fields self.now)) × HasPath (tree_of (fields self.now)) key.now × IsAt (cells self.now) key.now s) }
+        ensures { MatchOption result (IsEmptyAt (tree_of (fields self.now)) key.now) (IsNodeAt (fields self.now) key.now) }
     {
         let mut node = 0;
         for &label in key {
@@ -232,8 +231,7 @@ impl<L: Layout, const SLOTS: usize, A: Allocator> Table<L, SLOTS, A> {
         //= `set_own_number` sets a number in the base field of a node that owns no slot, and changes nothing else: the tree has that number
         //  there then. [with tree]
         ensures set { FieldSet (cells self.old) (cells self.new) node (OwnNumber value) }
-        ensures tree { (f : Forest) (w : List ℕ) → TableHolds (fields self.old) f → IsAt (cells self.old) w node
-            → TableHolds (fields self.new) (edit_at w (λ _. Some value) (λ u. u) f) }
+        ensures tree { EditsNode (size_of (fields self.old)) (cells self.old) (fields self.new) node (λ _. Some value) (λ u. u) }
         ensures frame { SameFrame (fields self.old) (fields self.new) }
     {
         let record = NodeRecord {
@@ -269,7 +267,7 @@ fn number_label<L: Layout, const SLOTS: usize, A: Allocator, const MOST: usize>(
     requires node_in { node < size_of (fields table.now) }
     requires not_root { node ≢ 0 }
     requires node { IsNode (size_of (fields table.now)) (cells table.now) node }
-    ensures { (h : Head) (ls : List ℕ) → Family (size_of (fields table.now)) (cells table.now) node h ls → result.items ≡ owned_slots h [] }
+    ensures { OfFamily (fields table.now) node (λ h ls. result.items ≡ owned_slots h []) }
 {
     let mut labels = ArrayVec::new();
     if table.has_number_slot(node) {

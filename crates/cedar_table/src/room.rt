@@ -1,9 +1,9 @@
 //! Room for blocks that are not in use yet.
 
-ghost use Rattle.std.specs.Prelude.{◌*◌, ◌+◌, ◌<◌, ◌^◌, ◌≡◌, ◌≤◌, IfErr, length, OnErr, OnOk};
+ghost use Rattle.std.specs.Prelude.{◌*◌, ◌+◌, ◌<◌, ◌^◌, ◌≡◌, ◌≤◌, IfErr, OnErr, OnOk};
 ghost use Rattle.cedar_table.specs.Words.{blocks_after, capacity_of, cells, fields, Grown};
-ghost use Rattle.cedar_table.specs.Words.{IsWellFormed, LacksBlocks, marks, SameSettings};
-ghost use Rattle.cedar_table.specs.Words.{size_of, tree_of};
+ghost use Rattle.cedar_table.specs.Words.{IsWellFormed, LacksBlocks, MakesRoom, marks};
+ghost use Rattle.cedar_table.specs.Words.{SameSettings, size_of, tree_of};
 
 use crate::table::Table;
 use cedar_model::Layout;
@@ -40,7 +40,7 @@ impl<L: Layout, const SLOTS: usize, A: Allocator> Table<L, SLOTS, A> {
         ensures tree { tree_of (fields self.new) ≡ tree_of (fields self.old) }
         ensures marks { marks (fields self.new) ≡ marks (fields self.old) }
         ensures settings { SameSettings (fields self.old) (fields self.new) }
-        ensures capacity { OnOk result (length (fields self.new).places.blocks.records ≡ blocks_after blocks (fields self.old).places.blocks.active (length (fields self.old).places.blocks.records)) }
+        ensures capacity { OnOk result (MakesRoom blocks (fields self.old) (fields self.new)) }
         ensures spare { OnOk result (size_of (fields self.new) + 256 * blocks ≤ capacity_of (fields self.new)) }
         ensures enough { size_of (fields self.old) + 256 * blocks ≤ capacity_of (fields self.old) → fields self.new ≡ fields self.old }
         ensures refused { IfErr result (LacksBlocks (fields self.old) SLOTS blocks) }

@@ -7,10 +7,9 @@ use std::alloc::Allocator;
 use std::sync::ledger::Ledger;
 
 impl<L: Layout, const SLOTS: usize, A: Allocator> Table<L, SLOTS, A> {
-    ghost use Rattle.std.specs.Prelude.{◌+◌, ◌<◌, ◌↔◌, ◌≡◌, ◌≤◌, false, IsTrue, length};
-    ghost use Rattle.std.specs.Prelude.{MatchOption, OnSome, pos};
-    ghost use Rattle.cedar_table.specs.Words.{cells, exact, fields, has_label, IsWellFormed};
-    ghost use Rattle.cedar_table.specs.Words.{size_of, Stands, subtree, Tree, tree_of};
+    ghost use Rattle.std.specs.Prelude.{◌+◌, ◌<◌, ◌↔◌, ◌≡◌, ◌≤◌, IsTrue, length, OnSome, pos};
+    ghost use Rattle.cedar_table.specs.Words.{cells, exact, fields, FindsChild, IsWellFormed};
+    ghost use Rattle.cedar_table.specs.Words.{OfNode, size_of, Stands, Tree, tree_of};
 
     /// Returns whether a slot belongs to an owner: one comparison of a check field with a slot's number.
     pub(crate) fn belongs<C: Ledger>(&self, slot: usize, owner: usize, ticks: &mut Ticks<C>) -> bool
@@ -30,7 +29,7 @@ impl<L: Layout, const SLOTS: usize, A: Allocator> Table<L, SLOTS, A> {
 
         //= `follow` returns the slot of the child under a label, or that there is none, `number` a node's number; each counts one
         //  comparison at most. [with cost; also number]
-        ensures answer { (t : Tree) → Stands (size_of (fields self.now)) (cells self.now) node t → MatchOption result (has_label t.children label ≡ false) (λ s. (s < size_of (fields self.now)) × Stands (size_of (fields self.now)) (cells self.now) s (subtree t.children label)) }
+        ensures answer { OfNode (fields self.now) node (FindsChild (fields self.now) label result) }
         ensures cost { ticks.new ≤ ticks.old + 1 }
 
         //= A step of `follow` to a child counts exactly one comparison.
@@ -54,7 +53,7 @@ impl<L: Layout, const SLOTS: usize, A: Allocator> Table<L, SLOTS, A> {
     pub fn number<C: Ledger>(&self, node: usize, ticks: &mut Ticks<C>) -> Option<i32>
         requires node_in { node < size_of (fields self.now) }
         requires node { (t : Tree) × Stands (size_of (fields self.now)) (cells self.now) node t }
-        ensures answer { (t : Tree) → Stands (size_of (fields self.now)) (cells self.now) node t → result ≡ t.number }
+        ensures answer { OfNode (fields self.now) node (λ t. result ≡ t.number) }
         ensures cost { ticks.new ≤ ticks.old + 1 }
 
         //= `number` never lowers the count of comparisons.
@@ -81,7 +80,7 @@ impl<L: Layout, const SLOTS: usize, A: Allocator> Table<L, SLOTS, A> {
         requires node { (t : Tree) × Stands (size_of (fields self.now)) (cells self.now) node t }
 
         //= `number_of` returns a node's number.
-        ensures { (t : Tree) → Stands (size_of (fields self.now)) (cells self.now) node t → result ≡ t.number }
+        ensures { OfNode (fields self.now) node (λ t. result ≡ t.number) }
     {
         if self.child(node) != 0 {
             return None;

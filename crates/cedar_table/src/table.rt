@@ -26,12 +26,13 @@ pub struct Table<L: Layout, const SLOTS: usize, A: Allocator> {
 impl<L: Layout, const SLOTS: usize, A: Allocator> Table<L, SLOTS, A> {
     ghost use Rattle.cedar_table.specs.Words.{AddsBlock, block_at, capacity_of, cells};
     ghost use Rattle.cedar_table.specs.Words.{cells_without, check_at, empty_tree, fields, Gives};
-    ghost use Rattle.cedar_table.specs.Words.{HasPlaces, Held, InfoWritten, is_held, IsNewPlaces};
-    ghost use Rattle.cedar_table.specs.Words.{IsPlace, IsSlotLimit, IsTable, IsWellFormed};
-    ghost use Rattle.cedar_table.specs.Words.{MakesBlocks, MayClaim, MayRefuse, Memory};
-    ghost use Rattle.cedar_table.specs.Words.{NodeWritten, NoPlace, range_with_len, reading};
-    ghost use Rattle.cedar_table.specs.Words.{reject_at, SameFrame, SameHeld, SameSettings};
-    ghost use Rattle.cedar_table.specs.Words.{SameSlots, size_of, Takes, tree_of};
+    ghost use Rattle.cedar_table.specs.Words.{HasNoPlace, HasPlaces, Held, InfoWritten, is_held};
+    ghost use Rattle.cedar_table.specs.Words.{IsNewPlaces, IsPlace, IsSlotLimit, IsTable};
+    ghost use Rattle.cedar_table.specs.Words.{IsWellFormed, KeepsOrAdds, MakesBlocks};
+    ghost use Rattle.cedar_table.specs.Words.{MakesNeededBlock, MayClaim, MayRefuse, Memory};
+    ghost use Rattle.cedar_table.specs.Words.{NodeWritten, range_with_len, reading, reject_at};
+    ghost use Rattle.cedar_table.specs.Words.{SameFrame, SameHeld, SameSettings, SameSlots};
+    ghost use Rattle.cedar_table.specs.Words.{size_of, Takes, tree_of, with_count};
 
     /// A table with one block, in which the root alone is held. It represents the empty tree.
     pub fn new(alloc: A, ordered: bool, max_trial: i32) -> Result<Self, Shortage>
@@ -190,8 +191,8 @@ impl<L: Layout, const SLOTS: usize, A: Allocator> Table<L, SLOTS, A> {
         requires { IsTable SLOTS (fields self.old).places }
         ensures sound { IsTable SLOTS (fields self.new).places }
         ensures found { IfOk result (IsPlace (size_of (fields self.new)) (cells self.new)) }
-        ensures made { IfOk result (λ slot. (fields self.new ≡ fields self.old) ⊎ (NoPlace (size_of (fields self.old)) (cells self.old) × AddsBlock (fields self.old).places (fields self.new).places (slot / 256))) }
-        ensures refused { IfErr result (λ error. NoPlace (size_of (fields self.old)) (cells self.old) × MayRefuse (fields self.old).places SLOTS error) }
+        ensures made { IfOk result (λ slot. (fields self.new ≡ fields self.old) ⊎ MakesNeededBlock (fields self.old) (fields self.new) (slot / 256)) }
+        ensures refused { IfErr result (λ error. HasNoPlace (fields self.old) × MayRefuse (fields self.old).places SLOTS error) }
         ensures held { SameHeld (cells self.old) (cells self.new) }
         ensures settings { SameSettings (fields self.old) (fields self.new) }
         ensures unchanged { OnErr result (fields self.new ≡ fields self.old) }
@@ -208,7 +209,7 @@ impl<L: Layout, const SLOTS: usize, A: Allocator> Table<L, SLOTS, A> {
         requires few { length labels.now ≤ 256 }
         ensures sound { IsTable SLOTS (fields self.new).places }
         ensures found { IfOk result (λ base. HasPlaces (size_of (fields self.new)) (cells self.new) base labels.now) }
-        ensures made { IfOk result (λ base. SameSlots (fields self.old).places (fields self.new).places ⊎ AddsBlock (fields self.old).places (fields self.new).places (base / 256)) }
+        ensures made { IfOk result (λ base. KeepsOrAdds (fields self.old).places (fields self.new).places (base / 256)) }
         ensures refused { IfErr result (λ error. MayRefuse (fields self.old).places SLOTS error) }
         ensures held { SameHeld (cells self.old) (cells self.new) }
         ensures settings { SameSettings (fields self.old) (fields self.new) }
@@ -242,7 +243,7 @@ impl<L: Layout, const SLOTS: usize, A: Allocator> Table<L, SLOTS, A> {
         ensures unchanged { OnErr result (SameSlots (fields self.old).places (fields self.new).places) }
 
         //= A single label is never refused and needs no block, unless no slot outside block 0 is free.
-        ensures single { length labels.now ≡ 1 → (OnErr result ⊥ × MakesBlocks 0 (fields self.old) (fields self.new)) ⊎ NoPlace (size_of (fields self.old)) (cells self.old) }
+        ensures single { length labels.now ≡ 1 → (OnErr result ⊥ × MakesBlocks 0 (fields self.old) (fields self.new)) ⊎ HasNoPlace (fields self.old) }
         ensures settings { SameSettings (fields self.old) (fields self.new) }
     {
         if labels.len() == 1 {
@@ -297,7 +298,7 @@ impl<L: Layout, const SLOTS: usize, A: Allocator> Table<L, SLOTS, A> {
     /// Sets the stated number of keys, as whoever puts keys into the table by its slots has to. No slot changes.
     pub fn set_entries(&mut self, entries: usize)
         //= `set_entries` sets the stated number of keys, and nothing else.
-        ensures { fields self.new ≡ record { layout = (fields self.old).layout; ordered = (fields self.old).ordered; entries = entries; places = (fields self.old).places } }
+        ensures { fields self.new ≡ with_count (fields self.old) entries }
     {
         self.entries = entries;
     }

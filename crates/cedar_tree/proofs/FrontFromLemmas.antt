@@ -1,16 +1,13 @@
 -- How the prefix walk goes on.
-use Rattle.std.proofs.Common.{◌≡◌, ℕ, zero, suc, ◌+◌, ◌-◌, ◌<◌, ◌≤◌, false, ℤ, List, [], length, take, get_or, Option, Some, None, option_map, refl, sym, ap, ◌∙◌, arith}
+use Rattle.std.proofs.Common.{◌≡◌, ℕ, zero, suc, ◌+◌, ◌-◌, ◌<◌, ◌≤◌, false, ℤ, List, [], length, take, get_or, Some, None, option_map, refl, sym, ap, ◌∙◌, arith}
 use Rattle.std.specs.List.{filter_map, cons_option, range_with_len}
 use Rattle.std.proofs.lemmas.List.{take_all, take_more}
 use Rattle.cedar_tree.specs.Tree.{Tree, empty_tree, has_label, subtree, number_at}
-use Rattle.cedar_tree.specs.Queries.{front, node_at}
+use Rattle.cedar_tree.specs.Queries.{found_at, front, node_at}
 use Rattle.cedar_tree.specs.Walks.{front_from}
 use Rattle.cedar_tree.proofs.CutLemmas.{node_at-end}
 use Rattle.cedar_tree.proofs.TreeLemmas.{subtree_absent}
 use Rattle.cedar_tree.proofs.OrderLemmas.{number_of_node}
-
-abbrev found_at : Tree → List ℕ → ℕ → Option (ℤ × ℕ)
-found_at t q n = option_map (λ v. (v, n)) (number_at t (take (n + 1) q))
 
 pub front_begins : (t : Tree) (q : List ℕ) → front_from t q 0 ≡ front t q
 front_begins t q = let all : length q - 0 ≡ length q = omega arith in ap (λ n. filter_map (found_at t q) (range_with_len 0 n)) all

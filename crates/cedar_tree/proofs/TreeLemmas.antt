@@ -3,6 +3,11 @@ use Rattle.std.proofs.Common.{◌≡◌, ℕ, ◌<◌, Bool, true, false, cond, 
 use Rattle.std.proofs.lemmas.Bool.{true≢false, false≢true, or_parts, or_left, and_right, eqb-true, eqb-false, ne_eqb}
 use Rattle.cedar_tree.specs.Tree.{Forest, none, child, Tree, empty_tree, has_label, subtree, number_at, replace, insert_ascending, put_child, put, is_leafless, is_bare, without, cut, IsSoundBelow, IsSound, IsPath, IsKey, AllNumbers}
 
+-- a key is a path
+pub key_is_path : (key : List ℕ) → IsKey key → IsPath key
+key_is_path [] h = absurd h
+key_is_path (b ∷ rest) h = h
+
 -- no child of this label: the tree under it is empty
 pub subtree_absent : (f : Forest) (l : ℕ) → has_label f l ≡ false → subtree f l ≡ empty_tree
 subtree_absent none l h = refl

@@ -5,5 +5,6 @@ pub mod Laws
 pub mod State
 pub mod Stored
 pub mod Statements
+pub mod StepLaws
 pub mod Walks
 pub mod Words

@@ -52,3 +52,7 @@ visits_after t (label ∷ up) =
 -- not yet below it
 abbrev pub visits_left : Tree → List ℕ → List Visit
 visits_left t up = map (visit_from (forwards up)) (visits_below (node_up t up).children) ++ visits_after t up
+
+-- all nodes of a tree, as a walk from its root on visits them
+abbrev pub tree_visits : Tree → List Visit
+tree_visits t = ([], t.number) ∷ visits_left t []

@@ -1,8 +1,9 @@
 //! Laws of the nodes that a cut passes on its way up.
 
-ghost use Rattle.std.specs.Prelude.{◌++◌, ◌∷◌, ◌≡◌, [], List, None, ℕ};
-ghost use Rattle.cedar_tree.specs.Words.{HasPath, IsAscending, node_at, subtree, Tree, without};
-ghost use Rattle.cedar_tree.specs.Words.{without_leaf, without_number};
+ghost use Rattle.std.specs.Prelude.{◌++◌, ◌∷◌, ◌≡◌, [], List, ℕ};
+ghost use Rattle.cedar_tree.specs.Words.{CutLeafChangesItsNode, CutNumberChangesItsNode};
+ghost use Rattle.cedar_tree.specs.Words.{IsAscending, node_at, subtree, Tree, without_leaf};
+ghost use Rattle.cedar_tree.specs.Words.{without_number};
 
 /// A path that is one label longer leads to the child under it.
 pub fn paths_go_on()
@@ -14,10 +15,10 @@ pub fn paths_go_on()
 /// were.
 pub fn cut_nodes_stay()
     //= The node that a leaf was taken from lacks its label, and is otherwise as it was.
-    ensures leaf { (t : Tree) (w : List ℕ) (l : ℕ) → HasPath t w → node_at (without_leaf t w l) w ≡ record { number = (node_at t w).number; children = without (node_at t w).children l } }
+    ensures leaf { CutLeafChangesItsNode }
 
     //= The node whose number was dropped has none, and is otherwise as it was.
-    ensures number { (t : Tree) (l : ℕ) (path : List ℕ) → HasPath t (l ∷ path) → node_at (without_number t (l ∷ path)) (l ∷ path) ≡ record { number = None; children = (node_at t (l ∷ path)).children } }
+    ensures number { CutNumberChangesItsNode }
 {}
 
 /// Ascending labels still ascend without a leaf, and without a number.

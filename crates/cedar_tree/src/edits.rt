@@ -1,16 +1,15 @@
 //! Laws by which a put and a cut go along a path, one node at a time.
 
-ghost use Rattle.std.specs.Prelude.{◌++◌, ◌∷◌, ◌≡◌, ◌⊎◌, [], Bool, false, List, None, true, ℕ, ℤ};
-ghost use Rattle.cedar_tree.specs.Words.{cut, has_label, HasPath, is_bare, node_at, put};
-ghost use Rattle.cedar_tree.specs.Words.{subtree, Tree, with_leaf, with_number, without};
-ghost use Rattle.cedar_tree.specs.Words.{without_leaf, without_number};
+ghost use Rattle.std.specs.Prelude.{◌∷◌, ◌≡◌, Bool, false, List, None, ℕ, ℤ};
+ghost use Rattle.cedar_tree.specs.Words.{cut, CutEndsAbove, CutTakesLeaf, HasPath, is_bare};
+ghost use Rattle.cedar_tree.specs.Words.{node_at, put, PutAddsLeaf, Tree, with_number};
+ghost use Rattle.cedar_tree.specs.Words.{without_number};
 
 /// A put makes the same tree if the next node of its path, which is missing, was first added as a bare leaf; and if no node is
 /// missing, it sets the number.
 pub fn put_goes_along_its_path()
     //= A put makes the same tree if the next missing node of its path was first added as a bare leaf.
-    ensures leaf { (t : Tree) (ordered : Bool) (w : List ℕ) (l : ℕ) (rest : List ℕ) (v : ℤ) → HasPath t w → has_label (node_at t w).children l ≡ false
-        → put (with_leaf t ordered w l) ordered (w ++ l ∷ rest) v ≡ put t ordered (w ++ l ∷ rest) v }
+    ensures leaf { PutAddsLeaf }
 
     //= If no node is missing, a put sets the number.
     ensures number { (t : Tree) (ordered : Bool) (l : ℕ) (path : List ℕ) (v : ℤ) → HasPath t (l ∷ path) → put t ordered (l ∷ path) v ≡ with_number t (l ∷ path) v }
@@ -23,8 +22,7 @@ pub fn cut_goes_up_its_path()
     ensures number { (t : Tree) (l : ℕ) (path : List ℕ) → cut (without_number t (l ∷ path)) (l ∷ path) ≡ cut t (l ∷ path) }
 
     //= A cut makes the same tree if a bare node of its path was first taken from a parent that has its label once.
-    ensures leaf { (t : Tree) (w : List ℕ) (l : ℕ) (rest : List ℕ) → is_bare (subtree (node_at t w).children l) ≡ true → has_label (without (node_at t w).children l) l ≡ false
-        → cut (without_leaf t w l) (w ++ l ∷ rest) ≡ cut t (w ++ l ∷ rest) }
+    ensures leaf { CutTakesLeaf }
 {}
 
 /// A cut changes nothing more once the node at its path has no number and isn't bare, or once the path ends at the root
@@ -34,5 +32,5 @@ pub fn cut_ends()
     ensures there { (t : Tree) (path : List ℕ) → (node_at t path).number ≡ None → is_bare (node_at t path) ≡ false → cut t path ≡ t }
 
     //= A cut changes nothing if its path leaves the tree at the root, or at a node that isn't bare.
-    ensures above { (t : Tree) (w : List ℕ) (l : ℕ) (rest : List ℕ) → (w ≡ []) ⊎ (is_bare (node_at t w) ≡ false) → has_label (node_at t w).children l ≡ false → cut t (w ++ l ∷ rest) ≡ t }
+    ensures above { CutEndsAbove }
 {}

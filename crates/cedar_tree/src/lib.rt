@@ -1,5 +1,5 @@
 //! The labelled tree that a dictionary's results come from: definitions for contracts, and their laws. The statements of the
-//! laws are in specs/Statements.antt.
+//! laws are in specs/Statements.antt, and those of laws that go one node at a time in specs/StepLaws.antt.
 #![tactic(auto)]
 
 ghost use Rattle.cedar_tree.specs.Statements.{PutIsReadBack, PutStaysLocal, CutIsReadBack};

@@ -17,7 +17,7 @@ pub record IsStepAt (t : Tree) (u : ℕ → ℕ) (text costs : List ℕ) (left :
   pub cost : cost_at costs left ≡ min (price (u (length text - left)) (step_at t u text costs left).value + cost_at costs (left - (step_at t u text costs left).len)) (2 ^ 64 - 1)
 
 -- among the first costs that of fewer bytes is the same
-within_first : (costs : List ℕ) (left n : ℕ) → 0 < n → n ≤ left → left < length costs → cost_at (take left costs) (length (take left costs) - n) ≡ cost_at costs (left - n)
+pub within_first : (costs : List ℕ) (left n : ℕ) → 0 < n → n ≤ left → left < length costs → cost_at (take left costs) (length (take left costs) - n) ≡ cost_at costs (left - n)
 within_first costs left n some within low =
     let all : length (take left costs) ≡ left = length-take-le left costs (omega (arith, low)) in
     ap (λ m. cost_at (take left costs) (m - n)) all ∙ get_or-take left costs (left - n) 0 (omega (arith, some, within))

@@ -15,16 +15,12 @@ use Rattle.cedar_words.specs.declared.edges.Edge.{Edge}
 use Rattle.cedar_words.specs.declared.edges.Stop.{Stop}
 use Rattle.cedar_words.specs.declared.models.UnknownRun.{UnknownRun}
 use Rattle.cedar_words.proofs.StepLemmas.{fronts_within}
+use Rattle.cedar_words.proofs.TokenLemmas.{drop_one}
 
 -- nothing begins where no byte is left
 no_edges : (t : Tree) (key : ℤ → ℕ) (run : ℕ → UnknownRun) (place : ℕ) (q : List ℕ) → length q ≡ 0 → edges_from t key run place q ≡ []
 no_edges t key run place [] h = refl
 no_edges t key run place (b ∷ q) h = absurd (omega (arith, h))
-
-drop_next : (place : ℕ) (text rest : List ℕ) (b : ℕ) → drop place text ≡ b ∷ rest → drop (place + 1) text ≡ rest
-drop_next zero text rest b e = ap (drop 1) e
-drop_next (suc place) [] rest b e = absurd (cc)
-drop_next (suc place) (c ∷ text) rest b e = let same : suc place + 1 ≡ suc (place + 1) = omega arith in ap (λ n. drop n (c ∷ text)) same ∙ drop_next place text rest b e
 
 -- all edges from a position on are those there, and those from the next position on
 pub edges_here : (t : Tree) (key : ℤ → ℕ) (run : ℕ → UnknownRun) (text : List ℕ) (place : ℕ)
@@ -46,7 +42,7 @@ edges_here t key run text place = at (drop place text) refl
         let fronts : List (ℤ × ℕ) = front t (b ∷ rest) in
         rw here
         (ap (λ n. map (key_edge key place) fronts ++ (run_edges place n (own_run (run place) fronts) ++ edges_from t key run (place + 1) rest)) many
-        ∙ ap (λ q. map (key_edge key place) fronts ++ (run_edges place (length text - place) (own_run (run place) fronts) ++ edges_from t key run (place + 1) q)) (sym (drop_next place text rest b is)))
+        ∙ ap (λ q. map (key_edge key place) fronts ++ (run_edges place (length text - place) (own_run (run place) fronts) ++ edges_from t key run (place + 1) q)) (sym (drop_one place text rest b is)))
 
 -- a new position, by what is to come there
 pub edges_new : (t : Tree) (key : ℤ → ℕ) (run : ℕ → UnknownRun) (text : List ℕ) (place : ℕ) (stop : Stop) (walk all : List (ℤ × ℕ)) → stop.place ≡ place → keys_left stop.key walk ≡ all → stop.run ≡ run_by run text place all

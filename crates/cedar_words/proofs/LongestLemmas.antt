@@ -3,10 +3,8 @@ use Rattle.std.proofs.Common.{◌≡◌, ℕ, zero, suc, ◌+◌, ◌-◌, ◌<�
 use Rattle.std.specs.List.{filter_map, cons_option, range_with_len, last_or}
 use Rattle.std.proofs.lemmas.Bool.Decides.{eqb_tells}
 use Rattle.cedarwood.specs.Tree.{Tree, number_at}
+use Rattle.cedarwood.specs.Queries.{found_at}
 use Rattle.cedar_words.specs.Words.{IsLongest, len_of, longest, found_number}
-
-abbrev found_at : Tree → List ℕ → ℕ → Option (ℤ × ℕ)
-found_at t q n = option_map (λ v. (v, n)) (number_at t (take (n + 1) q))
 
 -- no longer front than this is held, up to an end
 abbrev NoneFrom : Tree → List ℕ → ℕ → ℕ → Type 0

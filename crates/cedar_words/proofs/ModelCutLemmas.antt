@@ -1,6 +1,6 @@
 -- What the cut costs that the best steps by a model lead along, and that it is the best.
 use Rattle.std.proofs.Common.{◌≡◌, ℕ, zero, suc, ◌+◌, ◌-◌, ◌^◌, ◌<◌, ◌≤◌, ◌⊎◌, inl, inr, min, ℤ, List, [], ◌∷◌, length, take, drop, get_or, Option, Some, None, MatchOption, Result, Ok, Err, IfOk, Vec, refl, sym, ap, subst, ◌∙◌, arith}
-use Rattle.std.proofs.lemmas.List.{get_or-take, get_or_default, length-drop, length-take-le}
+use Rattle.std.proofs.lemmas.List.{get_or_default, length-drop, length-take-le}
 use Rattle.std.proofs.lemmas.Bool.Decides.{leb_tells}
 use Rattle.cedarwood.specs.Tree.{Tree, number_at}
 use Rattle.cedarwood.proofs.MemberLemmas.{either_part}
@@ -13,6 +13,7 @@ use Rattle.cedar_words.specs.declared.costs.Step.{Step}
 use Rattle.cedar_words.specs.declared.cuts.Kept.{Kept}
 use Rattle.cedar_words.specs.declared.cuts.Kept.TheVariants.{Long}
 use Rattle.cedar_words.specs.declared.models.UnknownRun.{UnknownRun}
+use Rattle.cedar_words.proofs.CutLemmas.{within_first}
 use Rattle.cedar_words.proofs.ModelStepLemmas.{best_is, found_key, IsBestBy}
 use Rattle.cedar_words.proofs.StepLemmas.{along_step}
 
@@ -25,12 +26,6 @@ best_at t key run text costs len left some within =
     let all : length (take left costs) ≡ left = length-take-le left costs (omega (arith, len, within)) in
     let bytes : length (drop (length text - left) text) ≡ left = length-drop (length text - left) text ∙ omega (arith, within) in
     best_is t key (run (length text - left)) (take left costs) (drop (length text - left) text) (omega (arith, all, some)) (all ∙ sym bytes)
-
--- among the first costs that of fewer bytes is the same
-within_first : (costs : List ℕ) (left n : ℕ) → 0 < n → n ≤ left → left < length costs → cost_at (take left costs) (length (take left costs) - n) ≡ cost_at costs (left - n)
-within_first costs left n some within low =
-    let all : length (take left costs) ≡ left = length-take-le left costs (omega (arith, low)) in
-    ap (λ m. cost_at (take left costs) (m - n)) all ∙ get_or-take left costs (left - n) 0 (omega (arith, some, within))
 
 pub record IsStepAt (t : Tree) (key : ℤ → ℕ) (run : ℕ → UnknownRun) (text costs : List ℕ) (left : ℕ) : Type 0 where
   pub some : 0 < (step_by t key run text costs left).len

@@ -3,10 +3,7 @@ use Rattle.std.proofs.Common.{ℕ, zero, suc, ◌+◌, ◌<◌, ◌≤◌, ℤ, 
 use Rattle.std.specs.List.{filter_map, cons_option, range_with_len, last_or}
 use Rattle.std.proofs.lemmas.List.Elements.{All-cons, All-nil}
 use Rattle.cedar_tree.specs.Tree.{Tree, number_at}
-use Rattle.cedar_tree.specs.Queries.{front}
-
-abbrev found_at : Tree → List ℕ → ℕ → Option (ℤ × ℕ)
-found_at t q n = option_map (λ v. (v, n)) (number_at t (take (n + 1) q))
+use Rattle.cedar_tree.specs.Queries.{found_at, front}
 
 last_within : (t : Tree) (q : List ℕ) (n a end : ℕ) (before : Option (ℤ × ℕ)) → a + n ≤ end → IfSome before (λ found. found.1 < end)
     → IfSome (last_or before (filter_map (found_at t q) (range_with_len a n))) (λ found. found.1 < end)

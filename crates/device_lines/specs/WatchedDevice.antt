@@ -1,11 +1,16 @@
 -- What a caller sees of a watched reader or writer.
 use Rattle.std.specs.Prelude.{ℕ, Bool, true, ◌&&◌, ◌==◌, ◌<◌, not, List, length, Result, Ok, Err}
 use Rattle.std.specs.Prelude.{Option, None, Some, ⊤}
+use Rattle.std.specs.Io.KnownBytes.{Appends}
 use Rattle.device_lines.specs.declared.watched.Watched.{Watched}
 
 -- the reader or writer inside a `Watched`
 abbrev pub device_of : {D : Type 0} → Watched D → D
 device_of w = w.device
+
+-- the device inside a watched writer, which reports its bytes by `contents`, holds these bytes behind what it held (`Appends`)
+abbrev pub DeviceAppends : {D : Type 0} → (D → Option (List ℕ)) → Watched D → Watched D → List ℕ → Type 0
+DeviceAppends contents before after bytes = Appends (contents (device_of before)) (contents (device_of after)) bytes
 
 -- whether one of its calls has failed so far
 abbrev pub has_failed : {D : Type 0} → Watched D → Bool

@@ -11,6 +11,7 @@ use Rattle.cedar_tree.specs.Queries.{Entry, walk}
 use Rattle.cedar_tree.specs.Laws.{ArePathsAscending}
 use Rattle.cedar_tree.specs.Tree.{IsAscending, IsKey, IsPath, IsSound, Tree}
 use Rattle.cedar_tree.proofs.EntryLemmas.Keys.{walk_keys}
+use Rattle.cedar_tree.proofs.TreeLemmas.{key_is_path}
 use Rattle.cedar_tree.proofs.WalkLemmas.{walk_ascends}
 use Rattle.key_ranges.specs.Spans.{entries_within, holds, HoldsBefore, HoldsBehind, HoldsPrefixed, KeySpan}
 
@@ -21,10 +22,6 @@ same_tests p q [] is = refl
 same_tests p q (e ∷ es) is =
     ap (λ b. cond b (e ∷ filter (λ x. p x.0) es) (filter (λ x. p x.0) es)) (is e.0)
     ∙ ap (λ zs. cond (q e.0) (e ∷ zs) zs) (same_tests p q es is)
-
-pub key_is_path : (w : List ℕ) → IsKey w → IsPath w
-key_is_path [] key = absurd key
-key_is_path (b ∷ w) key = key
 
 same_on_keys : (p q : List ℕ → Bool) (es : List Entry) → AllByRecursion (λ e. IsKey e.0) es → ((w : List ℕ) → IsPath w → p w ≡ q w) → filter (λ e. p e.0) es ≡ filter (λ e. q e.0) es
 same_on_keys p q [] keys is = refl

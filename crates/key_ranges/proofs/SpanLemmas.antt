@@ -42,12 +42,9 @@ less Greater h = absurd (true≢false (sym h))
 
 -- ---- behind one
 
-not_less : (w : List ℕ) → is_ge (slice_cmp nat_cmp w []) ≡ true
-not_less [] = refl
-not_less (x ∷ xs) = refl
-
 pub all_follow : (w : List ℕ) → is_ge (slice_cmp nat_cmp w []) ≡ true
-all_follow w = not_less w
+all_follow [] = refl
+all_follow (x ∷ xs) = refl
 
 through : (o r s : Ordering) → is_ge r ≡ is_gt s → is_ge (ordering_then o r) ≡ is_gt (ordering_then o s)
 through Less r s h = refl
@@ -60,7 +57,7 @@ from_behind [] [] = refl
 from_behind (x ∷ xs) [] =
     by_ranked (x < 0) (x ≡ 0) (0 < x) (nat_cmp x 0) (ranked x 0 (nat_cmp x 0) refl)
     (λ _ low. absurd (omega (arith, low)))
-    (λ e _. ap (λ o. is_ge (ordering_then o (slice_cmp nat_cmp xs []))) e ∙ not_less xs)
+    (λ e _. ap (λ o. is_ge (ordering_then o (slice_cmp nat_cmp xs []))) e ∙ all_follow xs)
     (λ e _. ap (λ o. is_ge (ordering_then o (slice_cmp nat_cmp xs []))) e)
 from_behind [] (k ∷ ks) = refl
 from_behind (x ∷ xs) (k ∷ ks) = through (nat_cmp x k) (slice_cmp nat_cmp xs (ks ++ 0 ∷ [])) (slice_cmp nat_cmp xs ks) (from_behind xs ks)
@@ -115,7 +112,7 @@ end_above x y (Some to) w high low e = ap (λ o. is_lt (ordering_then o (slice_c
 
 -- what isn't before a prefix, and before what is behind all that begin with it, begins with it
 pub prefixed : (w prefix : List ℕ) → IsPath w → (is_ge (slice_cmp nat_cmp w prefix) && ends_before (successor prefix) w) ≡ starts_with nat_eq w prefix
-prefixed w [] path = ap (λ b. b && true) (not_less w)
+prefixed w [] path = ap (λ b. b && true) (all_follow w)
 prefixed [] (y ∷ ys) path = refl
 prefixed (x ∷ xs) (y ∷ ys) path =
     by_ranked (x < y) (x ≡ y) (y < x) (nat_cmp x y) (ranked x y (nat_cmp x y) refl)

@@ -13,7 +13,8 @@ use Rattle.cedar_tree.specs.Laws.{ArePathsKeys}
 use Rattle.cedar_tree.specs.Queries.{Entry}
 use Rattle.cedar_tree.specs.Tree.{IsKey, IsPath}
 use Rattle.key_ranges.specs.Spans.{ends_before}
-use Rattle.key_ranges.proofs.EntryRangeLemmas.{key_is_path, Rises, rises, same_tests, some_rise}
+use Rattle.cedar_tree.proofs.TreeLemmas.{key_is_path}
+use Rattle.key_ranges.proofs.EntryRangeLemmas.{Rises, rises, same_tests, some_rise}
 use Rattle.key_ranges.proofs.SpanLemmas.{all_follow, from_behind}
 use Rattle.last_entries.specs.Nearness.{before_end, GoesOnFrom, behind_key, far, from_on, AscendByKeys, IsNearBy, IsOneOf}
 use Rattle.last_entries.proofs.PathLemmas.{apart, behind_both, below_all, byte_apart, byte_of_front, from_behind_one, gt_from_less, has_byte, has_some_byte, joined_again, length_of_front, less_from_gt, less_is, not_from, path_behind, raised_behind, same_front, take_of_front}

@@ -52,7 +52,7 @@ fn longer<S: Ascending, A: Allocator + Copy>(
     requires all { near.old.depth ≡ vec_len near.old.key }
     ensures { IfOk result (Nears (before_end (option_map (λ z. z.now) to.entry) (S.entries source.now)) near.old near.new) }
 {
-    let from = joined(alloc, &near.key, 0)?;
+    let from = append(alloc, &near.key, 0)?;
     let mut found = Vec::new(alloc);
     let Some(value) = first_between(source, &from, to, &mut found)? else {
         return Ok(true);
@@ -77,7 +77,7 @@ fn wider<S: Ascending, A: Allocator + Copy>(
 {
     let byte = near.key[near.depth];
     let next = byte + near.step.max(1).min(near.highest - byte);
-    let from = joined(alloc, &near.key[..near.depth], next)?;
+    let from = append(alloc, &near.key[..near.depth], next)?;
     let mut found = Vec::new(alloc);
     match first_between(source, &from, to, &mut found)? {
         Some(value) => {
@@ -95,7 +95,7 @@ fn wider<S: Ascending, A: Allocator + Copy>(
 }
 
 /// Some bytes and one more.
-fn joined<A: Allocator + Copy>(alloc: A, bytes: &[u8], byte: u8) -> Result<Vec<u8, A>, AllocError>
+fn append<A: Allocator + Copy>(alloc: A, bytes: &[u8], byte: u8) -> Result<Vec<u8, A>, AllocError>
     ensures { IfOk result (λ all. all.items ≡ bytes.now ++ byte ∷ []) }
 {
     let mut all = Vec::with_capacity(alloc, bytes.len() + 1)?;

@@ -1,21 +1,17 @@
 -- What the loops of the queries have found so far.
-use Rattle.std.proofs.Common.{◌≡◌, ℕ, ◌+◌, ◌-◌, ◌<◌, ◌≤◌, true, false, nat_eq, ℤ, List, [], ◌∷◌, ◌++◌, length, map, take, get_or, Option, Some, None, option_map, Vec, refl, sym, ap, ◌∙◌, arith}
+use Rattle.std.proofs.Common.{◌≡◌, ℕ, ◌+◌, ◌-◌, ◌<◌, ◌≤◌, true, false, nat_eq, ℤ, List, [], ◌∷◌, ◌++◌, length, map, take, get_or, Some, None, Vec, refl, sym, ap, ◌∙◌, arith}
 use Rattle.std.specs.List.{starts_with, range_with_len, filter, filter_map}
 use Rattle.std.proofs.lemmas.List.{append-nil, map-append, map-id, take_more, take_all}
 use Rattle.std.proofs.lemmas.List.Elements.{filter-append, filter_map-append}
 use Rattle.std.proofs.lemmas.List.FromFn.{map-range_with_len_more}
 use Rattle.cedar_tree.specs.Tree.{Tree, number_at}
-use Rattle.cedar_tree.specs.Queries.{Entry, walk, predict}
+use Rattle.cedar_tree.specs.Queries.{Entry, found_at, walk, predict}
 use Rattle.plain_tree.specs.Listing.{vector_entries}
 
 range-push : (n : ℕ) → range_with_len 0 (n + 1) ≡ range_with_len 0 n ++ n ∷ []
 range-push n =
     sym (map-id (range_with_len 0 (n + 1))) ∙ map-range_with_len_more (λ (k : ℕ). k) 0 n n (omega arith)
     ∙ ap (λ (ks : List ℕ). ks ++ n ∷ []) (map-id (range_with_len 0 n))
-
--- the number at the front of q that ends at byte n, and n
-abbrev pub found_at : Tree → List ℕ → ℕ → Option (ℤ × ℕ)
-found_at t q n = option_map (λ v. (v, n)) (number_at t (take (n + 1) q))
 
 front-push : (t : Tree) (q : List ℕ) (n : ℕ) → filter_map (found_at t q) (range_with_len 0 (n + 1)) ≡ filter_map (found_at t q) (range_with_len 0 n) ++ filter_map (found_at t q) (n ∷ [])
 front-push t q n = ap (filter_map (found_at t q)) (range-push n) ∙ filter_map-append (found_at t q) (range_with_len 0 n) (n ∷ [])

@@ -1,8 +1,6 @@
 -- A node gets its base, its number and its labels.
 use Rattle.std.proofs.Common.{◌≡◌, ℕ, ◌<◌, ◌≤◌, ◌⊎◌, ◌∙◌, sym, ap, subst, refl, inl, inr, arith, Option, Some, None, List, [], ◌∷◌, ◌++◌, length}
 use Rattle.std.specs.Prelude.{◌%◌, ℤ, pos, bit_xor}
-use Rattle.std.specs.Int.Bits.{xor_self}
-use lib.Bits.{xor_assoc, xor_zero_r}
 use Rattle.cedar_model.specs.Tree.{empty_tree, Forest, IsAscending, none, Tree}
 use Rattle.cedar_model.specs.Queries.{node_at}
 use Rattle.cedar_model.specs.Edits.{edit_at}
@@ -21,7 +19,7 @@ use Rattle.cedar_model.proofs.EditLemmas.FirstBase.{held_still, leaf_based, leaf
 use Rattle.std.proofs.lemmas.Bool.{cases_eq}
 use Rattle.cedar_bulk.proofs.BulkLemmas.OneAfterAnother.{ascending_edit, edit_alike, edit_children, edit_nothing, edit_twice}
 use Rattle.cedar_model.proofs.EditLemmas.OwnNumber.{field_paths}
-use Rattle.cedar_model.proofs.MeaningLemmas.ExclusiveOr.{xor_injective}
+use Rattle.cedar_model.proofs.MeaningLemmas.ExclusiveOr.{xor_again, xor_injective}
 use Rattle.cedar_model.proofs.RelocationLemmas.PlacesFirst.{place_of}
 use Rattle.cedar_model.proofs.EditLemmas.Room.{root_label_free}
 use Rattle.cedar_model.proofs.EditLemmas.NumberWritten.{number_taken}
@@ -42,9 +40,6 @@ root_based size T f w a ls h at bare z positive = record {
       (λ o. (empty_node size T f w a h at bare).alone _ (o ∙ ap pos (sym z))) (subst (λ x. Held T (below T x l)) z k);
 }
 
-twice : (b l : ℕ) → bit_xor (bit_xor b l) l ≡ b
-twice b l = xor_assoc b l l ∙ ap (bit_xor b) (xor_self l) ∙ xor_zero_r b
-
 module _ (size size' : ℕ) (T T₁ T₂ : Cells) (f : Forest) (w : List ℕ) (a base : ℕ) (h : HoldsTree size T f) (at : IsAt T w a) (z : a ≡ 0 → ⊥) (bare : T.stored a ≡ AtBase 0)
     (more : size ≤ size') (whole : size' % 256 ≡ 0) (same : SameHeld T T₁) (set : Rebased T₁ T₂ a base) where
   held_back : (x : ℕ) → Held T₂ x → Held T₁ x
@@ -58,7 +53,7 @@ module _ (size size' : ℕ) (T T₁ T₂ : Cells) (f : Forest) (w : List ℕ) (a
   by_first : (l : ℕ) (ls : List ℕ) → l < 256 → HasPlaces size' T₁ base (l ∷ ls) → GetsBase size size' T T₂ a (l ∷ ls)
   by_first l ls small places =
       let here = place_of size' T₁ base (l ∷ ls) places l (inl refl) in
-      let set_at : Rebased T₁ T₂ a (bit_xor (bit_xor base l) l) = subst (Rebased T₁ T₂ a) (sym (twice base l)) set in
+      let set_at : Rebased T₁ T₂ a (bit_xor (bit_xor base l) l) = subst (Rebased T₁ T₂ a) (sym (xor_again base l)) set in
       let k = leaf_based size size' T T₁ T₂ f w a (bit_xor base l) l h at z bare more whole small same here set_at in
       record {
         tree = k.tree;

@@ -1,11 +1,11 @@
 //! A key erased, and nodes that are left with neither number nor child.
 
 ghost use Rattle.std.specs.Prelude.{◌<◌, ◌↔◌, ◌≡◌, is_some, IsTrue, List, None, true, ℕ};
-ghost use Rattle.cedar_edit.specs.Words.{capacity_of, cells, cut, edit_at, fields, Forest, HasNode};
-ghost use Rattle.cedar_edit.specs.Words.{is_bare, IsAt, IsTable, IsWellFormed, KeepsMarks};
-ghost use Rattle.cedar_edit.specs.Words.{KeepsOtherMarks, LosesLeaf, marks, MarksCut, node_at};
-ghost use Rattle.cedar_edit.specs.Words.{number_at, root_of, SameFrame, SameModes, size_of};
-ghost use Rattle.cedar_edit.specs.Words.{TableHolds, TellsBare, tree_after_trim, tree_of};
+ghost use Rattle.cedar_edit.specs.Words.{capacity_of, cells, cut, EditsNode, fields, Forest};
+ghost use Rattle.cedar_edit.specs.Words.{HasNode, is_bare, IsAt, IsTable, IsWellFormed, KeepsMarks};
+ghost use Rattle.cedar_edit.specs.Words.{KeepsOtherMarks, marks, MarksCut, node_at, number_at};
+ghost use Rattle.cedar_edit.specs.Words.{RemovesNode, root_of, SameFrame, SameModes, size_of};
+ghost use Rattle.cedar_edit.specs.Words.{TellsBare, tree_of, TrimsNode};
 
 use crate::edit::leaf::remove_label;
 use crate::edit::number::drop_number;
@@ -61,7 +61,7 @@ fn remove_bare<L: Layout, const SLOTS: usize, A: Allocator>(
     ensures sound { IsTable SLOTS (fields table.new).places }
     ensures inside { result.0 < size_of (fields table.old) }
     ensures bare { TellsBare (size_of (fields table.new)) (cells table.new) result.0 result.1 }
-    ensures tree { (f : Forest) (w : List ℕ) → TableHolds (fields table.old) f → IsAt (cells table.old) w node → LosesLeaf (size_of (fields table.new)) (cells table.new) f w result.0 }
+    ensures tree { RemovesNode (fields table.old) (fields table.new) node result.0 }
     ensures marks { KeepsMarks (cells table.old) (cells table.new) }
     ensures root_check { (cells table.new).check 0 ≡ (cells table.old).check 0 }
     ensures frame { SameFrame (fields table.old) (fields table.new) }
@@ -86,8 +86,7 @@ pub(crate) fn trim<L: Layout, const SLOTS: usize, A: Allocator>(
     ensures sound { IsTable SLOTS (fields table.new).places }
 
     //= `trim` removes a bare node and each node above it that then is bare, and keeps all marks. [with marks]
-    ensures tree { (f : Forest) (w : List ℕ) → TableHolds (fields table.old) f → IsAt (cells table.old) w node
-        → TableHolds (fields table.new) (tree_after_trim (root_of f) w).children }
+    ensures tree { TrimsNode (fields table.old) (fields table.new) node }
     ensures marks { KeepsMarks (cells table.old) (cells table.new) }
     ensures root_check { (cells table.new).check 0 ≡ (cells table.old).check 0 }
     ensures frame { SameFrame (fields table.old) (fields table.new) }
@@ -111,8 +110,7 @@ fn drop_any_number<L: Layout, const SLOTS: usize, A: Allocator>(
     requires not_root { 0 < node }
     requires node { (f : Forest) × (n : HasNode (fields table.old) f node) × (is_some (node_at (root_of f) n.path).number ≡ true) }
     ensures sound { IsTable SLOTS (fields table.new).places }
-    ensures tree { (f : Forest) (w : List ℕ) → TableHolds (fields table.old) f → IsAt (cells table.old) w node
-        → TableHolds (fields table.new) (edit_at w (λ _. None) (λ u. u) f) }
+    ensures tree { EditsNode (size_of (fields table.old)) (cells table.old) (fields table.new) node (λ _. None) (λ u. u) }
     ensures at { (w : List ℕ) → IsAt (cells table.old) w node → IsAt (cells table.new) w node }
     ensures others { KeepsOtherMarks (cells table.old) (cells table.new) node }
     ensures root_check { (cells table.new).check 0 ≡ (cells table.old).check 0 }

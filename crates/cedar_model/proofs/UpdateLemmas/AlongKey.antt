@@ -235,10 +235,6 @@ node_walked slots before after key w rest a k = (k.forest, record { holds = k.ho
 
 -- ---- by the index in the key
 
-pub key_path : (key : List ℕ) → IsKey key → IsPath key
-key_path [] h = absurd h
-key_path (l ∷ rest) h = h
-
 pub key_some : (key : List ℕ) → IsKey key → 0 < length key
 key_some [] h = absurd h
 key_some (l ∷ rest) h = omega arith

@@ -1,6 +1,6 @@
 -- An edit of one node of a tree, and of its own slots in a table.
 use Rattle.std.specs.Prelude.{◌≡◌, ℕ, Bool, true, ℤ, ◌<◌, List, [], ◌∷◌, pos, Option}
-use Rattle.std.specs.Prelude.{None, ◌⊎◌, cond, nat_eq, nat_lt}
+use Rattle.std.specs.Prelude.{MatchOption, None, ◌⊎◌, cond, nat_eq, nat_lt}
 use Rattle.cedar_tree.specs.Tree.{Forest, IsAscending, none, child}
 use Rattle.cedar_model.specs.declared.layout.Stored.TheVariants.{AtBase, OwnNumber}
 use Rattle.cedar_model.specs.Table.Cells.{Cells, Held}
@@ -166,6 +166,10 @@ pub record LinkedChild (T T' : Cells) (a x l : ℕ) : Type 0 where
   pub child : (q : ℕ) → (q ≡ a → ⊥) → T'.child q ≡ T.child q
   pub next : T'.sibling x ≡ T.child a
   pub other : (q : ℕ) → (q ≡ x → ⊥) → T'.sibling q ≡ T.sibling q
+
+-- slot x with label l is in a's chain now, right behind the slot `before` or, without one, first of all, and nothing else has changed
+abbrev pub LinksIn : Cells → Cells → Option ℕ → ℕ → ℕ → ℕ → Type 0
+LinksIn T T' before a x l = MatchOption before (LinkedChild T T' a x l) (λ b. LinkedBehind T T' b x l)
 
 -- the labels ascend
 abbrev pub Ascends : List ℕ → Type 0

@@ -1,14 +1,15 @@
 -- What the steps of an update and of an erasure change.
 use Rattle.std.specs.Prelude.{◌≡◌, ℕ, zero, suc, ◌+◌, ◌*◌, ◌<◌, ◌≤◌, ◌==◌, cond, if◌then◌else◌}
-use Rattle.std.specs.Prelude.{Bool, true, List, [], ◌∷◌, ◌++◌, length, None, pos}
+use Rattle.std.specs.Prelude.{ℤ, Bool, true, List, [], ◌∷◌, ◌++◌, length, None, Option, pos}
 use Rattle.cedar_tree.specs.Tree.{Forest, IsAscending, Tree, cut, has_label, is_bare}
 use Rattle.cedar_tree.specs.Queries.{node_at}
-use Rattle.cedar_tree.specs.Edits.{with_leaf}
+use Rattle.cedar_tree.specs.Edits.{edit_at, with_leaf}
 use Rattle.cedar_model.specs.declared.layout.Stored.TheVariants.{AtBase}
-use Rattle.cedar_model.specs.Table.Cells.{Held}
+use Rattle.cedar_model.specs.Table.Cells.{Cells, Held}
 use Rattle.cedar_model.specs.Edit.NodeEdits.{IsAt, IsNodeOf}
 use Rattle.cedar_model.specs.Meaning.Family.{below, InRange}
 use Rattle.cedar_model.specs.Meaning.Marks.{KeepsMarks}
+use Rattle.cedar_model.specs.Meaning.StandsFor.{HoldsTree}
 use Rattle.cedar_model.specs.Table.TableFields.{Fields, SameSettings, size_of}
 use Rattle.cedar_model.specs.Meaning.WellFormed.{cells_in, TableHolds}
 
@@ -16,6 +17,11 @@ use Rattle.cedar_model.specs.Meaning.WellFormed.{cells_in, TableHolds}
 unfoldable pub blocks_after : ℕ → ℕ → ℕ → ℕ
 blocks_after zero active blocks = blocks
 blocks_after (suc n) active blocks = blocks_after n (active + 1) (cond (active == blocks) (2 * blocks) blocks)
+
+-- the table has as many blocks as once n more are in use (`blocks_after`)
+abbrev pub MakesRoom : ℕ → Fields → Fields → Type 0
+MakesRoom n before after =
+    length after.places.blocks.records ≡ blocks_after n before.places.blocks.active (length before.places.blocks.records)
 
 -- n more blocks are in use, and the table has doubled exactly if it had to
 pub record MakesBlocks (n : ℕ) (before after : Fields) : Type 0 where
@@ -27,6 +33,12 @@ pub record MayAddBlock (before after : Fields) : Type 0 where
   pub blocks : (n : ℕ) × (n ≤ 1) × MakesBlocks n before after
   pub root_check : (cells_in after).check 0 ≡ (cells_in before).check 0
   pub settings : SameSettings before after
+
+-- the tree of the slots T becomes a table's by a change of one node's number and children: those of the node at slot
+-- a
+abbrev pub EditsNode : ℕ → Cells → Fields → ℕ → (Option ℤ → Option ℤ) → (Forest → Forest) → Type 0
+EditsNode size T after a number children =
+    (f : Forest) (w : List ℕ) → HoldsTree size T f → IsAt T w a → TableHolds after (edit_at w number children f)
 
 -- slot a of a table is a node of the tree with the children f, whose labels ascend if the table is ordered
 -- (`IsNodeOf`)

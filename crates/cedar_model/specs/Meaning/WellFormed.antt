@@ -3,7 +3,7 @@ use Rattle.std.specs.Prelude.{◌≡◌, ℕ, Bool, true, ◌&&◌, int_le, ℤ,
 use Rattle.std.specs.Prelude.{[], ◌∷◌, ◌++◌, length, cond}
 use Rattle.cedar_tree.specs.Tree.{Forest, none, child, Tree, IsSoundBelow, IsAscending, AllNumbers}
 use Rattle.cedar_tree.specs.Queries.{walk}
-use Rattle.cedar_model.specs.Table.Cells.{Cells, cells_of}
+use Rattle.cedar_model.specs.Table.Cells.{Cells, cells_of, NoPlace}
 use Rattle.cedar_model.specs.Meaning.Family.{below}
 use Rattle.cedar_model.specs.Meaning.StandsFor.{HoldsTree}
 use Rattle.cedar_slots.specs.Places.{IsTable}
@@ -22,6 +22,10 @@ tree_of T = tree_read (size_of T) (cells_in T)
 -- the slots of a table hold the tree with the children f
 abbrev pub TableHolds : Fields → Forest → Type 0
 TableHolds T f = HoldsTree (size_of T) (cells_in T) f
+
+-- no slot of a table that is in use outside block 0 is free
+abbrev pub HasNoPlace : Fields → Type 0
+HasNoPlace T = NoPlace (size_of T) (cells_in T)
 
 -- whether a number may be the value of a key: from 0 to 2147483645
 abbrev pub is_value : ℤ → Bool
@@ -60,3 +64,7 @@ slots_below T s (child l n f rest) =
 -- if it has one
 abbrev pub slots_named : Cells → Tree → List ℕ
 slots_named T t = 0 ∷ slots_below T 0 t.children
+
+-- the slots that the tree of a table names
+abbrev pub tree_slots : Fields → List ℕ
+tree_slots T = slots_named (cells_in T) (tree_of T)

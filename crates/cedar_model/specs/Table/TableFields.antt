@@ -11,6 +11,10 @@ pub record Fields : Type 0 where
   pub entries : ℕ
   pub places : PlaceFields
 
+-- the table with another number of keys
+abbrev pub with_count : Fields → ℕ → Fields
+with_count T entries = record { layout = T.layout; ordered = T.ordered; entries = entries; places = T.places }
+
 -- how many slots are in use, free ones among them: 256 times the number of blocks in use
 abbrev pub size_of : Fields → ℕ
 size_of T = 256 * T.places.blocks.active

@@ -9,11 +9,12 @@ use Rattle.cedar_model.proofs.UpdateLemmas.BlocksMade.{made_none, same_slots}
 use Rattle.cedar_model.proofs.MeaningLemmas.SearchStep.{never_nothing}
 use Rattle.cedar_model.proofs.MeaningLemmas.KeyPath.{slot_within}
 use Rattle.cedar_model.proofs.UpdateLemmas.ChildReached.{child_there}
-use Rattle.cedar_model.proofs.UpdateLemmas.AlongKey.{key_path, walk_begins, walked_all, walked_at, walked_on, walked_to}
+use Rattle.cedar_model.proofs.TreeLemmas.{key_is_path}
+use Rattle.cedar_model.proofs.UpdateLemmas.AlongKey.{walk_begins, walked_all, walked_at, walked_on, walked_to}
 use Rattle.cedar_edit.proofs.keys.put.known_front.Goals as goal
 
 pub loop-length-init : goal.loop-length-init
-loop-length-init g c = walk_begins g.row.SLOTS (fields c.args.table.now) c.args.key.now c.requires.well_formed (key_path c.args.key.now c.requires.key)
+loop-length-init g c = walk_begins g.row.SLOTS (fields c.args.table.now) c.args.key.now c.requires.well_formed (key_is_path c.args.key.now c.requires.key)
 
 pub slot_below-slot-requires : goal.slot_below-slot-requires
 slot_below-slot-requires g c =

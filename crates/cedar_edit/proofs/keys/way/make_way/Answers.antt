@@ -7,7 +7,7 @@ use Rattle.cedar_model.specs.Meaning.WellFormed.{tree_of}
 use Rattle.cedar_model.proofs.UpdateLemmas.BlocksMade.{made_none}
 use Rattle.cedar_model.proofs.UpdateLemmas.NumberInTheWay.{default_way, has_way, lacks_node, moves_out, not_held, not_one}
 use Rattle.cedar_model.proofs.UpdateLemmas.StepAnswers.{on_refusal}
-use Rattle.cedar_model.proofs.UpdateLemmas.AlongKey.{key_path}
+use Rattle.cedar_model.proofs.TreeLemmas.{key_is_path}
 use Rattle.cedar_edit.proofs.keys.way.make_way.Goals as goal
 
 pub returns-then-not-keeps_numbers-clause-way : goal.returns-then-not-keeps_numbers-clause-way
@@ -30,7 +30,7 @@ returns-clause-way g c =
     let own = c.in-Some.ensures.1 in
     let m = c.move_out.ensures in
     let at : IsAt (cells c.move_out.new.table) (take c.in-Some.length c.args.key.now) own.0 = m.at (take c.in-Some.length c.args.key.now) own.0 own.1 in
-    has_way g.row.SLOTS (fields c.args.table.now) c.requires.well_formed c.args.key.now c.in-Some.length c.in-Some.ensures.0 own (fields c.move_out.new.table) m.well_formed m.tree at (c.in_ok-move_out.ensures.moved own.0 at) (key_path c.args.key.now c.requires.key)
+    has_way g.row.SLOTS (fields c.args.table.now) c.requires.well_formed c.args.key.now c.in-Some.length c.in-Some.ensures.0 own (fields c.move_out.new.table) m.well_formed m.tree at (c.in_ok-move_out.ensures.moved own.0 at) (key_is_path c.args.key.now c.requires.key)
 
 pub returns-clause-moved : goal.returns-clause-moved
 returns-clause-moved g c = λ n is.
@@ -41,7 +41,7 @@ returns-clause-moved g c = λ n is.
     let less = c.in-Some.ensures.0 in (
       omega (arith, less, same),
       c.keeps_numbers.ensures.0 c.if-not-keeps_numbers.false,
-      lacks_node g.row.SLOTS (fields c.args.table.now) c.requires.well_formed c.args.key.now c.in-Some.length c.in-Some.ensures.0 own (fields c.move_out.new.table) m.well_formed m.tree at (c.in_ok-move_out.ensures.moved own.0 at) (key_path c.args.key.now c.requires.key),
+      lacks_node g.row.SLOTS (fields c.args.table.now) c.requires.well_formed c.args.key.now c.in-Some.length c.in-Some.ensures.0 own (fields c.move_out.new.table) m.well_formed m.tree at (c.in_ok-move_out.ensures.moved own.0 at) (key_is_path c.args.key.now c.requires.key),
     )
 
 pub returns-clause-over : goal.returns-clause-over
@@ -59,7 +59,7 @@ returns-clause-moves g c = λ n is.
     let m = c.move_out.ensures in
     let at : IsAt (cells c.move_out.new.table) (take c.in-Some.length c.args.key.now) own.0 = m.at (take c.in-Some.length c.args.key.now) own.0 own.1 in
     let same : c.in-Some.length ≡ n = cc in
-    let out = moves_out g.row.SLOTS (fields c.args.table.now) c.requires.well_formed c.args.key.now c.in-Some.length c.in-Some.ensures.0 own (fields c.move_out.new.table) m.well_formed m.tree at (c.in_ok-move_out.ensures.moved own.0 at) (key_path c.args.key.now c.requires.key) (c.in_ok-move_out.ensures.others own.0 own.1) in
+    let out = moves_out g.row.SLOTS (fields c.args.table.now) c.requires.well_formed c.args.key.now c.in-Some.length c.in-Some.ensures.0 own (fields c.move_out.new.table) m.well_formed m.tree at (c.in_ok-move_out.ensures.moved own.0 at) (key_is_path c.args.key.now c.requires.key) (c.in_ok-move_out.ensures.others own.0 own.1) in
     subst (λ k. MovesOut (cells c.args.table.now) (cells c.move_out.new.table) (root_of (tree_of (fields c.args.table.now)).children) (take k c.args.key.now)) same out
 
 pub returns-then-not-keeps_numbers-clause-made : goal.returns-then-not-keeps_numbers-clause-made

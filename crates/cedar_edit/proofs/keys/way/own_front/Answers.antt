@@ -4,13 +4,14 @@ use Rattle.cedar_table.specs.Table.Views.{cells, fields}
 use Rattle.cedar_model.specs.Table.TableFields.{size_of}
 use Rattle.cedar_model.specs.Meaning.WellFormed.{tree_of}
 use Rattle.cedar_model.proofs.MeaningLemmas.KeyPath.{key_goes_on, slot_within}
-use Rattle.cedar_model.proofs.UpdateLemmas.AlongKey.{key_path, walk_begins}
+use Rattle.cedar_model.proofs.TreeLemmas.{key_is_path}
+use Rattle.cedar_model.proofs.UpdateLemmas.AlongKey.{walk_begins}
 use Rattle.cedar_model.proofs.UpdateLemmas.FreeWay.{next_bytes, way_behind, way_ends}
 use Rattle.cedar_edit.proofs.keys.way.own_front.Goals as goal
 
 pub loop-length-init : goal.loop-length-init
 loop-length-init g c =
-    let w = walk_begins g.row.SLOTS (fields c.args.table.now) c.args.key.now c.requires.well_formed (key_path c.args.key.now c.requires.key) in
+    let w = walk_begins g.row.SLOTS (fields c.args.table.now) c.args.key.now c.requires.well_formed (key_is_path c.args.key.now c.requires.key) in
     record { inside = w.inside; at = w.at; bytes = w.bytes; way = λ rest. rest }
 
 pub is_owned_by-requires : goal.is_owned_by-requires
