@@ -1,9 +1,8 @@
 //! Ranges of byte strings.
 
 ghost use Rattle.std.specs.Prelude.{◌≡◌, IfOk, OnErr, OnOk, option_map};
-ghost use Rattle.key_ranges.specs.Words.{bound_map, HoldsBefore};
-ghost use Rattle.key_ranges.specs.Words.{HoldsBehind, HoldsPast, HoldsPrefixed, KeySpan};
-ghost use Rattle.key_ranges.specs.Words.{HoldsBetween, span_code};
+ghost use Rattle.key_ranges.specs.Words.{bound_map, HoldsBefore, HoldsBehind, HoldsBetween};
+ghost use Rattle.key_ranges.specs.Words.{HoldsPast, HoldsPrefixed, KeySpan, span_code};
 
 use crate::ends::{behind, comes_before, end_of, start_of};
 use crate::prefix::behind_prefix;
