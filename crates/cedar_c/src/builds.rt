@@ -1,17 +1,16 @@
 //! A dictionary of pairs, made at once: of pairs whose keys ascend, or of pairs in any order.
 
-ghost use Rattle.std.specs.Prelude.{◌*◌, ◌≡◌, ◌≤◌, ◌⊎◌, Err, false, IfErr, IfOk, IfSome};
-ghost use Rattle.std.specs.Prelude.{length, None, Some, true};
-ghost use Rattle.cedar_c.specs.Words.{AnyCedar, asc, build_fault, content, default_layout};
-ghost use Rattle.cedar_c.specs.Words.{dictionary_in, entries_in, entries_of, IsSlotLimit, IsSorted};
-ghost use Rattle.cedar_c.specs.Words.{layout_if, layout_in, layout_of, MayWantSlots, most_slots};
-ghost use Rattle.cedar_c.specs.Words.{OpensBuilt, prefixes, reduced_layout, TellsFault};
-ghost use Rattle.cedar_c.specs.Words.{TellsPosition};
+ghost use Rattle.std.specs.Prelude.{◌≡◌, ◌⊎◌, Err, false, IfErr, IfOk, IfSome, None, Some, true};
+ghost use Rattle.cedar_c.specs.Words.{AnyCedar, build_fault, BuildsOrLacks, content};
+ghost use Rattle.cedar_c.specs.Words.{default_layout, dictionary_in, entries_in, entries_of};
+ghost use Rattle.cedar_c.specs.Words.{IsBuildShortage, IsSlotLimit, IsSorted, layout_if, layout_in};
+ghost use Rattle.cedar_c.specs.Words.{layout_of, most_slots, OpensBuilt, reduced_layout};
+ghost use Rattle.cedar_c.specs.Words.{TellsFault, TellsPosition};
 
 use crate::any::AnyCedar;
 use crate::handle::Handle;
 use crate::pairs::{Pair, take_pairs};
-use crate::status::{INVALID_MAX_TRIAL, MEMORY, OK, SLOT_LIMIT, tell};
+use crate::status::{INVALID_MAX_TRIAL, OK, tell};
 use cedarwood::{CedarBuilder, CedarError, Layout, Trie};
 use std::alloc::Global;
 
@@ -32,8 +31,7 @@ fn build_taken<L: Layout, const SLOTS: usize>(
     requires limit { IsSlotLimit SLOTS }
     ensures faulty { IfSome (build_fault is_sorted (entries_of pairs.now)) (λ e. result ≡ Err e) }
     ensures made { IfOk result (IsSorted L.kind settings (entries_of pairs.now)) }
-    ensures refused { build_fault is_sorted (entries_of pairs.now) ≡ None
-        → IfErr result (λ e. (e ≡ CedarError.Memory) ⊎ ((e ≡ CedarError.SlotLimit) × (SLOTS ≤ 256 * length (prefixes (asc (entries_of pairs.now)))))) }
+    ensures refused { build_fault is_sorted (entries_of pairs.now) ≡ None → IfErr result (λ e. IsBuildShortage SLOTS (entries_of pairs.now) e) }
 {
     if is_sorted {
         return Trie::from_sorted_bytes_with(alloc, settings, pairs);
@@ -51,8 +49,7 @@ fn make_of_pairs<L: Layout, const SLOTS: usize>(
     requires limit { IsSlotLimit SLOTS }
     ensures faulty { IfSome (build_fault is_sorted (entries_in pairs.now)) (λ e. (result ≡ Err e) ⊎ (result ≡ Err CedarError.Memory)) }
     ensures made { IfOk result (IsSorted L.kind settings (entries_in pairs.now)) }
-    ensures refused { build_fault is_sorted (entries_in pairs.now) ≡ None
-        → IfErr result (λ e. (e ≡ CedarError.Memory) ⊎ ((e ≡ CedarError.SlotLimit) × MayWantSlots SLOTS pairs.now)) }
+    ensures refused { build_fault is_sorted (entries_in pairs.now) ≡ None → IfErr result (λ e. IsBuildShortage SLOTS (entries_in pairs.now) e) }
 {
     match take_pairs(alloc, pairs) {
         Some(taken) => build_taken(alloc, is_sorted, settings, taken.as_slice()),
@@ -72,7 +69,7 @@ impl AnyCedar {
         ensures faulty { IfSome (build_fault wanted.is_sorted (entries_in pairs.now)) (λ e. (result ≡ Err e) ⊎ (result ≡ Err CedarError.Memory)) }
         ensures made { IfOk result (λ a. IsSorted (layout_of a) settings (entries_in pairs.now) (dictionary_in a)) }
         ensures layout { IfOk result (λ a. layout_of a ≡ layout_if wanted.is_reduced) }
-        ensures refused { build_fault wanted.is_sorted (entries_in pairs.now) ≡ None → IfErr result (λ e. (e ≡ CedarError.Memory) ⊎ ((e ≡ CedarError.SlotLimit) × MayWantSlots most_slots pairs.now)) }
+        ensures refused { build_fault wanted.is_sorted (entries_in pairs.now) ≡ None → IfErr result (λ e. IsBuildShortage most_slots (entries_in pairs.now) e) }
     {
         if wanted.is_reduced {
             let cedar = make_of_pairs(alloc, wanted.is_sorted, settings, pairs)?;
@@ -93,7 +90,7 @@ fn make_on_heap(
     ensures faulty { IfSome (build_fault wanted.is_sorted (entries_in pairs.now)) (λ e. (result ≡ Err e) ⊎ (result ≡ Err CedarError.Memory)) }
     ensures made { IfOk result (λ b. IsSorted (layout_of b.value) settings (entries_in pairs.now) (dictionary_in b.value)) }
     ensures layout { IfOk result (λ b. layout_of b.value ≡ layout_if wanted.is_reduced) }
-    ensures refused { build_fault wanted.is_sorted (entries_in pairs.now) ≡ None → IfErr result (λ e. (e ≡ CedarError.Memory) ⊎ ((e ≡ CedarError.SlotLimit) × MayWantSlots most_slots pairs.now)) }
+    ensures refused { build_fault wanted.is_sorted (entries_in pairs.now) ≡ None → IfErr result (λ e. IsBuildShortage most_slots (entries_in pairs.now) e) }
 {
     let cedar = AnyCedar::of_pairs(alloc, wanted, settings, pairs)?;
     match Box::new(alloc, cedar) {
@@ -114,7 +111,7 @@ fn renew(
     ensures made { result ≡ OK → (a : AnyCedar) × (content handle.new ≡ Some a) × IsSorted (layout_of a) settings (entries_in pairs.now) (dictionary_in a) }
     ensures layout { result ≡ OK → layout_in handle.new ≡ Some (layout_if wanted.is_reduced) }
     ensures faulty { IfSome (build_fault wanted.is_sorted (entries_in pairs.now)) (TellsFault position.old position.new result) }
-    ensures refused { build_fault wanted.is_sorted (entries_in pairs.now) ≡ None → (result ≡ OK) ⊎ (result ≡ MEMORY) ⊎ ((result ≡ SLOT_LIMIT) × MayWantSlots most_slots pairs.now) }
+    ensures refused { build_fault wanted.is_sorted (entries_in pairs.now) ≡ None → BuildsOrLacks (entries_in pairs.now) result }
     ensures kept { (result ≡ OK) ⊎ (content handle.new ≡ content handle.old) }
     ensures stays { TellsPosition result ⊎ (position.new ≡ position.old) }
 {
