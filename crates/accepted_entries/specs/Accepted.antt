@@ -22,6 +22,14 @@ accepted_in accepts span es = filter (λ e. accepts e.0) (entries_in_span span e
 abbrev pub GivesFirst : List Entry → Option Entry → List Entry → Type 0
 GivesFirst es found later = MatchOption found ((es ≡ []) × (later ≡ [])) (λ first. es ≡ first ∷ later)
 
+-- a range gives the first of the entries in it whose keys pass a test, and has the others of these left; or there is none
+abbrev pub GivesAccepted : (List ℕ → Bool) → List Entry → KeySpan → KeySpan → Option Entry → Type 0
+GivesAccepted accepts es old new found = GivesFirst (accepted_in accepts old es) found (accepted_in accepts new es)
+
+-- a range has the entries whose keys pass a test that it had before
+abbrev pub KeepsAccepted : (List ℕ → Bool) → List Entry → KeySpan → KeySpan → Type 0
+KeepsAccepted accepts es old new = accepted_in accepts new es ≡ accepted_in accepts old es
+
 -- if an entry was found, a range holds what another one holds that comes behind its key
 abbrev pub GoesOnBehind : KeySpan → KeySpan → Option Entry → Type 0
 GoesOnBehind old new found = IfSome found (λ e. HoldsBehind old new e.0)

@@ -1,5 +1,5 @@
 -- How many look-ups a search by an automaton makes.
-use Rattle.std.specs.Prelude.{◌≡◌, ◌⊎◌, ℕ, ◌&&◌, Bool, false, true, fold, filter, length, List, [], ◌∷◌, take}
+use Rattle.std.specs.Prelude.{◌≡◌, ◌⊎◌, ℕ, ◌+◌, ◌≤◌, ◌&&◌, Bool, false, true, fold, filter, length, List, [], ◌∷◌, take}
 use Rattle.cedar_tree.specs.Queries.{Entry}
 use Rattle.cedar_tree.specs.Tree.{IsPath}
 use Rattle.key_ranges.specs.Spans.{holds, HoldsBehind, HoldsPast, KeySpan}
@@ -29,6 +29,13 @@ HaveFronts es fronts = (e : Entry) → IsOneOf e es → (n : ℕ) → IsAmong (t
 abbrev pub ahead_count : (List ℕ → Bool) → KeySpan → List (List ℕ) → ℕ
 ahead_count test span fronts = length (filter (λ w. test w && holds span w) fronts)
 
+-- a search by an automaton counted its look-ups: two at most, and one at most for each front of a key that a range held and holds no
+-- more, and to which the automaton leads
+abbrev pub CostsLookUps : {M S : Type 0} → (M → S → ℕ → S) → (M → S → Bool) → (M → S) → M → List Entry → KeySpan → KeySpan → ℕ → ℕ → Type 0
+CostsLookUps after may initial automaton es old new before now =
+    let leads = leads_to (after automaton) (may automaton) (initial automaton) in
+    (fronts : List (List ℕ)) → HaveFronts es fronts → now + ahead_count leads new fronts ≤ before + ahead_count leads old fronts + 2
+
 -- ---- how it is found
 
 -- an automaton was followed along a key as far as it may match: to the key's end, or to where it can't any more
@@ -37,11 +44,21 @@ ReadsAlong leads may key Accepts = (leads key ≡ true) × (may key ≡ true)
 ReadsAlong leads may key Refuses = (leads key ≡ true) × (may key ≡ true)
 ReadsAlong leads may key (Ends len) = (leads (take len key) ≡ true) × (may (take len key) ≡ false)
 
+-- this automaton was followed along a key (`ReadsAlong`)
+abbrev pub FollowsKey : {M S : Type 0} → (M → S → ℕ → S) → (M → S → Bool) → (M → S) → M → List ℕ → Verdict → Type 0
+FollowsKey after may initial automaton key verdict =
+    ReadsAlong (leads_to (after automaton) (may automaton) (initial automaton)) (may_after (after automaton) (may automaton) (initial automaton)) key verdict
+
 -- a range goes on behind a key that an automaton leads along, or past the bytes of it after which that can't match
 abbrev pub WayOn : (List ℕ → Bool) → (List ℕ → Bool) → List ℕ → KeySpan → KeySpan → Type 0
 WayOn leads may key old new =
     ((leads key ≡ true) × (may key ≡ true) × HoldsBehind old new key)
     ⊎ ((len : ℕ) × (leads (take len key) ≡ true) × (may (take len key) ≡ false) × HoldsPast old new (take len key))
+
+-- a range goes on along the way of this automaton (`WayOn`)
+abbrev pub TakesWayOn : {M S : Type 0} → (M → S → ℕ → S) → (M → S → Bool) → (M → S) → M → List ℕ → KeySpan → KeySpan → Type 0
+TakesWayOn after may initial automaton key old new =
+    WayOn (leads_to (after automaton) (may automaton) (initial automaton)) (may_after (after automaton) (may automaton) (initial automaton)) key old new
 
 -- where an automaton leads to a front of what is in a range, and can't match there, that front is in the range too
 abbrev pub IsSteady : (List ℕ → Bool) → (List ℕ → Bool) → KeySpan → Type 0

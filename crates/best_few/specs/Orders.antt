@@ -1,6 +1,7 @@
 -- The order of entries by value, and the first of them in it.
-use Rattle.std.specs.Prelude.{◌≡◌, ℕ, ℤ, pos, negsuc, true, false, List, [], ◌∷◌}
+use Rattle.std.specs.Prelude.{◌≡◌, ℕ, ℤ, pos, negsuc, Bool, true, false, List, [], ◌∷◌}
 use Rattle.std.specs.Prelude.{if◌then◌else◌, map, take}
+use Rattle.std.specs.Bool.{MatchBool}
 use Rattle.std.specs.Cmp.Lexicographic.{slice_cmp}
 use Rattle.std.specs.Ordering.{int_cmp, is_gt, is_lt, nat_cmp, ordering_then}
 use Rattle.std.specs.declared.vec.Vec.{Vec}
@@ -83,3 +84,7 @@ IsLast order e (x ∷ xs) = (is_gt (entry_cmp order x e) ≡ false) × IsLast or
 -- an entry comes behind all that are kept
 abbrev pub FollowsAll : {A : Type 0} → Entry → List (ℤ × Vec ℕ A) → Type 0
 FollowsAll e kept = IsLast LowestFirst e (map found_entry kept)
+
+-- whether an entry comes before the last of those that are kept, or else behind all of them
+abbrev pub TellsIfBefore : {A : Type 0} → Entry → List (ℤ × Vec ℕ A) → Bool → Type 0
+TellsIfBefore e kept is_before = MatchBool is_before (PrecedesLast e kept) (FollowsAll e kept)

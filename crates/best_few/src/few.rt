@@ -1,9 +1,9 @@
 //! The best few, kept in a heap while entries go by.
 
 ghost use Rattle.std.specs.Prelude.{◌+◌, ◌≡◌, ◌≤◌, IfOk, map, OnOk};
-ghost use Rattle.best_few.specs.Words.{best, entry_cmp, FollowsAll, found_entry, heap_items};
-ghost use Rattle.best_few.specs.Words.{heap_len, is_lt, IsHeap, kept_cmp, KeepsBest, KeepsOneMore};
-ghost use Rattle.best_few.specs.Words.{LowestFirst, MatchBool, PrecedesLast, turned_entry};
+ghost use Rattle.best_few.specs.Words.{best, entry_cmp, found_entry, heap_items, heap_len, is_lt};
+ghost use Rattle.best_few.specs.Words.{IsHeap, KeepsBest, KeepsOneMore, kept_cmp, LowestFirst};
+ghost use Rattle.best_few.specs.Words.{PrecedesLast, TellsIfBefore, turned_entry};
 
 use crate::order::ByValue;
 use crate::walk::EntryWalk;
@@ -100,7 +100,7 @@ fn comes_before_last<A: Allocator>(
     number: i32,
     key: &[u8],
 ) -> bool
-    ensures { IsHeap kept_cmp (heap_items kept.now) → MatchBool result (PrecedesLast (key.now, number) (heap_items kept.now)) (FollowsAll (key.now, number) (heap_items kept.now)) }
+    ensures { IsHeap kept_cmp (heap_items kept.now) → TellsIfBefore (key.now, number) (heap_items kept.now) result }
 {
     match kept.peek() {
         Some((last, last_key)) => comes_before(number, key, *last, last_key.as_slice()),

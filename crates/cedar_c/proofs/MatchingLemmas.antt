@@ -7,8 +7,8 @@ use Rattle.std.specs.declared.ops.Bound.{Bound}
 use Rattle.std.proofs.lemmas.Bool.{true≢false}
 use Rattle.cedarwood.specs.Queries.{Entry, walk}
 use Rattle.cedarwood.specs.Tree.{Tree}
-use Rattle.cedar_complete.specs.Ends.{IsHeadOf, matches_within}
-use Rattle.cedar_complete.specs.Words.{GivesFirst}
+use Rattle.cedar_complete.specs.Ends.{IsHeadOf}
+use Rattle.cedar_complete.specs.Words.{accepted_in, GivesFirst}
 use Rattle.key_ranges.specs.Spans.{follows_start, holds, KeySpan}
 use Rattle.key_ranges.proofs.EntryRangeLemmas.{same_tests}
 use Rattle.key_ranges.proofs.SpanLemmas.{and_true}
@@ -29,10 +29,10 @@ ok_has (Err e) o P Q is has more = subst (λ found. IfSome found Q) (sym is) tt
 
 module _ (wanted : List ℕ → Bool) (t : Tree) (span : KeySpan) (start : Bound (List ℕ)) (is : (w : List ℕ) → holds span w ≡ (follows_start start w && true)) where
   -- the wanted entries in a range that only its start bounds
-  same_wanted : matches_within wanted t span ≡ filter (λ e. wanted e.0) (entries_onwards t start)
+  same_wanted : accepted_in wanted span (walk t) ≡ filter (λ e. wanted e.0) (entries_onwards t start)
   same_wanted = ap (filter (λ (e : Entry). wanted e.0)) (same_tests (holds span) (follows_start start) (walk t) (λ w. is w ∙ and_true (follows_start start w)))
 
   -- the first of those in the range is the first one from the start on
-  pub first_wanted : (found : Option Entry) (later : List Entry) → GivesFirst (matches_within wanted t span) found later → IsHeadOf (filter (λ e. wanted e.0) (entries_onwards t start)) found
+  pub first_wanted : (found : Option Entry) (later : List Entry) → GivesFirst (accepted_in wanted span (walk t)) found later → IsHeadOf (filter (λ e. wanted e.0) (entries_onwards t start)) found
   first_wanted None later gives = sym same_wanted ∙ gives.0
   first_wanted (Some e) later gives = (later, sym same_wanted ∙ gives)

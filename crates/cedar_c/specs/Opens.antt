@@ -2,6 +2,7 @@
 use Rattle.std.specs.Prelude.{◌≡◌, ◌≢◌, ◌⊎◌, ◌↔◌, ◌≤ℤ◌, ◌<ℤ◌, ℕ, ℤ, pos, Bool}
 use Rattle.std.specs.Prelude.{List, None, Some, IfSome}
 use Rattle.cedarwood.specs.Format.{header_answer}
+use Rattle.cedarwood.specs.Queries.{Entry}
 use Rattle.cedarwood.specs.Layouts.{LayoutKind, layout_byte}
 use Rattle.cedarwood.specs.Words.{IsEmpty, IsOnTable, IsSorted, no_search_limit}
 use Rattle.cedarwood.specs.Limits.{most_slots}
@@ -27,6 +28,11 @@ pub record OpensNew (kind : LayoutKind) (ordered : Bool) (trials : ℤ) (before 
   pub invalid : (status ≡ INVALID_MAX_TRIAL) ↔ (trials <ℤ pos 1)
   pub refused : (status ≡ OK) ⊎ (((status ≡ INVALID_MAX_TRIAL) ⊎ (status ≡ MEMORY)) × (content after ≡ content before))
 
+-- what a build of these entries, of which none has a fault, returns: `OK`, or the status of lack of memory, or, only if
+-- there might not be enough, of slots
+abbrev pub BuildsOrLacks : List Entry → ℕ → Type 0
+BuildsOrLacks entries status = (status ≡ OK) ⊎ (status ≡ MEMORY) ⊎ ((status ≡ SLOT_LIMIT) × MayWantSlots most_slots entries)
+
 -- a call that opens a handle with a dictionary of just these pairs, which come sorted or in any order. If OK is
 -- returned, the handle has it; else it has what it had. `found` and `told` are the position before and after
 pub record OpensBuilt (kind : LayoutKind) (is_sorted ordered : Bool) (trials : ℤ) (pairs : List Pair) (before after : Handle) (found told status : ℕ) : Type 0 where
@@ -37,8 +43,7 @@ pub record OpensBuilt (kind : LayoutKind) (is_sorted ordered : Bool) (trials : �
   -- the first fault of the pairs is returned, unless memory was wanted before it was found
   pub faulty : pos 1 ≤ℤ trials → IfSome (build_fault is_sorted (entries_in pairs)) (TellsFault found told status)
   -- without a fault slots are wanted only if there might not be enough
-  pub refused : pos 1 ≤ℤ trials → build_fault is_sorted (entries_in pairs) ≡ None
-      → (status ≡ OK) ⊎ (status ≡ MEMORY) ⊎ ((status ≡ SLOT_LIMIT) × MayWantSlots most_slots pairs)
+  pub refused : pos 1 ≤ℤ trials → build_fault is_sorted (entries_in pairs) ≡ None → BuildsOrLacks (entries_in pairs) status
   pub kept : (status ≡ OK) ⊎ (content after ≡ content before)
   -- only an error that has a position writes it
   pub stays : TellsPosition status ⊎ (told ≡ found)

@@ -30,8 +30,8 @@ pub use Rattle.cedar_c.specs.Matches.{all_longer, filled_from, filled_matches, F
 pub use Rattle.cedar_c.specs.Matches.{longer, match_of, predicted_keys}
 pub use Rattle.cedar_c.specs.Matching.{edits_if, is_wanted_near, TellsFitting, TellsWanted}
 pub use Rattle.cedar_c.specs.Matching.{wanted_behind}
-pub use Rattle.cedar_c.specs.Opens.{OpensBuilt, OpensLoaded, OpensNew}
-pub use Rattle.cedar_c.specs.Pairs.{build_fault, entries_in, keys_in, MayWantSlots, named_keys}
+pub use Rattle.cedar_c.specs.Opens.{BuildsOrLacks, OpensBuilt, OpensLoaded, OpensNew}
+pub use Rattle.cedar_c.specs.Pairs.{build_fault, entries_in, IsBuildShortage, keys_in, named_keys}
 pub use Rattle.cedar_c.specs.Pairs.{StoresFront, StoresPart, taken_pair}
 pub use Rattle.cedar_c.specs.Plans.{damage_of, format_if, IsErasurePlan, IsOpening, IsPutPlan}
 pub use Rattle.cedar_c.specs.Plans.{LacksChange, LacksRecord, MayCut}
@@ -60,7 +60,7 @@ pub use Rattle.cedar_salvage.specs.Whole.{CutsNone}
 pub use Rattle.cedar_store.specs.Causes.{LoadCause}
 pub use Rattle.cedar_store.specs.Changes.{erase_at, put_at}
 pub use Rattle.cedar_store.specs.Files.{record_count, state_of}
-pub use Rattle.cedarwood.specs.Queries.{asc, prefixes, slots_of_tree, walk}
+pub use Rattle.cedarwood.specs.Queries.{prefixes, slots_of_tree, walk}
 pub use Rattle.cedarwood.specs.Tree.{Tree}
 pub use Rattle.cedar_walk.specs.Ranges.{entries_since}
 pub use Rattle.cedar_walk.specs.Visits.{ComesToFirst, ComesToNumber, IsNumberedBelow, path_to}

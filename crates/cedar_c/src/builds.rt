@@ -1,16 +1,15 @@
 //! A dictionary of pairs, made at once: of pairs whose keys ascend, or of pairs in any order.
 
-ghost use Rattle.std.specs.Prelude.{◌*◌, ◌≡◌, ◌≤◌, ◌⊎◌, Err, false, IfErr, IfOk, IfSome};
-ghost use Rattle.std.specs.Prelude.{length, None, Some, true};
-ghost use Rattle.cedar_c.specs.Words.{AnyCedar, asc, build_fault, content, default_layout};
-ghost use Rattle.cedar_c.specs.Words.{entries_in, entries_of, inner_dictionary, inner_layout};
-ghost use Rattle.cedar_c.specs.Words.{IsSorted, layout_for, layout_in, MayWantSlots, most_slots};
-ghost use Rattle.cedar_c.specs.Words.{OpensBuilt, prefixes, reduced_layout, TellsFault};
+ghost use Rattle.std.specs.Prelude.{◌≡◌, ◌⊎◌, Err, false, IfErr, IfOk, IfSome, None, Some, true};
+ghost use Rattle.cedar_c.specs.Words.{AnyCedar, build_fault, BuildsOrLacks, content};
+ghost use Rattle.cedar_c.specs.Words.{default_layout, entries_in, entries_of, inner_dictionary};
+ghost use Rattle.cedar_c.specs.Words.{inner_layout, IsBuildShortage, IsSorted, layout_for, layout_in};
+ghost use Rattle.cedar_c.specs.Words.{most_slots, OpensBuilt, reduced_layout, TellsFault};
 ghost use Rattle.cedar_c.specs.Words.{TellsPosition};
 
 use crate::handle::Handle;
 use crate::pairs::{Pair, take_pairs};
-use crate::status::{INVALID_MAX_TRIAL, MEMORY, OK, SLOT_LIMIT, tell};
+use crate::status::{INVALID_MAX_TRIAL, OK, tell};
 use cedarwood::{CedarBuilder, CedarError};
 use either_layout::AnyCedar;
 use std::alloc::Global;
@@ -32,8 +31,7 @@ fn build_taken(
     ensures faulty { IfSome (build_fault wanted.is_sorted (entries_of pairs.now)) (λ e. result ≡ Err e) }
     ensures made { IfOk result (λ a. IsSorted (inner_layout a) settings (entries_of pairs.now) (inner_dictionary a)) }
     ensures layout { IfOk result (λ a. inner_layout a ≡ layout_for wanted.is_reduced) }
-    ensures refused { build_fault wanted.is_sorted (entries_of pairs.now) ≡ None
-        → IfErr result (λ e. (e ≡ CedarError.Memory) ⊎ ((e ≡ CedarError.SlotLimit) × (most_slots ≤ 256 * length (prefixes (asc (entries_of pairs.now)))))) }
+    ensures refused { build_fault wanted.is_sorted (entries_of pairs.now) ≡ None → IfErr result (λ e. IsBuildShortage most_slots (entries_of pairs.now) e) }
 {
     if wanted.is_sorted {
         return AnyCedar::from_sorted_bytes(alloc, wanted.is_reduced, settings, pairs);
@@ -51,7 +49,7 @@ fn of_pairs(
     ensures faulty { IfSome (build_fault wanted.is_sorted (entries_in pairs.now)) (λ e. (result ≡ Err e) ⊎ (result ≡ Err CedarError.Memory)) }
     ensures made { IfOk result (λ a. IsSorted (inner_layout a) settings (entries_in pairs.now) (inner_dictionary a)) }
     ensures layout { IfOk result (λ a. inner_layout a ≡ layout_for wanted.is_reduced) }
-    ensures refused { build_fault wanted.is_sorted (entries_in pairs.now) ≡ None → IfErr result (λ e. (e ≡ CedarError.Memory) ⊎ ((e ≡ CedarError.SlotLimit) × MayWantSlots most_slots pairs.now)) }
+    ensures refused { build_fault wanted.is_sorted (entries_in pairs.now) ≡ None → IfErr result (λ e. IsBuildShortage most_slots (entries_in pairs.now) e) }
 {
     match take_pairs(alloc, pairs) {
         Some(taken) => build_taken(alloc, wanted, settings, taken.as_slice()),
@@ -69,7 +67,7 @@ fn make_on_heap(
     ensures faulty { IfSome (build_fault wanted.is_sorted (entries_in pairs.now)) (λ e. (result ≡ Err e) ⊎ (result ≡ Err CedarError.Memory)) }
     ensures made { IfOk result (λ b. IsSorted (inner_layout b.value) settings (entries_in pairs.now) (inner_dictionary b.value)) }
     ensures layout { IfOk result (λ b. inner_layout b.value ≡ layout_for wanted.is_reduced) }
-    ensures refused { build_fault wanted.is_sorted (entries_in pairs.now) ≡ None → IfErr result (λ e. (e ≡ CedarError.Memory) ⊎ ((e ≡ CedarError.SlotLimit) × MayWantSlots most_slots pairs.now)) }
+    ensures refused { build_fault wanted.is_sorted (entries_in pairs.now) ≡ None → IfErr result (λ e. IsBuildShortage most_slots (entries_in pairs.now) e) }
 {
     let cedar = of_pairs(alloc, wanted, settings, pairs)?;
     match Box::new(alloc, cedar) {
@@ -90,7 +88,7 @@ fn renew(
     ensures made { result ≡ OK → (a : AnyCedar) × (content handle.new ≡ Some a) × IsSorted (inner_layout a) settings (entries_in pairs.now) (inner_dictionary a) }
     ensures layout { result ≡ OK → layout_in handle.new ≡ Some (layout_for wanted.is_reduced) }
     ensures faulty { IfSome (build_fault wanted.is_sorted (entries_in pairs.now)) (TellsFault position.old position.new result) }
-    ensures refused { build_fault wanted.is_sorted (entries_in pairs.now) ≡ None → (result ≡ OK) ⊎ (result ≡ MEMORY) ⊎ ((result ≡ SLOT_LIMIT) × MayWantSlots most_slots pairs.now) }
+    ensures refused { build_fault wanted.is_sorted (entries_in pairs.now) ≡ None → BuildsOrLacks (entries_in pairs.now) result }
     ensures kept { (result ≡ OK) ⊎ (content handle.new ≡ content handle.old) }
     ensures stays { TellsPosition result ⊎ (position.new ≡ position.old) }
 {

@@ -1,10 +1,8 @@
--- The first and the last entry in a range, and those that an automaton accepts.
-use Rattle.std.specs.Prelude.{◌≡◌, ℕ, Bool, codes, List, ◌∷◌, [], filter, if◌then◌else◌, MatchOption, None, Option, Some}
+-- The first and the last entry in a range.
+use Rattle.std.specs.Prelude.{◌≡◌, ℕ, codes, List, ◌∷◌, [], if◌then◌else◌, MatchOption, None, Option, Some}
 use Rattle.std.specs.Cmp.Lexicographic.{slice_cmp}
 use Rattle.std.specs.Ordering.{is_lt, nat_cmp}
 use Rattle.cedar_tree.specs.Queries.{Entry}
-use Rattle.cedar_tree.specs.Tree.{Tree}
-use Rattle.key_ranges.specs.Spans.{entries_within, KeySpan}
 use Rattle.cedar_complete.specs.declared.error.RangeError.{RangeError}
 use Rattle.cedar_complete.specs.declared.error.RangeError.TheVariants.{Memory, NotAscending}
 
@@ -16,10 +14,6 @@ IsHeadOf es found = MatchOption found (es ≡ []) (λ first. (rest : List Entry)
 abbrev pub unless_before : List ℕ → Option Entry → Option Entry
 unless_before from None = None
 unless_before from (Some e) = if is_lt (slice_cmp nat_cmp e.0 from) then None else Some e
-
--- the entries of a tree in a range whose keys pass a test, such as what an automaton accepts
-abbrev pub matches_within : (List ℕ → Bool) → Tree → KeySpan → List Entry
-matches_within accepts t span = filter (λ e. accepts e.0) (entries_within t span)
 
 -- the text of an error
 abbrev pub range_error_text : RangeError → List ℕ

@@ -1,8 +1,8 @@
 //! The next entry in a range that an automaton accepts.
 
 ghost use Rattle.std.specs.Prelude.{◌≡◌, Err, false, IfErr, IfOk, OnErr, true};
-ghost use Rattle.cedar_complete.specs.Words.{entry_told, GivesFirst, GoesOnBehind};
-ghost use Rattle.cedar_complete.specs.Words.{matches_within};
+ghost use Rattle.cedar_complete.specs.Words.{entry_told, GivesAccepted, GoesOnBehind};
+ghost use Rattle.cedar_complete.specs.Words.{KeepsAccepted, walk};
 
 use crate::ends::ascends;
 use crate::error::RangeError;
@@ -44,14 +44,14 @@ where
     M: Automaton,
 
     //= The next entry that an automaton matches is the first one of those in the range whose keys it accepts, and the range holds the others
-    //  of these afterwards. None is returned exactly if there is none. [by matches_within]
-    ensures found { IfOk result (λ found. GivesFirst (matches_within (M.accepts automaton.now) trie.now.state.tree range.old) (entry_told found) (matches_within (M.accepts automaton.now) trie.now.state.tree range.new)) }
+    //  of these afterwards. None is returned exactly if there is none. [by accepted_in]
+    ensures found { IfOk result (λ found. GivesAccepted (M.accepts automaton.now) (walk trie.now.state.tree) range.old range.new (entry_told found)) }
 
     //= The range then holds exactly what it held that comes behind the key that was found. [by HoldsBehind]
     ensures behind { IfOk result (λ found. GoesOnBehind range.old range.new (entry_told found)) }
 
     //= If it isn't told, all of them are still in the range.
-    ensures kept { OnErr result (matches_within (M.accepts automaton.now) trie.now.state.tree range.new ≡ matches_within (M.accepts automaton.now) trie.now.state.tree range.old) }
+    ensures kept { OnErr result (KeepsAccepted (M.accepts automaton.now) (walk trie.now.state.tree) range.old range.new) }
     ensures order { trie.now.state.ordered ≡ false → result ≡ Err RangeError.NotAscending }
     ensures refused { trie.now.state.ordered ≡ true → IfErr result (λ e. e ≡ RangeError.Memory) }
 {

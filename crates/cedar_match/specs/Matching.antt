@@ -1,6 +1,7 @@
 -- How far a walk by an automaton is, and what it gives.
 use Rattle.std.specs.Prelude.{◌≡◌, ℕ, ◌+◌, ◌-◌, ◌<◌, ◌≤◌, ◌&&◌, ℤ, Bool, true, cond, fold, List, []}
 use Rattle.std.specs.Prelude.{◌∷◌, ◌++◌, length, filter, take, MatchOption, Option}
+use Rattle.std.specs.declared.vec.Vec.{Vec}
 use Rattle.std.specs.Coded.{Coded, code_by, coded×, coded_ℕ, coded_ℤ, coded_list}
 use Rattle.std.proofs.Common.{refl}
 use Rattle.cedar_tree.specs.Tree.{Tree}
@@ -71,6 +72,11 @@ abbrev pub MatchLeads : (List ℕ → ℕ → Type 0) → Tree → (List ℕ →
 MatchLeads stands tree accepts leads path next =
     MatchOption next (MatchEnds accepts leads (left_from tree path)) (MatchLeadsTo stands tree accepts leads (left_from tree path) path)
 
+-- this automaton goes on from the node at a path (`MatchLeads`)
+abbrev pub LeadsToNext : {M S : Type 0} → (List ℕ → ℕ → Type 0) → Tree → (M → List ℕ → Bool) → (M → S → ℕ → S) → (M → S → Bool) → (M → S) → M → List ℕ → Option Node → Type 0
+LeadsToNext stands tree accepts after may initial automaton path next =
+    MatchLeads stands tree (accepts automaton) (leads_on (after automaton) (may automaton) (initial automaton)) path next
+
 -- ---- the walk
 
 -- it stands at the node at the end of its key, has led there, and knows the states on the way
@@ -78,6 +84,11 @@ pub record IsMatchPlace {S : Type 0} (stands : List ℕ → ℕ → Type 0) (aft
   pub there : stands key slot
   pub led : leads_on after may initial key ≡ true
   pub along : states ≡ states_along after initial key
+
+-- a walk by this automaton stands there (`IsMatchPlace`)
+abbrev pub IsMatchPlaceOf : {M S : Type 0} → (List ℕ → ℕ → Type 0) → (M → S → ℕ → S) → (M → S → Bool) → (M → S) → M → List ℕ → List S → ℕ → Type 0
+IsMatchPlaceOf stands after may initial automaton key states slot =
+    IsMatchPlace stands (after automaton) (may automaton) (initial automaton) key states slot
 
 -- the entries that it has left where it is at the node at a path
 abbrev pub entries_to_come : Tree → (List ℕ → Bool) → List ℕ → List Entry
@@ -102,11 +113,46 @@ pub record StopsShort (tree : Tree) (accepts leads : List ℕ → Bool) (before 
   pub entries : entries_to_come tree accepts before ≡ entries_to_come tree accepts after
   pub nodes : 0 < nodes_to_come tree leads after
 
+-- a walk by this automaton comes from one path to another: to the first of the entries that it had left
+-- (`ComesToMatch`), or it had none left (`ComesToEnd`)
+abbrev pub GoesToMatch : {M S : Type 0} → Tree → (M → List ℕ → Bool) → (M → S → ℕ → S) → (M → S → Bool) → (M → S) → M → List ℕ → List ℕ → Option ℤ → Type 0
+GoesToMatch tree accepts after may initial automaton before path found =
+    let leads = leads_on (after automaton) (may automaton) (initial automaton) in
+    MatchOption found (ComesToEnd tree (accepts automaton) before path) (ComesToMatch tree (accepts automaton) leads before path)
+
+-- a walk by this automaton stops short of a node (`StopsShort`)
+abbrev pub StopsBeforeNode : {M S : Type 0} → Tree → (M → List ℕ → Bool) → (M → S → ℕ → S) → (M → S → Bool) → (M → S) → M → List ℕ → List ℕ → Type 0
+StopsBeforeNode tree accepts after may initial automaton before path =
+    StopsShort tree (accepts automaton) (leads_on (after automaton) (may automaton) (initial automaton)) before path
+
+-- a walk by this automaton that came from one path to another has no more nodes to go to than it had
+abbrev pub HasNoMoreToCome : {M S : Type 0} → Tree → (M → S → ℕ → S) → (M → S → Bool) → (M → S) → M → List ℕ → List ℕ → Type 0
+HasNoMoreToCome tree after may initial automaton before path =
+    let leads = leads_on (after automaton) (may automaton) (initial automaton) in
+    nodes_to_come tree leads path ≤ nodes_to_come tree leads before
+
+-- a walk by this automaton that came from one path to another counted each node that it came to
+abbrev pub CountsNodes : {M S : Type 0} → Tree → (M → S → ℕ → S) → (M → S → Bool) → (M → S) → M → List ℕ → List ℕ → ℕ → ℕ → Type 0
+CountsNodes tree after may initial automaton before path old new =
+    let leads = leads_on (after automaton) (may automaton) (initial automaton) in
+    new + nodes_to_come tree leads path ≡ old + nodes_to_come tree leads before
+
 -- what a caller sees: the key that it holds, the entries that it has left, and how many nodes it still goes to at most
 pub record MatchWalk : Type 0 where
   pub key : List ℕ
   pub left : List Entry
   pub nodes : ℕ
+
+-- a walk gives the first of the entries that it has left, and then holds its key and has fewer nodes to go to; or none
+-- is left
+abbrev pub GivesMatch : MatchWalk → MatchWalk → Option ℤ → Type 0
+GivesMatch old new found =
+    MatchOption found ((old.left ≡ []) × (new.left ≡ [])) (λ value. (old.left ≡ (new.key, value) ∷ new.left) × (new.nodes < old.nodes))
+
+-- the same with a copy of its key
+abbrev pub GivesCopy : {A : Type 0} → MatchWalk → MatchWalk → Option (Vec ℕ A × ℤ) → Type 0
+GivesCopy old new found =
+    MatchOption found ((old.left ≡ []) × (new.left ≡ [])) (λ entry. (old.left ≡ (entry.0.items, entry.1) ∷ new.left) × (new.nodes < old.nodes))
 
 -- it serves `impl Model` alone
 abbrev pub match_walk_code : Coded MatchWalk

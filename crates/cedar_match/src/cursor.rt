@@ -1,11 +1,11 @@
 //! The walk by an automaton, which lends its keys.
 
-ghost use Rattle.std.specs.Prelude.{◌+◌, ◌<◌, ◌∷◌, ◌≡◌, ◌≤◌, [], fold, IfErr, IfOk, length};
-ghost use Rattle.std.specs.Prelude.{MatchOption, OnErr, take, vec_capacity};
-ghost use Rattle.cedar_match.specs.Words.{ComesToEnd, ComesToMatch, entries_to_come, IsBlankOf};
-ghost use Rattle.cedar_match.specs.Words.{IsMatchPlace, leads_on, match_walk_code, MatchLeads};
-ghost use Rattle.cedar_match.specs.Words.{MatchWalk, nodes_to_come, path_on, states_along};
-ghost use Rattle.cedar_match.specs.Words.{StopsShort};
+ghost use Rattle.std.specs.Prelude.{◌+◌, ◌<◌, ◌≡◌, ◌≤◌, [], fold, IfErr, IfOk, length, OnErr, take};
+ghost use Rattle.std.specs.Prelude.{vec_capacity};
+ghost use Rattle.cedar_match.specs.Words.{CountsNodes, entries_to_come, GivesMatch, GoesToMatch};
+ghost use Rattle.cedar_match.specs.Words.{HasNoMoreToCome, IsBlankOf, IsMatchPlaceOf, leads_on};
+ghost use Rattle.cedar_match.specs.Words.{LeadsToNext, match_walk_code, MatchWalk, nodes_to_come};
+ghost use Rattle.cedar_match.specs.Words.{path_on, states_along, StopsBeforeNode};
 
 use crate::nodes::{Node, Nodes};
 use byte_automata::Automaton;
@@ -40,7 +40,7 @@ impl<'a, T: Nodes, M: Automaton + Drop, A: Allocator> Model for MatchingCursor<'
       nodes = nodes_to_come (T.tree it.trie.now) (leads_on (M.after it.automaton) (M.may_match it.automaton) (M.initial it.automaton)) it.key.items;
     } };
 
-    ghost invariant = { λ it. IsMatchPlace (T.stands it.trie.now) (M.after it.automaton) (M.may_match it.automaton) (M.initial it.automaton) it.key.items it.states.items it.slot };
+    ghost invariant = { λ it. IsMatchPlaceOf (T.stands it.trie.now) M.after M.may_match M.initial it.automaton it.key.items it.states.items it.slot };
 }
 
 /// The state after the first bytes of a key.
@@ -65,8 +65,8 @@ fn node_on<T: Nodes, M: Automaton>(
     key: &[u8],
     states: &[M::State],
 ) -> Option<Node>
-    requires { IsMatchPlace (T.stands trie.now) (M.after automaton.now) (M.may_match automaton.now) (M.initial automaton.now) key.now states.now slot }
-    ensures { MatchLeads (T.stands trie.now) (T.tree trie.now) (M.accepts automaton.now) (leads_on (M.after automaton.now) (M.may_match automaton.now) (M.initial automaton.now)) key.now result }
+    requires { IsMatchPlaceOf (T.stands trie.now) M.after M.may_match M.initial automaton.now key.now states.now slot }
+    ensures { LeadsToNext (T.stands trie.now) (T.tree trie.now) M.accepts M.after M.may_match M.initial automaton.now key.now result }
 {
     let depth = key.len();
     let state = state_at(automaton, key, states, depth);
@@ -126,15 +126,12 @@ fn next_match<T: Nodes, M: Automaton, A: Allocator, C: Ledger>(
     states: &mut Vec<M::State, A>,
     ticks: &mut Ticks<C>,
 ) -> Result<Option<i32>, AllocError>
-    requires { IsMatchPlace (T.stands trie.now) (M.after automaton.now) (M.may_match automaton.now) (M.initial automaton.now) key.old.items states.old.items slot.old }
-    ensures at { IsMatchPlace (T.stands trie.now) (M.after automaton.now) (M.may_match automaton.now) (M.initial automaton.now) key.new.items states.new.items slot.new }
-    ensures found { let leads = leads_on (M.after automaton.now) (M.may_match automaton.now) (M.initial automaton.now) in
-        IfOk result (λ found. MatchOption found (ComesToEnd (T.tree trie.now) (M.accepts automaton.now) key.old.items key.new.items) (ComesToMatch (T.tree trie.now) (M.accepts automaton.now) leads key.old.items key.new.items)) }
-    ensures fewer { let leads = leads_on (M.after automaton.now) (M.may_match automaton.now) (M.initial automaton.now) in
-        nodes_to_come (T.tree trie.now) leads key.new.items ≤ nodes_to_come (T.tree trie.now) leads key.old.items }
-    ensures refused { OnErr result (StopsShort (T.tree trie.now) (M.accepts automaton.now) (leads_on (M.after automaton.now) (M.may_match automaton.now) (M.initial automaton.now)) key.old.items key.new.items) }
-    ensures cost { let leads = leads_on (M.after automaton.now) (M.may_match automaton.now) (M.initial automaton.now) in
-        ticks.new + nodes_to_come (T.tree trie.now) leads key.new.items ≡ ticks.old + nodes_to_come (T.tree trie.now) leads key.old.items }
+    requires { IsMatchPlaceOf (T.stands trie.now) M.after M.may_match M.initial automaton.now key.old.items states.old.items slot.old }
+    ensures at { IsMatchPlaceOf (T.stands trie.now) M.after M.may_match M.initial automaton.now key.new.items states.new.items slot.new }
+    ensures found { IfOk result (GoesToMatch (T.tree trie.now) M.accepts M.after M.may_match M.initial automaton.now key.old.items key.new.items) }
+    ensures fewer { HasNoMoreToCome (T.tree trie.now) M.after M.may_match M.initial automaton.now key.old.items key.new.items }
+    ensures refused { OnErr result (StopsBeforeNode (T.tree trie.now) M.accepts M.after M.may_match M.initial automaton.now key.old.items key.new.items) }
+    ensures cost { CountsNodes (T.tree trie.now) M.after M.may_match M.initial automaton.now key.old.items key.new.items ticks.old ticks.new }
 {
     while let Some(next) = node_on(trie, automaton, *slot, key, states) {
         make_room(key, states)?;
@@ -186,7 +183,7 @@ impl<'a, T: Nodes, M: Automaton + Drop, A: Allocator> MatchingCursor<'a, T, M, A
     pub fn advance(&mut self) -> Result<Option<i32>, CedarError>
         //= A walk by an automaton gives the next entry that is left each call, and then holds its key. If that fails with `Memory`, none
         //  is lost, and the walk has a node to go to. It never goes back to a node. [with refused, fewer; also advance_counted]
-        ensures found { IfOk result (λ found. MatchOption found ((self.old.left ≡ []) × (self.new.left ≡ [])) (λ value. (self.old.left ≡ (self.new.key, value) ∷ self.new.left) × (self.new.nodes < self.old.nodes))) }
+        ensures found { IfOk result (GivesMatch self.old self.new) }
         ensures refused { IfErr result (λ e. (e ≡ CedarError.Memory) × (self.new.left ≡ self.old.left) × (0 < self.new.nodes)) }
         ensures fewer { self.new.nodes ≤ self.old.nodes }
     {
@@ -208,7 +205,7 @@ impl<'a, T: Nodes, M: Automaton + Drop, A: Allocator> MatchingCursor<'a, T, M, A
         &mut self,
         ticks: &mut Ticks<C>,
     ) -> Result<Option<i32>, CedarError>
-        ensures found { IfOk result (λ found. MatchOption found ((self.old.left ≡ []) × (self.new.left ≡ [])) (λ value. (self.old.left ≡ (self.new.key, value) ∷ self.new.left) × (self.new.nodes < self.old.nodes))) }
+        ensures found { IfOk result (GivesMatch self.old self.new) }
         ensures refused { IfErr result (λ e. (e ≡ CedarError.Memory) × (self.new.left ≡ self.old.left) × (0 < self.new.nodes)) }
         ensures fewer { self.new.nodes ≤ self.old.nodes }
 
@@ -263,7 +260,7 @@ fn advance_uncounted<C: Ledger, T: Nodes, M: Automaton + Drop, A: Allocator>(
     blank: Blank,
 ) -> Result<Option<i32>, CedarError>
     requires { IsBlankOf C.name C.parts blank }
-    ensures found { IfOk result (λ found. MatchOption found ((walk.old.left ≡ []) × (walk.new.left ≡ [])) (λ value. (walk.old.left ≡ (walk.new.key, value) ∷ walk.new.left) × (walk.new.nodes < walk.old.nodes))) }
+    ensures found { IfOk result (GivesMatch walk.old walk.new) }
     ensures refused { IfErr result (λ e. (e ≡ CedarError.Memory) × (walk.new.left ≡ walk.old.left) × (0 < walk.new.nodes)) }
     ensures fewer { walk.new.nodes ≤ walk.old.nodes }
 {

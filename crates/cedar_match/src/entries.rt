@@ -2,8 +2,8 @@
 
 ghost use Rattle.std.specs.Prelude.{◌<◌, ◌∷◌, ◌≡◌, ◌≤◌, [], cond, IfErr, IfOk, IfSome};
 ghost use Rattle.std.specs.Prelude.{MatchOption, MatchResult};
-ghost use Rattle.cedar_match.specs.Words.{at_most, IsWithinCount, match_walk_code, MatchWalk};
-ghost use Rattle.cedar_match.specs.Words.{Memory, UpTo};
+ghost use Rattle.cedar_match.specs.Words.{at_most, GivesCopy, IsWithinCount, match_walk_code};
+ghost use Rattle.cedar_match.specs.Words.{MatchWalk, Memory, UpTo};
 
 use crate::cursor::MatchingCursor;
 use crate::nodes::Nodes;
@@ -40,7 +40,7 @@ impl<'a, T: Nodes, M: Automaton + Drop, A: Allocator + Copy> Model
 fn next_copied<T: Nodes, M: Automaton + Drop, A: Allocator + Copy>(
     walk: &mut MatchingCursor<'_, T, M, A>,
 ) -> Result<Option<(Vec<u8, A>, i32)>, CedarError>
-    ensures found { IfOk result (λ found. MatchOption found ((walk.old.left ≡ []) × (walk.new.left ≡ [])) (λ entry. (walk.old.left ≡ (entry.0.items, entry.1) ∷ walk.new.left) × (walk.new.nodes < walk.old.nodes))) }
+    ensures found { IfOk result (GivesCopy walk.old walk.new) }
     ensures refused { IfErr result (λ e. (e ≡ CedarError.Memory) × (0 < walk.old.nodes)) }
 {
     let Some(value) = walk.advance()? else {

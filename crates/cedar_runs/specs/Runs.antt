@@ -1,7 +1,9 @@
 -- Calls of a store one after another.
 use Rattle.std.specs.Prelude.{◌≡◌, ℕ, Bool, List, [], ◌∷◌, ◌++◌}
 use Rattle.cedar_store.specs.State.{State}
-use Rattle.cedar_runs.specs.Steps.{IsCallStep, Point, after_call, failed_once, held_once, sure_once}
+use Rattle.cedar_store.specs.declared.store.Store.{Store}
+use Rattle.cedar_runs.specs.Steps.{IsCallStep, Point, after_call, failed_once, held_once, point_of}
+use Rattle.cedar_runs.specs.Steps.{sure_once}
 use Rattle.cedar_runs.specs.declared.call.StoreCall.{StoreCall}
 use Rattle.cedar_runs.specs.declared.call.Outcome.{Outcome}
 
@@ -15,6 +17,11 @@ module _ {D : Type 0} (moment : D → ℕ) (left_since : D → ℕ → List ℕ 
   -- the outcomes of a run were added to those that were there
   abbrev pub AddsStoreRun : Point D → List StoreCall → List Outcome → List Outcome → Point D → Type 0
   AddsStoreRun old calls earlier all new = (outcomes : List Outcome) × (all ≡ earlier ++ outcomes) × IsStoreRun old calls outcomes new
+
+-- calls of a store were made, one after another, and what came of them was added to the outcomes that were there
+abbrev pub MakesStoreCalls : {T A D : Type 0} → (D → ℕ) → (D → ℕ → List ℕ → Type 0) → (D → List ℕ → Type 0) → (T → State) → Store T A D → List StoreCall → List Outcome → List Outcome → Store T A D → Type 0
+MakesStoreCalls moment left_since may_leave state old calls earlier all new =
+    AddsStoreRun moment left_since may_leave (point_of state old) calls earlier all (point_of state new)
 
 -- the dictionary after some calls with these outcomes
 abbrev pub held_after_all : State → List StoreCall → List Outcome → State

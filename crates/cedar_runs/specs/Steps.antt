@@ -83,3 +83,7 @@ pub record IsCallStep {D : Type 0} (moment : D → ℕ) (left_since : D → ℕ 
   pub known : (sure : State) → IsKnown may_leave sure old → IsKnown may_leave (sure_once outcome sure after) new
   pub crash : (sure : State) → IsKnown may_leave sure old → (file : List ℕ) → left_since new.device (moment old.device) file
       → IsEither sure (under_way old.failed old.held after) file
+
+-- such a call of a store, as a step from the store before it to the store after it
+abbrev pub IsStoreStep : {T A D : Type 0} → (D → ℕ) → (D → ℕ → List ℕ → Type 0) → (D → List ℕ → Type 0) → (T → State) → Store T A D → State → Outcome → Store T A D → Type 0
+IsStoreStep moment left_since may_leave state old after outcome new = IsCallStep moment left_since may_leave (point_of state old) after outcome (point_of state new)

@@ -1,9 +1,9 @@
 //! Calls of a store, one after another.
 
 ghost use Rattle.std.specs.Prelude.{◌+◌, ◌≡◌, ◌≤◌, IfErr, IfOk, length, vec_capacity, vec_len};
-ghost use Rattle.cedar_runs.specs.Words.{AddsStoreRun, after_call, after_erase, after_put};
-ghost use Rattle.cedar_runs.specs.Words.{all_changed, BeginsSession, changes_told, IsCallStep};
-ghost use Rattle.cedar_runs.specs.Words.{IsReadyStore, KeepsState, Only, outcome_of};
+ghost use Rattle.cedar_runs.specs.Words.{after_call, after_erase, after_put, all_changed};
+ghost use Rattle.cedar_runs.specs.Words.{BeginsSession, changes_told, IsReadyStore, IsStoreStep};
+ghost use Rattle.cedar_runs.specs.Words.{KeepsState, MakesStoreCalls, Only, outcome_of};
 ghost use Rattle.cedar_runs.specs.Words.{outcome_of_compaction, outcome_of_erasure, point_of};
 
 use crate::{Outcome, StoreCall};
@@ -49,7 +49,7 @@ pub fn run_store_calls<T: Words, A: Allocator + Copy, D: ReplaceDevice>(
     //  IsCallStep]
     //= If the device fails in a call, the dictionary has the change, and a crash leaves it with or without it. So it stays until a
     //  compaction is acknowledged: from then on a crash leaves it with the change. [by IsCallStep]
-    ensures run { AddsStoreRun D.moment D.left_since D.may_leave (point_of T.state store.old) calls.now outcomes.old.items outcomes.new.items (point_of T.state store.new) }
+    ensures run { MakesStoreCalls D.moment D.left_since D.may_leave T.state store.old calls.now outcomes.old.items outcomes.new.items store.new }
     ensures count { vec_len outcomes.new ≡ vec_len outcomes.old + length calls.now }
 {
     for index in 0..calls.len() {
@@ -65,7 +65,7 @@ pub fn make_store_call<T: Words, A: Allocator + Copy, D: ReplaceDevice>(
     requires ready { IsReadyStore D.seen D.may_leave T.state store.old }
     ensures ready { IsReadyStore D.seen D.may_leave T.state store.new }
     //= So is a single call a step of a run. [by IsCallStep]
-    ensures step { IsCallStep D.moment D.left_since D.may_leave (point_of T.state store.old) (after_call (T.state store.old.words) call.now) result (point_of T.state store.new) }
+    ensures step { IsStoreStep D.moment D.left_since D.may_leave T.state store.old (after_call (T.state store.old.words) call.now) result store.new }
 {
     match call {
         StoreCall::Update { key, value } => update(store, key, *value),
@@ -86,7 +86,7 @@ fn update<T: Words, A: Allocator + Copy, D: ReplaceDevice>(
 ) -> Outcome
     requires ready { IsReadyStore D.seen D.may_leave T.state store.old }
     ensures ready { IsReadyStore D.seen D.may_leave T.state store.new }
-    ensures step { IsCallStep D.moment D.left_since D.may_leave (point_of T.state store.old) (after_put (T.state store.old.words) key.now value) result (point_of T.state store.new) }
+    ensures step { IsStoreStep D.moment D.left_since D.may_leave T.state store.old (after_put (T.state store.old.words) key.now value) result store.new }
 {
     match store.update_bytes(key, value) {
         Ok(()) => Outcome::Made,
@@ -100,7 +100,7 @@ fn erase<T: Words, A: Allocator + Copy, D: ReplaceDevice>(
 ) -> Outcome
     requires ready { IsReadyStore D.seen D.may_leave T.state store.old }
     ensures ready { IsReadyStore D.seen D.may_leave T.state store.new }
-    ensures step { IsCallStep D.moment D.left_since D.may_leave (point_of T.state store.old) (after_erase (T.state store.old.words) key.now) result (point_of T.state store.new) }
+    ensures step { IsStoreStep D.moment D.left_since D.may_leave T.state store.old (after_erase (T.state store.old.words) key.now) result store.new }
 {
     match store.erase_bytes(key) {
         Ok(held) => outcome_of_erasure(held),
@@ -114,7 +114,7 @@ fn apply<T: Words, A: Allocator + Copy, D: ReplaceDevice>(
 ) -> Outcome
     requires ready { IsReadyStore D.seen D.may_leave T.state store.old }
     ensures ready { IsReadyStore D.seen D.may_leave T.state store.new }
-    ensures step { IsCallStep D.moment D.left_since D.may_leave (point_of T.state store.old) (all_changed (T.state store.old.words) (changes_told changes.now)) result (point_of T.state store.new) }
+    ensures step { IsStoreStep D.moment D.left_since D.may_leave T.state store.old (all_changed (T.state store.old.words) (changes_told changes.now)) result store.new }
 {
     match store.apply_batch(changes) {
         Ok(()) => Outcome::Made,
@@ -125,7 +125,7 @@ fn apply<T: Words, A: Allocator + Copy, D: ReplaceDevice>(
 fn compact<T: Words, A: Allocator + Copy, D: ReplaceDevice>(store: &mut Store<T, A, D>) -> Outcome
     requires ready { IsReadyStore D.seen D.may_leave T.state store.old }
     ensures ready { IsReadyStore D.seen D.may_leave T.state store.new }
-    ensures step { IsCallStep D.moment D.left_since D.may_leave (point_of T.state store.old) (T.state store.old.words) result (point_of T.state store.new) }
+    ensures step { IsStoreStep D.moment D.left_since D.may_leave T.state store.old (T.state store.old.words) result store.new }
 {
     match store.compact() {
         Ok(()) => Outcome::Made,

@@ -1,13 +1,19 @@
--- Why no store is made of what was saved.
+-- What a store that is made of what was saved leaves, and why none is made.
 use Rattle.std.specs.Prelude.{◌≡◌, ℕ, List, None, Some}
 use Rattle.cedar_journal.specs.declared.device.DeviceError.TheVariants as device
 use Rattle.cedar_journal.specs.declared.replace.ReplaceError.{ReplaceError}
 use Rattle.cedar_journal.specs.declared.replace.ReplaceError.TheVariants.{Failed, Kept}
-use Rattle.cedar_journal.specs.Files.{file_reading}
+use Rattle.cedar_journal.specs.Device.{LeavesOnly}
+use Rattle.cedar_journal.specs.Files.{file_payloads, file_reading}
 use Rattle.cedar_journal.specs.Formats.{damaged}
+use Rattle.cedar_journal.specs.Journal.{StandsForEither}
 use Rattle.cedarwood.specs.declared.error.CedarError.TheVariants as cedar
 use Rattle.cedar_store.specs.declared.error.DurableError.{DurableError}
 use Rattle.cedar_store.specs.declared.error.DurableError.TheVariants as error
+
+-- a crash at any moment since leaves a file that represents the records that the device's file represented, or these
+abbrev pub LeavesEitherRecords : {D : Type 0} → (D → List ℕ) → (D → ℕ) → (D → ℕ → List ℕ → Type 0) → D → List (List ℕ) → D → Type 0
+LeavesEitherRecords seen moment left_since old payloads new = LeavesOnly moment left_since old new (StandsForEither (file_payloads (seen old)) payloads)
 
 -- what is returned where a file wasn't replaced
 abbrev pub restore_error : ReplaceError → DurableError

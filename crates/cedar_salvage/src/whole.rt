@@ -2,10 +2,10 @@
 
 ghost use Rattle.std.specs.Prelude.{◌++◌, ◌∷◌, ◌≡◌, [], drop, IfErr, IfOk, OnOk, Some};
 ghost use Rattle.cedar_salvage.specs.Words.{file_payloads, first_changes, found_in, found_of};
-ghost use Rattle.cedar_salvage.specs.Words.{HasExtent, IsOfFile, IsOfRoom, IsSettled, LeavesOnly};
-ghost use Rattle.cedar_salvage.specs.Words.{Only, payloads_in, payloads_of, ReadCause};
-ghost use Rattle.cedar_salvage.specs.Words.{restore_error, RestoreCause, salvage_of};
-ghost use Rattle.cedar_salvage.specs.Words.{StandsForEither};
+ghost use Rattle.cedar_salvage.specs.Words.{HasExtent, IsOfFile, IsOfRoom, IsSettled};
+ghost use Rattle.cedar_salvage.specs.Words.{LeavesEitherRecords, LeavesOnly, Only, payloads_in};
+ghost use Rattle.cedar_salvage.specs.Words.{payloads_of, ReadCause, restore_error, RestoreCause};
+ghost use Rattle.cedar_salvage.specs.Words.{salvage_of};
 
 use crate::record::{format_of, next_whole, plain_change};
 use cedar_journal::{
@@ -51,10 +51,8 @@ pub fn store_with<D: ReplaceDevice + Drop, A: Allocator + Copy>(
     ensures settled { IfOk result (λ journal. IsSettled D.seen D.may_leave journal.device journal.format journal.end) }
     //= A crash at any moment while it is made, even if that fails, leaves a file that represents the records that were on the device, or
     //  those that were saved. [with any_moment_err]
-    ensures any_moment { IfOk result (λ journal. LeavesOnly D.moment D.left_since device journal.device
-        (StandsForEither (file_payloads (D.seen device)) (payloads_of image.now))) }
-    ensures any_moment_err { IfErr result (λ e. LeavesOnly D.moment D.left_since device e.1
-        (StandsForEither (file_payloads (D.seen device)) (payloads_of image.now))) }
+    ensures any_moment { IfOk result (λ journal. LeavesEitherRecords D.seen D.moment D.left_since device (payloads_of image.now) journal.device) }
+    ensures any_moment_err { IfErr result (λ e. LeavesEitherRecords D.seen D.moment D.left_since device (payloads_of image.now) e.1) }
     //= A file that isn't a journal's, or is damaged, stays byte for byte as it was, whenever a crash comes. [with seen]
     ensures untouched { IfErr result (λ e. IsOfFile e.0 → LeavesOnly D.moment D.left_since device e.1 (λ c. c ≡ D.seen device)) }
     ensures seen { IfErr result (λ e. IsOfFile e.0 → D.seen e.1 ≡ D.seen device) }

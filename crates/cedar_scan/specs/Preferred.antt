@@ -83,6 +83,11 @@ least_on above t (l ∷ path) = least_on (lesser above (subtree t.children l).nu
 abbrev pub least_in : List (Option ℤ) → ℕ → Option ℤ
 least_in least s = slice_index_or least s None
 
+-- a node with its number if that is less than the least one above it, by the least numbers on the way to slots
+abbrev pub first_node : List (Option ℤ) → PlacedNode → PlacedNode
+first_node least node =
+    record { slot = node.slot; parent = node.parent; depth = node.depth; label = node.label; number = if_less (least_in least node.parent) node.number }
+
 -- of each of the first nodes of a list, and of the root, the least number on the way is known
 pub record AreLeast (t : Tree) (slot_of : List ℕ → ℕ) (nodes : List PlacedNode) (n : ℕ) (least : List (Option ℤ)) : Type 0 where
   pub root : least_in least (slot_of []) ≡ None

@@ -73,6 +73,21 @@ abbrev pub GivesNext : Tree → (List ℕ → ℕ) → List State → List ℕ �
 GivesNext t slot_of states before offset piece old next new =
     MatchOption next (IsScanned t slot_of states before offset piece old new) (λ found. GivesFound t slot_of states before offset piece old found new)
 
+-- it goes on by one byte, whatever bytes came before the piece, and wherever in a text the piece begins
+abbrev pub GoesOnByByte : Tree → (List ℕ → ℕ) → List State → List ℕ → Cursor → Cursor → Type 0
+GoesOnByByte t slot_of states piece old new =
+    (before : List ℕ) (offset : ℕ) → IsCursor t slot_of states before piece old → ReadsByte t slot_of states before offset piece old new
+
+-- it gives the longest key that ends where it is, whatever bytes came before the piece, and wherever in a text the piece begins
+abbrev pub GivesPending : Tree → (List ℕ → ℕ) → List State → List ℕ → Cursor → FoundKey → Cursor → Type 0
+GivesPending t slot_of states piece old found new =
+    (before : List ℕ) (offset : ℕ) → IsCursor t slot_of states before piece old → TakesFound t slot_of states before offset piece old found new
+
+-- it gives the next key, unless none is left, whatever bytes came before the piece, and wherever in a text the piece begins
+abbrev pub GivesNextFound : Tree → (List ℕ → ℕ) → List State → List ℕ → Cursor → Option FoundKey → Cursor → Type 0
+GivesNextFound t slot_of states piece old next new =
+    (before : List ℕ) (offset : ℕ) → IsCursor t slot_of states before piece old → GivesNext t slot_of states before offset piece old next new
+
 -- at most so many steps are still to come, beside one for each key that is given
 abbrev pub steps_left : List State → List ℕ → Cursor → ℕ
 steps_left states piece cursor = (state_at states cursor.state).depth + 2 * (length piece - cursor.place)

@@ -11,11 +11,11 @@ pub use Rattle.cedar_scan.specs.Keywords.{ScansOn, ScansOnOrEnds, tests_left}
 pub use Rattle.cedar_scan.specs.Laws.{AreByEnd, IsLongestHeld, PiecesJoin}
 pub use Rattle.cedar_scan.specs.Leftmost.{popped_at}
 pub use Rattle.cedar_scan.specs.Plain.{all_beginning, OccursIn}
-pub use Rattle.cedar_scan.specs.Preferred.{first_tree, FirstIsLongestLeft, if_less, leftmost}
-pub use Rattle.cedar_scan.specs.Preferred.{keys_for, least_in, lesser, LongestAreKeywords}
+pub use Rattle.cedar_scan.specs.Preferred.{first_node, first_tree, FirstIsLongestLeft, if_less}
+pub use Rattle.cedar_scan.specs.Preferred.{keys_for, least_in, leftmost, lesser, LongestAreKeywords}
 pub use Rattle.cedar_scan.specs.Scanners.{LeftmostKeys, leftmost_code}
-pub use Rattle.cedar_scan.specs.Scans.{ReadsByte, CostsNext, CostsStep, GivesNext, IsCursor}
-pub use Rattle.cedar_scan.specs.Scans.{all_left, steps_left, TakesFound}
+pub use Rattle.cedar_scan.specs.Scans.{all_left, CostsNext, CostsStep, GivesNextFound, GivesPending}
+pub use Rattle.cedar_scan.specs.Scans.{GoesOnByByte, IsCursor, steps_left}
 pub use Rattle.cedar_scan.specs.Streams.{CostsInPiece, IsStream, NextInPiece, path_in, stream_code}
 pub use Rattle.cedar_scan.specs.Streams.{StreamAt}
 pub use Rattle.cedar_scan.specs.Suffixes.{failure, held_suffix, is_node, key_suffix, keys_ending}

@@ -1,9 +1,10 @@
 //! The automaton of a dictionary, made of the list of its nodes: first each node gets its place, then its links, the shorter paths first.
 
 ghost use Rattle.std.specs.Prelude.{◌<◌, ◌≡◌, IfOk, length, ℕ};
-ghost use Rattle.cedar_scan.specs.Words.{AreByDepth, AreLaid, AreLinkedFirst, AreNodes, AreSlotsWithin};
-ghost use Rattle.cedar_scan.specs.Words.{blank, CanLink, FailsTo, IsAutomaton, IsBlankOf, IsGoto};
-ghost use Rattle.cedar_scan.specs.Words.{IsPlacing, GetsLinks, state_at, with_node};
+ghost use Rattle.cedar_scan.specs.Words.{AreByDepth, AreLaid, AreLinkedFirst, AreNodes};
+ghost use Rattle.cedar_scan.specs.Words.{AreSlotsWithin, blank, CanLink, FailsTo, GetsLinks};
+ghost use Rattle.cedar_scan.specs.Words.{IsAutomaton, IsBlankOf, IsGoto, IsPlacing, state_at};
+ghost use Rattle.cedar_scan.specs.Words.{with_node};
 
 use crate::placed::Placed;
 use crate::state::{BLANK, PlacedNode, State};

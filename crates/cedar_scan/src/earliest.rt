@@ -1,6 +1,7 @@
 //! Keys in a text that don't overlap, by their ends.
 
-ghost use Rattle.std.specs.Prelude.{◌*◌, ◌+◌, ◌<◌, ◌^◌, ◌≡◌, ◌≤◌, [], if◌then◌else◌, is_some, length, ⊤, ℕ};
+ghost use Rattle.std.specs.Prelude.{◌*◌, ◌+◌, ◌<◌, ◌^◌, ◌≡◌, ◌≤◌, if◌then◌else◌, [], is_some};
+ghost use Rattle.std.specs.Prelude.{length, ℕ, ⊤};
 ghost use Rattle.cedar_scan.specs.Words.{CostsFirst, earliest, earliest_from, GivesEarliest};
 ghost use Rattle.cedar_scan.specs.Words.{IsAutomaton, IsBlankOf, item_count, scan_code, ScanLeft};
 ghost use Rattle.cedar_scan.specs.Words.{YieldsFirst};

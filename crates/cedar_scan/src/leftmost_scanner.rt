@@ -24,7 +24,8 @@ pub struct LeftmostScanner<'a, T: Placed, A: Allocator> {
 }
 
 impl<'a, T: Placed, A: Allocator> Model for LeftmostScanner<'a, T, A> {
-    ghost use Rattle.cedar_scan.specs.Words.{IsKeywordAutomaton, keys_for, leftmost_code, LeftmostKeys};
+    ghost use Rattle.cedar_scan.specs.Words.{IsKeywordAutomaton, keys_for, leftmost_code};
+    ghost use Rattle.cedar_scan.specs.Words.{LeftmostKeys};
 
     ghost Value = { LeftmostKeys };
 

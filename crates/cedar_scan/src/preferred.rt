@@ -1,8 +1,9 @@
 //! The keys of a dictionary that a kind of match can take.
 
 ghost use Rattle.std.specs.Prelude.{◌<◌, ◌≡◌, IfOk, length, None, slice_set, ℕ};
-ghost use Rattle.cedar_scan.specs.Words.{AreByDepth, AreNodes, AreSlotsWithin, first_tree, if_less};
-ghost use Rattle.cedar_scan.specs.Words.{IsPlacing, keys_for, least_in, lesser};
+ghost use Rattle.cedar_scan.specs.Words.{AreByDepth, AreNodes, AreSlotsWithin, first_node};
+ghost use Rattle.cedar_scan.specs.Words.{first_tree, if_less, IsPlacing, keys_for, least_in};
+ghost use Rattle.cedar_scan.specs.Words.{lesser};
 
 use crate::build::slots_of;
 use crate::kind::MatchKind;
@@ -39,7 +40,7 @@ fn least_number(above: Option<i32>, own: Option<i32>) -> Option<i32>
 fn first_node(least: &mut [Option<i32>], node: PlacedNode) -> PlacedNode
     requires parent { node.parent < length least.old }
     requires slot { node.slot < length least.old }
-    ensures node { result ≡ record { slot = node.slot; parent = node.parent; depth = node.depth; label = node.label; number = if_less (least_in least.old node.parent) node.number } }
+    ensures node { result ≡ first_node least.old node }
     ensures least { least.new ≡ slice_set least.old node.slot (lesser (least_in least.old node.parent) node.number) }
 {
     let above = least[node.parent as usize];

@@ -1,8 +1,8 @@
 //! A scan over a piece of a text, key after key.
 
 ghost use Rattle.std.specs.Prelude.{◌+◌, ◌<◌, ◌≡◌, ◌≢◌, length, List, ℕ};
-ghost use Rattle.cedar_scan.specs.Words.{ReadsByte, CostsNext, CostsStep, GivesNext, IsAutomaton};
-ghost use Rattle.cedar_scan.specs.Words.{IsCursor, TakesFound};
+ghost use Rattle.cedar_scan.specs.Words.{CostsNext, CostsStep, GivesNextFound, GivesPending};
+ghost use Rattle.cedar_scan.specs.Words.{GoesOnByByte, IsAutomaton, IsCursor};
 
 use crate::placed::Placed;
 use crate::state::State;
@@ -42,7 +42,7 @@ pub(crate) fn read_byte<T: Placed, C: Ledger>(
     requires cursor { (before : List ℕ) × IsCursor (T.tree trie.now) (T.slot_of trie.now) states.now before piece.now cursor.old }
     requires inside { cursor.old.place < length piece.now }
     requires none { cursor.old.pending ≡ 0 }
-    ensures goes { (before : List ℕ) (offset : ℕ) → IsCursor (T.tree trie.now) (T.slot_of trie.now) states.now before piece.now cursor.old → ReadsByte (T.tree trie.now) (T.slot_of trie.now) states.now before offset piece.now cursor.old cursor.new }
+    ensures goes { GoesOnByByte (T.tree trie.now) (T.slot_of trie.now) states.now piece.now cursor.old cursor.new }
     ensures cost { CostsStep states.now cursor.old cursor.new ticks.old ticks.new }
 {
     cursor.state = step(trie, states, cursor.state, piece[cursor.place], ticks);
@@ -61,7 +61,7 @@ pub(crate) fn take_found<T: Placed, C: Ledger>(
     requires automaton { IsAutomaton (T.tree trie.now) (T.slot_of trie.now) states.now }
     requires cursor { (before : List ℕ) × IsCursor (T.tree trie.now) (T.slot_of trie.now) states.now before piece.now cursor.old }
     requires some { cursor.old.pending ≢ 0 }
-    ensures gives { (before : List ℕ) (offset : ℕ) → IsCursor (T.tree trie.now) (T.slot_of trie.now) states.now before piece.now cursor.old → TakesFound (T.tree trie.now) (T.slot_of trie.now) states.now before offset piece.now cursor.old result cursor.new }
+    ensures gives { GivesPending (T.tree trie.now) (T.slot_of trie.now) states.now piece.now cursor.old result cursor.new }
     ensures place { cursor.new.place ≡ cursor.old.place }
     ensures state { cursor.new.state ≡ cursor.old.state }
     ensures cost { ticks.new ≡ ticks.old + 1 }
@@ -85,7 +85,7 @@ pub(crate) fn next_found<T: Placed, C: Ledger>(
 ) -> Option<FoundKey>
     requires automaton { IsAutomaton (T.tree trie.now) (T.slot_of trie.now) states.now }
     requires cursor { (before : List ℕ) × IsCursor (T.tree trie.now) (T.slot_of trie.now) states.now before piece.now cursor.old }
-    ensures gives { (before : List ℕ) (offset : ℕ) → IsCursor (T.tree trie.now) (T.slot_of trie.now) states.now before piece.now cursor.old → GivesNext (T.tree trie.now) (T.slot_of trie.now) states.now before offset piece.now cursor.old result cursor.new }
+    ensures gives { GivesNextFound (T.tree trie.now) (T.slot_of trie.now) states.now piece.now cursor.old result cursor.new }
     ensures cost { CostsNext states.now piece.now cursor.old result cursor.new ticks.old ticks.new }
 {
     while cursor.pending == 0 {

@@ -1,8 +1,8 @@
 //! A text that comes in pieces.
 
 ghost use Rattle.std.specs.Prelude.{◌+◌, ◌<◌, ◌≡◌, ◌^◌, [], length};
-ghost use Rattle.cedar_scan.specs.Words.{CostsInPiece, IsAutomaton, IsBlankOf, IsStream, keys_ending};
-ghost use Rattle.cedar_scan.specs.Words.{NextInPiece, path_in, stream_code, StreamAt};
+ghost use Rattle.cedar_scan.specs.Words.{CostsInPiece, IsAutomaton, IsBlankOf, IsStream};
+ghost use Rattle.cedar_scan.specs.Words.{keys_ending, NextInPiece, path_in, stream_code, StreamAt};
 
 use crate::placed::Placed;
 use crate::scan::{Cursor, next_found};

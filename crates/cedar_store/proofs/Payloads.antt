@@ -142,7 +142,7 @@ pub sound_pair : (f : Option CedarError) (r : Result (Unit {0}) CedarError) → 
 sound_pair None r faulty is = refl
 sound_pair (Some e) r faulty is = let apart : Ok tt ≡ Err e = sym is ∙ faulty in cc
 
-err_is : (r : Result (Unit {0}) CedarError) (a b : CedarError) → r ≡ Err a → r ≡ Err b → a ≡ b
+pub err_is : (r : Result (Unit {0}) CedarError) (a b : CedarError) → r ≡ Err a → r ≡ Err b → a ≡ b
 err_is r a b p q = cc
 
 pub refused_pair : (s : State) (key : List ℕ) (v : ℤ) (e : CedarError) (told : DurableError) (r : Result (Unit {0}) CedarError) (f : Option CedarError) → fault key v ≡ f

@@ -13,6 +13,7 @@ use Rattle.cedar_store.specs.Causes.{BatchCause, ChangeCause, EraseCause, IsOfDe
 use Rattle.cedar_store.specs.Changes.{Change}
 use Rattle.cedar_store.specs.Promises.{IsReadyStore, LostRoom}
 use Rattle.cedar_store.proofs.Compacted.{failed_ready}
+use Rattle.cedar_store.proofs.Payloads.{err_is}
 
 -- either the device failed, or there was no room
 pub by_cause : (broke lacked : Type 0) (was failed : Bool) (e : DurableError) (fails lacks P : Type 0) → IsUnwritten broke lacked was failed e → Leaves e fails lacks ⊥
@@ -93,9 +94,6 @@ of_device_since before mid now error.Failed later cause = absurd cause
 
 -- ---- why a change, an erasure or a batch wasn't made then
 
-same_error : (r : Result (Unit {0}) CedarError) (a b : CedarError) → r ≡ Err a → r ≡ Err b → a ≡ b
-same_error r a b p q = cc
-
 is_wanting : (held : Option ℤ) (e : CedarError) → IsShortage e → held ≡ None → IsWanting held e
 is_wanting held cedar.Memory wants none = tt
 is_wanting held cedar.SlotLimit wants none = none
@@ -112,7 +110,7 @@ pub refused_put : (fault : Option CedarError) (held : Option ℤ) (r : Result (U
 refused_put None held r e faulty refused was =
     let wants : IsShortage e × (held ≡ None) = subst (λ x. IfErr x (λ y. IsShortage y × (held ≡ None))) was (refused refl) in
     inr (is_wanting held e wants.0 wants.1)
-refused_put (Some x) held r e faulty refused was = inl (ap Some (same_error r x e faulty was))
+refused_put (Some x) held r e faulty refused was = inl (ap Some (err_is r x e faulty was))
 
 pub change_unwritten : (was failed : Bool) (fault : Option CedarError) (held : Option ℤ) (end n : ℕ) (broke lacked : Type 0) (e : DurableError) → IsUnwritten broke lacked was failed e → ChangeCause was fault held end n broke lacked e
 change_unwritten was failed fault held end n broke lacked (error.Device d) cause = cause.0

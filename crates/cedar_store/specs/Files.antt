@@ -5,12 +5,16 @@ use Rattle.cedar_journal.specs.declared.format.Format.{Format}
 use Rattle.cedar_journal.specs.declared.format.Format.TheVariants.{Summed}
 use Rattle.cedar_journal.specs.Files.{file_payloads, with_payload}
 use Rattle.cedarwood.specs.State.{State, new_state}
-use Rattle.cedar_store.specs.Changes.{after_payloads, Change, changes_of}
+use Rattle.cedar_store.specs.Changes.{after, after_payloads, Change, changes_of}
 
 -- the state of the dictionary that a file represents, whatever a crash made of it: that after the changes of all
 -- records that count. None: the file is of another kind, or one of its records is damaged or no change
 abbrev pub state_of : List ℕ → Option State
 state_of file = option_and_then (after_payloads new_state) (file_payloads file)
+
+-- the state of the dictionary that a file represents once it has one record more, of this payload
+abbrev pub state_with : List ℕ → List ℕ → Option State
+state_with payload file = option_and_then (λ s. after s payload) (state_of file)
 
 -- the format of the records of a file once it is opened: the one that its header names; of a new file version 2
 abbrev pub format_named : Option Format → Format

@@ -1,12 +1,16 @@
 -- What each change of a store promises: of the store before it and after it.
-use Rattle.std.specs.Prelude.{◌≡◌, ◌⊎◌, ◌<◌, ℕ, ℤ, true, false, List, Option, Some}
+use Rattle.std.specs.Prelude.{◌≡◌, ◌⊎◌, ◌<◌, ℕ, ◌+◌, ℤ, true, false, List, Some, length}
 use Rattle.cedar_journal.specs.Device.{FoundNoRoom, LeavesOnly}
-use Rattle.cedar_journal.specs.Journal.{IsSettled}
+use Rattle.cedar_journal.specs.Files.{file_payloads, with_payload}
+use Rattle.cedar_journal.specs.Journal.{IsBeforeOrAfter, IsSettled}
+use Rattle.cedarwood.specs.Fault.{fault}
 use Rattle.cedarwood.specs.State.{State}
-use Rattle.cedarwood.specs.declared.error.CedarError.{CedarError}
+use Rattle.cedarwood.specs.Tree.{number_at}
 use Rattle.cedar_store.specs.Causes.{BatchCause, ChangeCause, EraseCause, IsOfDevice}
-use Rattle.cedar_store.specs.Causes.{IsUnwritten, Leaves}
+use Rattle.cedar_store.specs.Causes.{IsUnwritten, Leaves, OpenCause}
 use Rattle.cedar_store.specs.Changes.{Change}
+use Rattle.cedar_store.specs.Compactions.{LeavesFile}
+use Rattle.cedar_store.specs.declared.compaction.CompactError.{CompactError}
 use Rattle.cedar_store.specs.Files.{AddsRecord, IsEither, StandsFor, record_count, state_of}
 use Rattle.cedar_store.specs.Shortening.{IsShortened}
 use Rattle.cedar_store.specs.Store.{IsReady}
@@ -44,6 +48,22 @@ abbrev pub CrashLeavesStateOrOld : {T A D : Type 0} → (D → ℕ) → (D → �
 CrashLeavesStateOrOld moment left_since may_leave state old new =
     LeavesOnly moment left_since old.journal.device new.journal.device (λ c. may_leave old.journal.device c ⊎ StandsFor (state old.words) c)
 
+-- a crash at any moment of a call leaves a file that represents what the store's file represented before it, or this
+-- state
+abbrev pub CrashLeavesOldOr : {T A D : Type 0} → (D → List ℕ) → (D → ℕ) → (D → ℕ → List ℕ → Type 0) → Store T A D → Store T A D → State → Type 0
+CrashLeavesOldOr seen moment left_since old new after =
+    (s : State) → state_of (seen old.journal.device) ≡ Some s → LeavesOnly moment left_since old.journal.device new.journal.device (IsEither s after)
+
+-- a crash at any moment of a call leaves a file with the records from before it, or with one more behind them, of this
+-- payload (`IsBeforeOrAfter`)
+abbrev pub CrashLeavesRecord : {T A D : Type 0} → (D → List ℕ) → (D → ℕ) → (D → ℕ → List ℕ → Type 0) → List ℕ → Store T A D → Store T A D → Type 0
+CrashLeavesRecord seen moment left_since payload old new =
+    LeavesOnly moment left_since old.journal.device new.journal.device (IsBeforeOrAfter (file_payloads (seen old.journal.device)) payload)
+
+-- the file has one record more, of this payload
+abbrev pub AddsPayload : {T A D : Type 0} → (D → List ℕ) → List ℕ → Store T A D → Store T A D → Type 0
+AddsPayload seen payload old new = file_payloads (seen new.journal.device) ≡ with_payload payload (file_payloads (seen old.journal.device))
+
 -- the file has one record more, of these changes (`AddsRecord`), or it was made short (`IsShortened`)
 abbrev pub IsRecordedIn : {T A D : Type 0} → (D → List ℕ) → (T → State) → Store T A D → Store T A D → List Change → Type 0
 IsRecordedIn seen state old new changes = AddsRecord changes (seen old.journal.device) (seen new.journal.device) ⊎ IsShortened seen state old new
@@ -62,6 +82,12 @@ LeavesStore state old new after e =
     ((new.failed ≡ false) × (new.journal.end ≡ old.journal.end) × (state new.words ≡ state old.words))
     ((new.failed ≡ old.failed) × (new.journal ≡ old.journal) × (state new.words ≡ state old.words))
 
+-- what an error of a compaction leaves (`LeavesFile`): a store that has failed, if it isn't known which file is there;
+-- the file, if the device kept it (`KeepsFile`); and else the store as it was
+abbrev pub LeavesUncompacted : {T A D : Type 0} → (D → List ℕ) → (D → List ℕ → Type 0) → Store T A D → Store T A D → CompactError → Type 0
+LeavesUncompacted seen may_leave old new e =
+    LeavesFile e (new.failed ≡ true) (KeepsFile seen may_leave old new) ((new.failed ≡ old.failed) × (new.journal ≡ old.journal))
+
 -- a call of the store's device has failed
 abbrev pub DeviceFails : {T A D : Type 0} → (D → ℕ) → Store T A D → Store T A D → Type 0
 DeviceFails faults old new = faults old.journal.device < faults new.journal.device
@@ -70,11 +96,15 @@ DeviceFails faults old new = faults old.journal.device < faults new.journal.devi
 abbrev pub DeviceIsFull : {T A D : Type 0} → (D → ℕ) → (D → ℕ) → Store T A D → Store T A D → Type 0
 DeviceIsFull faults full old new = FoundNoRoom faults full old.journal.device new.journal.device
 
--- why a value wasn't put whose pair has this fault, or none, whose key held this, or nothing, and whose payload has n
--- bytes (`ChangeCause`)
-abbrev pub IsChangeCause : {T A D : Type 0} → (D → ℕ) → (D → ℕ) → Store T A D → Store T A D → Option CedarError → Option ℤ → ℕ → DurableError → Type 0
-IsChangeCause faults full old new fault held n e =
-    ChangeCause old.failed fault held old.journal.end n (DeviceFails faults old new) (DeviceIsFull faults full old new) e
+-- why a device wasn't opened (`OpenCause`)
+abbrev pub IsOpenCause : {D : Type 0} → (D → List ℕ) → (D → ℕ) → (D → ℕ) → D → D → DurableError → Type 0
+IsOpenCause seen faults full old new e = OpenCause (seen old) (faults old < faults new) (FoundNoRoom faults full old new) e
+
+-- why a value wasn't put at a key (`ChangeCause`)
+abbrev pub IsPutCause : {T A D : Type 0} → (D → ℕ) → (D → ℕ) → (T → State) → Store T A D → Store T A D → List ℕ → ℤ → DurableError → Type 0
+IsPutCause faults full state old new key value e =
+    ChangeCause old.failed (fault key value) (number_at (state old.words).tree key) old.journal.end (length key + 5)
+    (DeviceFails faults old new) (DeviceIsFull faults full old new) e
 
 -- why a key wasn't erased whose payload has n bytes (`EraseCause`)
 abbrev pub IsEraseCause : {T A D : Type 0} → (D → ℕ) → (D → ℕ) → Store T A D → Store T A D → ℕ → DurableError → Type 0
@@ -96,6 +126,11 @@ pub record LostRoom {T A D : Type 0} (seen : D → List ℕ) (may_leave : D → 
   pub end : new.journal.end ≡ old.journal.end
   pub settled : IsSettled seen may_leave new.journal.device new.journal.format new.journal.end
   pub same : state_of (seen new.journal.device) ≡ state_of (seen old.journal.device)
+
+-- what an error leaves of a change that was to make this state of the dictionary, and whose record was ready: the state
+-- after a failure of the device, and after want of room what it leaves (`LostRoom`). There is no other error
+abbrev pub LeavesChange : {T A D : Type 0} → (D → List ℕ) → (D → List ℕ → Type 0) → (T → State) → Store T A D → Store T A D → State → DurableError → Type 0
+LeavesChange seen may_leave state old new after e = Leaves e (state new.words ≡ after) (LostRoom seen may_leave old new) ⊥
 
 -- the device failed, and so has the store
 abbrev pub FailsByDevice : {T A D : Type 0} → (D → ℕ) → Store T A D → Store T A D → DurableError → Type 0

@@ -66,6 +66,10 @@ end_behind store n = store.journal.end + (overhead store.journal.format + n)
 abbrev pub IsLookedAfter : {T A D : Type 0} → (D → List ℕ) → (D → ℕ) → (T → State) → ℕ → Store T A D → Store T A D → Type 0
 IsLookedAfter seen faults state end old new = IsNotDue old new ⊎ IsLookedAt seen faults state end old new
 
+-- the same of a change whose record has a payload of n bytes, and is the last one of its file
+abbrev pub IsLookedAfterRecord : {T A D : Type 0} → (D → List ℕ) → (D → ℕ) → (T → State) → ℕ → Store T A D → Store T A D → Type 0
+IsLookedAfterRecord seen faults state n old new = IsLookedAfter seen faults state (end_behind old n) old new
+
 -- the device failed in a compaction, so that it isn't known which file is there, and `last_compaction` reports that
 abbrev pub IsFailureTold : {T A D : Type 0} → (D → Type 0) → Store T A D → Type 0
 IsFailureTold is_lost new = (new.base ≡ new.journal.end) × (new.last_compaction ≡ Some (Err Failed)) × is_lost new.journal.device

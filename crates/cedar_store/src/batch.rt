@@ -143,7 +143,7 @@ fn update_one<T: Words>(words: &mut T, change: &Change<'_>) -> Result<Option<i32
 /// Takes the updates among some changes back, whose keys held this before, the last one first. It allocates nothing.
 pub(crate) fn take_all_back<T: Words>(words: &mut T, changes: &[Change<'_>], held: &[Option<i32>])
     requires { length changes.now ≤ length held.now }
-    ensures { (s : State) → AreHeld s (changes_told changes.now) held.now → (T.state words.old) ≡ all_updated s (changes_told changes.now) → (T.state words.new) ≡ s }
+    ensures { (s : State) → AreHeld s (changes_told changes.now) held.now → T.state words.old ≡ all_updated s (changes_told changes.now) → T.state words.new ≡ s }
 {
     let mut left = changes.len();
     while left > 0 {
@@ -154,7 +154,7 @@ pub(crate) fn take_all_back<T: Words>(words: &mut T, changes: &[Change<'_>], hel
 
 /// Takes a change back if it is an update, whose key held this before.
 fn take_one_back<T: Words>(words: &mut T, change: &Change<'_>, held: Option<i32>)
-    ensures { (s : State) → IsHeld s (change_told change.now) held → (T.state words.old) ≡ only_updated s (change_told change.now) → (T.state words.new) ≡ s }
+    ensures { (s : State) → IsHeld s (change_told change.now) held → T.state words.old ≡ only_updated s (change_told change.now) → T.state words.new ≡ s }
 {
     match change {
         Change::Update { key, .. } => take_back(words, key, held),

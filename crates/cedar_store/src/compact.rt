@@ -1,18 +1,18 @@
 //! A store's file made short: one record for each entry.
 
 ghost use Rattle.std.specs.Prelude.{◌+◌, ◌-◌, ◌<◌, ◌^◌, ◌≡◌, ◌⊎◌, false, IfErr, IfOk, IsErrOf};
-ghost use Rattle.std.specs.Prelude.{length, None, OnErr, OnOk, option_and_then, Some, true};
-ghost use Rattle.cedar_store.specs.Words.{with_payload, after, all_erased_late, all_stored};
+ghost use Rattle.std.specs.Prelude.{length, None, OnErr, OnOk, Some, true};
+ghost use Rattle.cedar_store.specs.Words.{AddsPayload, after_payloads, all_erased_late, all_stored};
 ghost use Rattle.cedar_store.specs.Words.{AllByRecursion, changes_told, CompactCause};
-ghost use Rattle.cedar_store.specs.Words.{compacted_length, CrashLeavesState};
+ghost use Rattle.cedar_store.specs.Words.{compacted_length, CrashLeavesOldOr, CrashLeavesState};
 ghost use Rattle.cedar_store.specs.Words.{CrashLeavesStateOrOld, FailsByDevice, fault, IfKept};
 ghost use Rattle.cedar_store.specs.Words.{image_bytes, is_beyond, IsBeforeReplacing, IsConsistent};
-ghost use Rattle.cedar_store.specs.Words.{IsEither, IsFailureTold, IsLookedAfter};
-ghost use Rattle.cedar_store.specs.Words.{end_behind, IsLookedAfterError, IsPutBehind, IsSeenTo};
-ghost use Rattle.cedar_store.specs.Words.{IsReadyStore, IsSettled, IsShortened, KeepsCount};
-ghost use Rattle.cedar_store.specs.Words.{KeepsFile, LeavesUnwritten, Leaves, LeavesFile, record_count};
-ghost use Rattle.cedar_store.specs.Words.{LeavesOnly, LostRoom, new_state, payload_of, payloads_of};
-ghost use Rattle.cedar_store.specs.Words.{file_payloads, after_payloads, State, state_of, walk};
+ghost use Rattle.cedar_store.specs.Words.{IsFailureTold, IsLookedAfter, IsLookedAfterError};
+ghost use Rattle.cedar_store.specs.Words.{IsLookedAfterRecord, IsPutBehind, IsReadyStore, IsSeenTo};
+ghost use Rattle.cedar_store.specs.Words.{IsSettled, IsShortened, KeepsCount, KeepsFile};
+ghost use Rattle.cedar_store.specs.Words.{LeavesChange, LeavesUncompacted, LeavesUnwritten};
+ghost use Rattle.cedar_store.specs.Words.{new_state, payload_of, payloads_of, record_count};
+ghost use Rattle.cedar_store.specs.Words.{state_with, walk};
 
 use crate::batch::erase_rest;
 use crate::frames::put_payload;
@@ -65,8 +65,7 @@ impl<T: Words, A: Allocator + Copy, D: ReplaceDevice> Store<T, A, D> {
 
         //= After `Failed` the store has failed. After `Kept` the file is as it was, byte for byte, and so is what a crash may leave. After
         //  any other error nothing was asked of the device. After these the store has failed only if it had before.
-        ensures err { IfErr result (λ e. LeavesFile e (self.new.failed ≡ true) (KeepsFile D.seen D.may_leave self.old self.new)
-            ((self.new.failed ≡ self.old.failed) × (self.new.journal ≡ self.old.journal))) }
+        ensures err { IfErr result (LeavesUncompacted D.seen D.may_leave self.old self.new) }
     {
         let result = self.write_anew();
         self.last_compaction = Some(result);
@@ -109,8 +108,7 @@ impl<T: Words, A: Allocator + Copy, D: ReplaceDevice> Store<T, A, D> {
         ensures any_moment { self.old.failed ≡ false → CrashLeavesState D.moment D.left_since T.state self.old self.new }
         ensures any_moment_failed { CrashLeavesStateOrOld D.moment D.left_since D.may_leave T.state self.old self.new }
         ensures cause { IfErr result (λ e. CompactCause (D.faults self.old.journal.device) (D.faults self.new.journal.device) (D.is_lost self.new.journal.device) e) }
-        ensures err { IfErr result (λ e. LeavesFile e (self.new.failed ≡ true) (KeepsFile D.seen D.may_leave self.old self.new)
-            ((self.new.failed ≡ self.old.failed) × (self.new.journal ≡ self.old.journal))) }
+        ensures err { IfErr result (LeavesUncompacted D.seen D.may_leave self.old self.new) }
     {
         let image = self.words.image(self.alloc)?;
         match self.put_in_place(&image) {
@@ -130,24 +128,22 @@ impl<T: Words, A: Allocator + Copy, D: ReplaceDevice> Store<T, A, D> {
         requires usable { self.old.failed ≡ false }
         requires room { self.old.journal.end < 2 ^ 60 }
         requires ordered { (all_erased_late (T.state self.old.words) (changes_told changes.now)).ordered ≡ true }
-        requires stands { option_and_then (λ s. after s (payload_of frame.now)) (state_of (D.seen self.old.journal.device))
+        requires stands { state_with (payload_of frame.now) (D.seen self.old.journal.device)
             ≡ Some (all_erased_late (T.state self.old.words) (changes_told changes.now)) }
         ensures ready { OnOk result (IsReadyStore D.seen D.may_leave T.state self.new) }
         ensures done { OnOk result (self.new.failed ≡ false) }
         ensures made { OnOk result (T.state self.new.words ≡ all_erased_late (T.state self.old.words) (changes_told changes.now)) }
         ensures due { OnOk result (is_beyond self.new.compaction self.new.base self.new.journal.end ≡ false) }
-        ensures recorded { OnOk result ((file_payloads (D.seen self.new.journal.device) ≡ with_payload (payload_of frame.now) (file_payloads (D.seen self.old.journal.device)))
-            ⊎ IsShortened D.seen T.state self.old self.new) }
-        ensures looked_after { OnOk result (IsLookedAfter D.seen D.faults T.state (end_behind self.old (length (payload_of frame.now))) self.old self.new) }
+        ensures recorded { OnOk result (AddsPayload D.seen (payload_of frame.now) self.old self.new ⊎ IsShortened D.seen T.state self.old self.new) }
+        ensures looked_after { OnOk result (IsLookedAfterRecord D.seen D.faults T.state (length (payload_of frame.now)) self.old self.new) }
         ensures told { IfErr result (IsLookedAfterError D.faults D.is_lost self.old self.new) }
         ensures err { IfErr result (LeavesUnwritten D.faults D.full self.old self.new) }
-        ensures left { IfErr result (λ e. Leaves e (T.state self.new.words ≡ all_erased_late (T.state self.old.words) (changes_told changes.now))
-            (LostRoom D.seen D.may_leave self.old self.new) ⊥) }
+        ensures left { IfErr result (LeavesChange D.seen D.may_leave T.state self.old self.new
+            (all_erased_late (T.state self.old.words) (changes_told changes.now))) }
         ensures counted { KeepsCount D.seen self.old self.new }
         ensures rule { self.new.compaction ≡ self.old.compaction }
-        ensures any_moment { (s : State) → state_of (D.seen self.old.journal.device) ≡ Some s
-            → LeavesOnly D.moment D.left_since self.old.journal.device self.new.journal.device
-            (IsEither s (all_erased_late (T.state self.old.words) (changes_told changes.now))) }
+        ensures any_moment { CrashLeavesOldOr D.seen D.moment D.left_since self.old self.new
+            (all_erased_late (T.state self.old.words) (changes_told changes.now)) }
     {
         match self.append(frame) {
             Ok(()) => {

@@ -3,18 +3,17 @@
 ghost use Rattle.std.specs.Prelude.{◌+◌, ◌<◌, ◌^◌, ◌≡◌, ◌≤◌, ◌∷◌, IfErr, IfOk, IfSome};
 ghost use Rattle.std.specs.Prelude.{IsErrOf, IsOk, OnErr, OnOk, Some, [], false};
 ghost use Rattle.std.specs.Prelude.{if◌then◌else◌, is_some, length, true};
-ghost use Rattle.cedar_store.specs.Words.{with_payload, all_changed, changes_told, erase_at};
-ghost use Rattle.cedar_store.specs.Words.{batch_length, end_behind};
-ghost use Rattle.cedar_store.specs.Words.{ends_closed, after_erase, fault, format_named, format_of};
-ghost use Rattle.cedar_store.specs.Words.{first_refused, number_at, payload_of, file_payloads};
-ghost use Rattle.cedar_store.specs.Words.{state_of, after_put, AllByRecursion, HasExtent};
-ghost use Rattle.cedar_store.specs.Words.{IsBeforeOrAfter, IsBeforeWrites, IsCorrupt, IsFaultless};
-ghost use Rattle.cedar_store.specs.Words.{IsRecordedIn, IsSettled, FoundNoRoom, LeavesOnly, Only};
-ghost use Rattle.cedar_store.specs.Words.{OpenCause};
-ghost use Rattle.cedar_store.specs.Words.{put_at, ReadCause, CrashLeavesEither, HasState};
-ghost use Rattle.cedar_store.specs.Words.{IsBatchCause, IsChangeCause, IsCounted, IsEraseCause};
-ghost use Rattle.cedar_store.specs.Words.{IsLookedAfter, IsLookedAfterError, IsReadyStore};
-ghost use Rattle.cedar_store.specs.Words.{IsUnlooked, KeepsCount, LeavesUnwritten, LeavesStore};
+ghost use Rattle.cedar_store.specs.Words.{AddsPayload, after_erase, after_put, all_changed};
+ghost use Rattle.cedar_store.specs.Words.{AllByRecursion, batch_length, changes_told};
+ghost use Rattle.cedar_store.specs.Words.{CrashLeavesEither, CrashLeavesRecord, end_behind};
+ghost use Rattle.cedar_store.specs.Words.{ends_closed, erase_at, fault, file_payloads};
+ghost use Rattle.cedar_store.specs.Words.{first_refused, format_named, format_of, HasExtent};
+ghost use Rattle.cedar_store.specs.Words.{HasState, IsBatchCause, IsBeforeWrites, IsCorrupt};
+ghost use Rattle.cedar_store.specs.Words.{IsCounted, IsEraseCause, IsFaultless, IsLookedAfterError};
+ghost use Rattle.cedar_store.specs.Words.{IsLookedAfterRecord, IsOpenCause, IsPutCause};
+ghost use Rattle.cedar_store.specs.Words.{IsReadyStore, IsRecordedIn, IsSettled, IsUnlooked};
+ghost use Rattle.cedar_store.specs.Words.{KeepsCount, LeavesOnly, LeavesStore, LeavesUnwritten};
+ghost use Rattle.cedar_store.specs.Words.{number_at, Only, payload_of, put_at, ReadCause, state_of};
 
 use crate::batch::{make, take_all_back};
 use crate::counts::count_records;
@@ -64,7 +63,7 @@ fn read_words<T: Made<A>, A: Allocator + Copy, D: Device>(
     ensures seen { D.seen device.new ≡ D.seen device.old }
     ensures durable { Only (D.seen device.new) (D.may_leave device.new) }
     ensures any_moment { LeavesOnly D.moment D.left_since device.old device.new (λ c. c ≡ D.seen device.old) }
-    ensures cause { IfErr result (λ error. OpenCause (D.seen device.old) (D.faults device.old < D.faults device.new) (FoundNoRoom D.faults D.full device.old device.new) error) }
+    ensures cause { IfErr result (λ error. IsOpenCause D.seen D.faults D.full device.old device.new error) }
     ensures unfailed { IfErr result (λ error. IsBeforeWrites error → D.faults device.new ≡ D.faults device.old) }
     ensures done { OnOk result (D.faults device.new ≡ D.faults device.old) }
     ensures room { D.full device.new ≡ D.full device.old }
@@ -137,7 +136,7 @@ impl<T: Made<A>, A: Allocator + Copy, D: Device> Store<T, A, D> {
         //  one, as corrupt if one of its records is no change, and otherwise only for lack of memory or slots, or by the device: its
         //  `NoRoom` is returned only if a write has found no room, and any other error of it only if a call of it has failed. If that is
         //  not what is returned, no call of the device has failed. [with unfailed]
-        ensures cause { IfErr result (λ e. OpenCause (D.seen device) (D.faults device < D.faults e.1) (FoundNoRoom D.faults D.full device e.1) e.0) }
+        ensures cause { IfErr result (λ e. IsOpenCause D.seen D.faults D.full device e.1 e.0) }
         ensures unfailed { IfErr result (λ e. IsBeforeWrites e.0 → D.faults e.1 ≡ D.faults device) }
 
         //= A file that is refused for any other reason than the device stays byte for byte as it was, whenever a crash comes. [with seen]
@@ -288,7 +287,7 @@ impl<T: Words, A: Allocator + Copy, D: ReplaceDevice> Store<T, A, D> {
         //  look, nothing is done. Otherwise it is looked at: it isn't too long for its entries; or it was, and was made short; or it was
         //  kept as it was, for lack of memory, for a record that would be too long, or by the device; then `last_compaction` has the
         //  reason. [by IsLookedAfter; also insert, update_bytes, update, erase_bytes, erase, apply_batch]
-        ensures looked_after { OnOk result (IsLookedAfter D.seen D.faults T.state (end_behind self.old (length key.now + 5)) self.old self.new) }
+        ensures looked_after { OnOk result (IsLookedAfterRecord D.seen D.faults T.state (length key.now + 5) self.old self.new) }
 
         //= A change that fails has looked at nothing and reports no compaction, unless it fails by the device: then it may report one after
         //  which it isn't known which file is there. [by IsLookedAfterError; also insert, update_bytes, update, erase_bytes, erase, apply_batch]
@@ -304,7 +303,7 @@ impl<T: Words, A: Allocator + Copy, D: ReplaceDevice> Store<T, A, D> {
         //= Otherwise it fails only if the store has failed before, for lack of memory, for lack of slots of a key that isn't held, if the
         //  record is too long or the records end too far back, or by the device. It returns `NoRoom` only if a write has found no room and
         //  no call of the device has failed, and an error of the device only if one has. [also insert, update_bytes, update]
-        ensures cause { IfErr result (IsChangeCause D.faults D.full self.old self.new (fault key.now value) (number_at (T.state self.old.words).tree key.now) (length key.now + 5)) }
+        ensures cause { IfErr result (IsPutCause D.faults D.full T.state self.old self.new key.now value) }
 
         //= After an error of the device the store has failed. After `NoRoom` it hasn't: the dictionary is as it was, and so is where the
         //  records end; the file represents it, on the disk. After any other, the dictionary, the file and the store are as they were.
@@ -348,10 +347,10 @@ impl<T: Words, A: Allocator + Copy, D: ReplaceDevice> Store<T, A, D> {
         ensures rule { self.new.compaction ≡ self.old.compaction }
         ensures counted { KeepsCount D.seen self.old self.new }
         ensures recorded { OnOk result (IsRecordedIn D.seen T.state self.old self.new (put_at key.now value ∷ [])) }
-        ensures looked_after { OnOk result (IsLookedAfter D.seen D.faults T.state (end_behind self.old (length key.now + 5)) self.old self.new) }
+        ensures looked_after { OnOk result (IsLookedAfterRecord D.seen D.faults T.state (length key.now + 5) self.old self.new) }
         ensures told { IfErr result (IsLookedAfterError D.faults D.is_lost self.old self.new) }
         ensures faulty { self.old.failed ≡ false → IfSome (fault key.now value) (λ e. result ≡ Err (DurableError.Refused e)) }
-        ensures cause { IfErr result (IsChangeCause D.faults D.full self.old self.new (fault key.now value) (number_at (T.state self.old.words).tree key.now) (length key.now + 5)) }
+        ensures cause { IfErr result (IsPutCause D.faults D.full T.state self.old self.new key.now value) }
         ensures err { IfErr result (LeavesStore T.state self.old self.new (after_put (T.state self.old.words) key.now value)) }
     {
         self.insert_bytes(key.as_bytes(), value)
@@ -371,10 +370,10 @@ impl<T: Words, A: Allocator + Copy, D: ReplaceDevice> Store<T, A, D> {
         ensures rule { self.new.compaction ≡ self.old.compaction }
         ensures counted { KeepsCount D.seen self.old self.new }
         ensures recorded { OnOk result (IsRecordedIn D.seen T.state self.old self.new (put_at key.now value ∷ [])) }
-        ensures looked_after { OnOk result (IsLookedAfter D.seen D.faults T.state (end_behind self.old (length key.now + 5)) self.old self.new) }
+        ensures looked_after { OnOk result (IsLookedAfterRecord D.seen D.faults T.state (length key.now + 5) self.old self.new) }
         ensures told { IfErr result (IsLookedAfterError D.faults D.is_lost self.old self.new) }
         ensures faulty { self.old.failed ≡ false → IfSome (fault key.now value) (λ e. result ≡ Err (DurableError.Refused e)) }
-        ensures cause { IfErr result (IsChangeCause D.faults D.full self.old self.new (fault key.now value) (number_at (T.state self.old.words).tree key.now) (length key.now + 5)) }
+        ensures cause { IfErr result (IsPutCause D.faults D.full T.state self.old self.new key.now value) }
         ensures err { IfErr result (LeavesStore T.state self.old self.new (after_put (T.state self.old.words) key.now value)) }
     {
         match self.insert_bytes(key, value) {
@@ -397,10 +396,10 @@ impl<T: Words, A: Allocator + Copy, D: ReplaceDevice> Store<T, A, D> {
         ensures rule { self.new.compaction ≡ self.old.compaction }
         ensures counted { KeepsCount D.seen self.old self.new }
         ensures recorded { OnOk result (IsRecordedIn D.seen T.state self.old self.new (put_at key.now value ∷ [])) }
-        ensures looked_after { OnOk result (IsLookedAfter D.seen D.faults T.state (end_behind self.old (length key.now + 5)) self.old self.new) }
+        ensures looked_after { OnOk result (IsLookedAfterRecord D.seen D.faults T.state (length key.now + 5) self.old self.new) }
         ensures told { IfErr result (IsLookedAfterError D.faults D.is_lost self.old self.new) }
         ensures faulty { self.old.failed ≡ false → IfSome (fault key.now value) (λ e. result ≡ Err (DurableError.Refused e)) }
-        ensures cause { IfErr result (IsChangeCause D.faults D.full self.old self.new (fault key.now value) (number_at (T.state self.old.words).tree key.now) (length key.now + 5)) }
+        ensures cause { IfErr result (IsPutCause D.faults D.full T.state self.old self.new key.now value) }
         ensures err { IfErr result (LeavesStore T.state self.old self.new (after_put (T.state self.old.words) key.now value)) }
     {
         self.update_bytes(key.as_bytes(), value)
@@ -434,7 +433,7 @@ impl<T: Words, A: Allocator + Copy, D: ReplaceDevice> Store<T, A, D> {
         ensures rule { self.new.compaction ≡ self.old.compaction }
         ensures counted { KeepsCount D.seen self.old self.new }
         ensures recorded { IfOk result (λ held. held ≡ true → IsRecordedIn D.seen T.state self.old self.new (erase_at key.now ∷ [])) }
-        ensures looked_after { IfOk result (λ held. held ≡ true → IsLookedAfter D.seen D.faults T.state (end_behind self.old (length key.now + 1)) self.old self.new) }
+        ensures looked_after { IfOk result (λ held. held ≡ true → IsLookedAfterRecord D.seen D.faults T.state (length key.now + 1) self.old self.new) }
         ensures told { IfErr result (IsLookedAfterError D.faults D.is_lost self.old self.new) }
 
         //= An erasure fails only if the store has failed before, for lack of memory, if the record is too long or the records end too far
@@ -473,7 +472,7 @@ impl<T: Words, A: Allocator + Copy, D: ReplaceDevice> Store<T, A, D> {
         ensures rule { self.new.compaction ≡ self.old.compaction }
         ensures counted { KeepsCount D.seen self.old self.new }
         ensures recorded { IfOk result (λ held. held ≡ true → IsRecordedIn D.seen T.state self.old self.new (erase_at key.now ∷ [])) }
-        ensures looked_after { IfOk result (λ held. held ≡ true → IsLookedAfter D.seen D.faults T.state (end_behind self.old (length key.now + 1)) self.old self.new) }
+        ensures looked_after { IfOk result (λ held. held ≡ true → IsLookedAfterRecord D.seen D.faults T.state (length key.now + 1) self.old self.new) }
         ensures told { IfErr result (IsLookedAfterError D.faults D.is_lost self.old self.new) }
         ensures cause { IfErr result (IsEraseCause D.faults D.full self.old self.new (length key.now + 1)) }
         ensures err { IfErr result (LeavesStore T.state self.old self.new (after_erase (T.state self.old.words) key.now)) }
@@ -512,7 +511,7 @@ impl<T: Words, A: Allocator + Copy, D: ReplaceDevice> Store<T, A, D> {
         ensures rule { self.new.compaction ≡ self.old.compaction }
         ensures counted { KeepsCount D.seen self.old self.new }
         ensures recorded { OnOk result ((changes.now ≡ [] → ⊥) → IsRecordedIn D.seen T.state self.old self.new (changes_told changes.now)) }
-        ensures looked_after { OnOk result ((changes.now ≡ [] → ⊥) → IsLookedAfter D.seen D.faults T.state (end_behind self.old (batch_length (changes_told changes.now))) self.old self.new) }
+        ensures looked_after { OnOk result ((changes.now ≡ [] → ⊥) → IsLookedAfterRecord D.seen D.faults T.state (batch_length (changes_told changes.now)) self.old self.new) }
         ensures told { IfErr result (IsLookedAfterError D.faults D.is_lost self.old self.new) }
 
         //= A batch in which a pair has a fault is refused with the first such pair's index and fault, whatever memory there is, if the
@@ -554,7 +553,7 @@ impl<T: Words, A: Allocator + Copy, D: ReplaceDevice> Store<T, A, D> {
         requires room { self.old.journal.end < 2 ^ 60 }
         ensures settled { OnOk result (IsSettled D.seen D.may_leave self.new.journal.device self.new.journal.format self.new.journal.end) }
         ensures longer { OnOk result (self.new.journal.end ≡ end_behind self.old (length (payload_of frame.now))) }
-        ensures acknowledged { OnOk result (file_payloads (D.seen self.new.journal.device) ≡ with_payload (payload_of frame.now) (file_payloads (D.seen self.old.journal.device))) }
+        ensures acknowledged { OnOk result (AddsPayload D.seen (payload_of frame.now) self.old self.new) }
         ensures failed { OnOk result (self.new.failed ≡ self.old.failed) }
         ensures faults { D.faults self.old.journal.device ≤ D.faults self.new.journal.device }
         ensures no_room { IsErrOf result DurableError.NoRoom → IsSettled D.seen D.may_leave self.new.journal.device self.new.journal.format self.new.journal.end }
@@ -565,8 +564,7 @@ impl<T: Words, A: Allocator + Copy, D: ReplaceDevice> Store<T, A, D> {
         ensures unlooked { IsUnlooked self.old self.new }
         ensures rule { self.new.compaction ≡ self.old.compaction }
         ensures counted { KeepsCount D.seen self.old self.new }
-        ensures any_moment { LeavesOnly D.moment D.left_since self.old.journal.device self.new.journal.device
-            (IsBeforeOrAfter (file_payloads (D.seen self.old.journal.device)) (payload_of frame.now)) }
+        ensures any_moment { CrashLeavesRecord D.seen D.moment D.left_since (payload_of frame.now) self.old self.new }
     {
         match self.journal.append(frame) {
             Ok(()) => {

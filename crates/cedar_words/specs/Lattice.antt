@@ -1,6 +1,7 @@
 -- The tokens that cuts of a text by a model may have, with what they cost.
 use Rattle.std.specs.Prelude.{◌≡◌, ℕ, ◌+◌, ◌-◌, ◌<◌, ◌≤◌, nat_lt, if◌then◌else◌, ℤ, List, []}
 use Rattle.std.specs.Prelude.{◌∷◌, ◌++◌, length, drop, map, Option, Some, None}
+use Rattle.std.specs.Iterator.{YieldsFirst}
 use Rattle.cedarwood.specs.Tree.{Tree}
 use Rattle.cedarwood.specs.Queries.{front}
 use Rattle.cedar_words.specs.Models.{IsPieceBy, price_by, run_len}
@@ -53,6 +54,11 @@ run_by run text place fronts = if nat_lt place (length text) then own_run (run p
 -- the same, where the walk and what is to come at its position are one value
 abbrev pub edges_at : Tree → (ℤ → ℕ) → (ℕ → UnknownRun) → List ℕ → Stop × List (ℤ × ℕ) → List Edge
 edges_at tree key run text at = edges_left tree key run text at.0.place (keys_left at.0.key at.1) at.0.run
+
+-- where a walk over the tokens of a text by this model is at a position, it gives the first of those that are left, and
+-- goes on to another one
+abbrev pub GivesEdge : {M : Type 0} → Tree → (M → ℤ → ℕ) → (M → List ℕ → ℕ → UnknownRun) → M → List ℕ → Stop × List (ℤ × ℕ) → Option Edge → Stop × List (ℤ × ℕ) → Type 0
+GivesEdge tree key run model text at found later = YieldsFirst (edges_at tree (key model) (run model text) text) at found later
 
 -- a position of a text where keys that are left are within it, and there is no run behind its end
 abbrev pub IsStop : List ℕ → Stop × List (ℤ × ℕ) → Type 0

@@ -43,6 +43,10 @@ best_by key later run (found ∷ fronts) = beside_run later run (best_priced key
 abbrev pub step_by : Tree → (ℤ → ℕ) → (ℕ → UnknownRun) → List ℕ → List ℕ → ℕ → Step
 step_by tree key run text costs left = best_by key (take left costs) (run (length text - left)) (front tree (drop (length text - left) text))
 
+-- the best step from a position of a text on
+abbrev pub step_from : Tree → (ℤ → ℕ) → (ℕ → UnknownRun) → List ℕ → List ℕ → ℕ → Step
+step_from tree key run text costs place = step_by tree key run text costs (length text - place)
+
 -- no byte costs nothing, and each number more is what the best step over one byte more of the end of a text costs
 pub record AreCostsUpTo (tree : Tree) (key : ℤ → ℕ) (run : ℕ → UnknownRun) (text costs : List ℕ) : Type 0 where
   pub begin : cost_at costs 0 ≡ 0

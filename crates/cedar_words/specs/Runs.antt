@@ -1,7 +1,7 @@
 -- Unknown runs of a text: one character, or the characters of one class that follow one another.
 use Rattle.std.specs.Prelude.{◌≡◌, ℕ, zero, suc, ◌+◌, ◌-◌, ◌*◌, ◌%◌, ◌<◌, nat_le, nat_lt, Bool, true}
 use Rattle.std.specs.Prelude.{false, ◌&&◌, ◌||◌, cond, if◌then◌else◌, ℤ, pos, negsuc, List, [], ◌∷◌}
-use Rattle.std.specs.Prelude.{length, drop, slice_index_or}
+use Rattle.std.specs.Prelude.{length, drop, MatchOption, Option, slice_index_or}
 use Rattle.cedar_words.specs.declared.models.UnknownRun.{UnknownRun}
 
 -- what a key costs whose number is an index of a table, or how much it costs if it is none
@@ -54,6 +54,11 @@ class_rest alike first zero (byte ∷ rest) = if is_continuation byte then suc (
 class_rest alike first (suc most) (byte ∷ rest) =
     if is_continuation byte then suc (class_rest alike first (suc most) rest)
     else if alike first (character_code (byte ∷ rest)) then suc (class_rest alike first most rest) else 0
+
+-- how many more characters a run may have once it has the first of these bytes, or nothing if it ends before that
+abbrev pub LeavesCharacters : (ℕ → ℕ → Bool) → ℕ → ℕ → List ℕ → Option ℕ → Type 0
+LeavesCharacters alike first left bytes result =
+    MatchOption result (class_rest alike first left bytes ≡ 0) (λ more. class_rest alike first left bytes ≡ 1 + class_rest alike first more (drop 1 bytes))
 
 -- how many bytes the run of one class at a position has: it has so many characters at most, but one whole one at least; a position inside
 -- a character has one byte

@@ -11,8 +11,8 @@ pub use Rattle.cedar_words.specs.Steps.{IsFoundBy, IsMark, key_step, step_at, st
 pub use Rattle.cedar_words.specs.Tokens.{AreAdjacent, bytes_in, found_number, IsLongest, len_of}
 pub use Rattle.cedar_words.specs.Tokens.{longest, segments, Token, tokens_behind}
 pub use Rattle.cedar_words.specs.Tokens.{TokensGoOn}
-pub use Rattle.cedar_words.specs.Lattice.{edges_at, edges_from, IsEdgeOf, IsStop, key_edge}
-pub use Rattle.cedar_words.specs.Lattice.{keys_left, own_run, run_by, run_edge}
+pub use Rattle.cedar_words.specs.Lattice.{edges_at, edges_from, GivesEdge, IsEdgeOf, IsStop}
+pub use Rattle.cedar_words.specs.Lattice.{key_edge, keys_left, own_run, run_by, run_edge}
 pub use Rattle.cedar_words.specs.Models.{cost_with, HasOneBestCut, IsBestCut, IsCheapestByModel}
 pub use Rattle.cedar_words.specs.Models.{IsCutBy, RunsKeepCharacters}
 pub use Rattle.cedar_words.specs.Ranked.{AreWays, best_ways, insert_way, IsBestCuts, WaysGoOn}
@@ -22,7 +22,7 @@ pub use Rattle.cedar_words.specs.Ranked.{ways_behind}
 pub use Rattle.cedar_words.specs.Runs.{byte_run, character_run, class_run, only_without_key}
 pub use Rattle.cedar_words.specs.ModelSteps.{AreCostsBy, AreKeptBy, beside_run, best_by}
 pub use Rattle.cedar_words.specs.ModelSteps.{best_cut_by, best_priced, or_run, priced_step}
-pub use Rattle.cedar_words.specs.ModelSteps.{run_step, step_by, TellsStep}
+pub use Rattle.cedar_words.specs.ModelSteps.{run_step, step_from, TellsStep}
 pub use Rattle.cedarwood.specs.Queries.{Entry, front}
 pub use Rattle.cedarwood.specs.State.{State}
 pub use Rattle.cedarwood.specs.Builds.{all_stored}

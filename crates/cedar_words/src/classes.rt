@@ -1,12 +1,12 @@
 //! Unknown runs of one character, and of characters of one class.
 
-ghost use Rattle.std.specs.Prelude.{◌+◌, ◌<◌, ◌≡◌, Bool, drop, IfSome, length, List, MatchOption};
-ghost use Rattle.std.specs.Prelude.{slice_index_or, ℕ};
+ghost use Rattle.std.specs.Prelude.{◌+◌, ◌<◌, ◌≡◌, Bool, IfSome, length, List, slice_index_or, ℕ};
 ghost use Rattle.cedar_words.specs.Cuts.{character_price};
 ghost use Rattle.cedar_words.specs.Runs.{are_one_script, byte_run, character_code, character_len};
-ghost use Rattle.cedar_words.specs.Runs.{character_run, class_len, class_rest, class_run};
-ghost use Rattle.cedar_words.specs.Runs.{is_between, is_continuation, is_han, is_hangul};
-ghost use Rattle.cedar_words.specs.Runs.{is_hiragana, is_katakana, is_letter, is_numeral, low_bits};
+ghost use Rattle.cedar_words.specs.Runs.{character_run, class_len, class_run, is_between};
+ghost use Rattle.cedar_words.specs.Runs.{is_continuation, is_han, is_hangul, is_hiragana};
+ghost use Rattle.cedar_words.specs.Runs.{is_katakana, is_letter, is_numeral, LeavesCharacters};
+ghost use Rattle.cedar_words.specs.Runs.{low_bits};
 
 use crate::models::{UnknownRun, UnknownRuns};
 
@@ -179,7 +179,7 @@ fn left_behind<C: CharacterClasses>(
     left: usize,
     bytes: &[u8],
 ) -> Option<usize>
-    ensures goes { MatchOption result (class_rest (C.alike classes.now) first left bytes.now ≡ 0) (λ more. class_rest (C.alike classes.now) first left bytes.now ≡ 1 + class_rest (C.alike classes.now) first more (drop 1 bytes.now)) }
+    ensures goes { LeavesCharacters (C.alike classes.now) first left bytes.now result }
     ensures some { IfSome result (λ _. 0 < length bytes.now) }
 {
     if bytes.is_empty() {

@@ -357,7 +357,7 @@ pub fn cheapest_by_characters<
     ensures ahead { IfOk result (λ tokens. IsAheadCapped trie.now.state.tree (character_price unknown text.now) text.now tokens.items) }
 
     //= It is what `cheapest_by` returns by the model `ValueIsCost` and `CharacterBytes`, in a text of any length. [by IsBestCut]
-    ensures best { IfOk result (λ tokens. IsBestCut trie.now.state.tree unsigned_abs (λ place. byte_run (character_price unknown text.now place)) text.now tokens.items) }
+    ensures best { IfOk result (λ cut. IsBestCut trie.now.state.tree unsigned_abs (λ place. byte_run (character_price unknown text.now place)) text.now cut.items) }
 {
     cut_by(alloc, trie, text, &EachCharacter { cost: unknown })
 }

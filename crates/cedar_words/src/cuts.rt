@@ -3,7 +3,7 @@
 ghost use Rattle.std.specs.Prelude.{◌+◌, ◌-◌, ◌<◌, ◌≡◌, ◌≤◌, drop, IfOk, length};
 ghost use Rattle.cedar_words.specs.Words.{AreCostsBy, AreKeptBy, AreWithin, beside_run, best_by};
 ghost use Rattle.cedar_words.specs.Words.{best_cut_by, best_priced, front, IsBestCut, or_run};
-ghost use Rattle.cedar_words.specs.Words.{priced_step, run_step, step_by, TellsStep};
+ghost use Rattle.cedar_words.specs.Words.{priced_step, run_step, step_from, TellsStep};
 
 use crate::costs::{NextFront, Step, cheaper, over};
 use crate::models::{CostModel, UnknownRun};
@@ -174,8 +174,8 @@ fn best_token<T: Fronts, M: CostModel>(
     requires kept { AreKeptBy (T.fronts_of trie.now) (M.key_cost model.now) (M.unknown_at model.now text.now) text.now costs.now kept.now }
     ensures some { 0 < result.0 }
     ensures within { result.0 ≤ length text.now - place }
-    ensures len { result.0 ≡ (step_by (T.fronts_of trie.now) (M.key_cost model.now) (M.unknown_at model.now text.now) text.now costs.now (length text.now - place)).len }
-    ensures value { result.1 ≡ (step_by (T.fronts_of trie.now) (M.key_cost model.now) (M.unknown_at model.now text.now) text.now costs.now (length text.now - place)).value }
+    ensures len { result.0 ≡ (step_from (T.fronts_of trie.now) (M.key_cost model.now) (M.unknown_at model.now text.now) text.now costs.now place).len }
+    ensures value { result.1 ≡ (step_from (T.fronts_of trie.now) (M.key_cost model.now) (M.unknown_at model.now text.now) text.now costs.now place).value }
 {
     let left = text.len() - place;
     match kept[left] {
@@ -199,7 +199,7 @@ fn best_tokens<T: Fronts, M: CostModel, B: Allocator>(
 ) -> Result<Vec<(usize, usize, Option<i32>), B>, AllocError>
     requires costs { AreCostsBy (T.fronts_of trie.now) (M.key_cost model.now) (M.unknown_at model.now text.now) text.now costs.now }
     requires kept { AreKeptBy (T.fronts_of trie.now) (M.key_cost model.now) (M.unknown_at model.now text.now) text.now costs.now kept.now }
-    ensures { IfOk result (λ tokens. tokens.items ≡ best_cut_by (T.fronts_of trie.now) (M.key_cost model.now) (M.unknown_at model.now text.now) text.now costs.now) }
+    ensures { IfOk result (λ cut. cut.items ≡ best_cut_by (T.fronts_of trie.now) (M.key_cost model.now) (M.unknown_at model.now text.now) text.now costs.now) }
 {
     let mut tokens = Vec::new(alloc);
     let mut place = 0;

@@ -1,8 +1,9 @@
 //! All tokens that cuts of a text by a model may have.
 
 ghost use Rattle.std.specs.Prelude.{◌-◌, ◌<◌, ◌^◌, ◌≡◌, ◌≤◌, length, List, ⊤, ℕ, ℤ};
-ghost use Rattle.cedar_words.specs.Words.{edges_at, edges_from, IsStop, item_count, key_edge};
-ghost use Rattle.cedar_words.specs.Words.{keys_left, own_run, run_by, run_edge, YieldsFirst};
+ghost use Rattle.cedar_words.specs.Words.{edges_at, edges_from, GivesEdge, IsStop, item_count};
+ghost use Rattle.cedar_words.specs.Words.{key_edge, keys_left, own_run, run_by, run_edge};
+ghost use Rattle.cedar_words.specs.Words.{YieldsFirst};
 ghost use Rattle.cedar_words.specs.declared.edges.Edge.{Edge};
 
 use crate::costs::NextFront;
@@ -152,7 +153,7 @@ fn next_edge<'a, T: Fronts, M: CostModel>(
     walk: &mut PrefixIter<'a, T>,
 ) -> Option<Edge>
     requires { IsStop text.now (stop.old, walk.old.rest) }
-    ensures gives { YieldsFirst (edges_at (T.fronts_of trie.now) (M.key_cost model.now) (M.unknown_at model.now text.now) text.now) (stop.old, walk.old.rest) result (stop.new, walk.new.rest) }
+    ensures gives { GivesEdge (T.fronts_of trie.now) M.key_cost M.unknown_at model.now text.now (stop.old, walk.old.rest) result (stop.new, walk.new.rest) }
     ensures is { IsStop text.now (stop.new, walk.new.rest) }
 {
     while stop.place < text.len() {

@@ -1,6 +1,7 @@
 -- What a batch of updates or of erasures returns, and what it leaves.
 use Rattle.std.specs.Prelude.{◌≡◌, ◌↔◌, ℕ, ◌<◌, pos, Bool, IsTrue, List, [], ◌∷◌, fold, get_or}
-use Rattle.std.specs.Prelude.{is_some, length, Some, take, IsSome, Result, Ok, Err}
+use Rattle.std.specs.Prelude.{is_some, length, MatchOption, None, Option, Some, take, IsSome}
+use Rattle.std.specs.Prelude.{Result, Ok, Err}
 use Rattle.cedar_tree.specs.Queries.{Entry}
 use Rattle.cedar_tree.specs.State.{State, after_erase}
 use Rattle.cedar_tree.specs.Tree.{number_at}
@@ -46,6 +47,10 @@ pub record IsFound (d : Dictionary) (key : List ℕ) (found : Found) : Type 0 wh
   pub value : number_at d.state.tree key ≡ Some found.value
   pub inside : found.slot < size_of d.table
   pub at : IsAt (cells_in d.table) key found.slot
+
+-- a key was found, or it isn't held
+abbrev pub FindsKey : Dictionary → List ℕ → Option Found → Type 0
+FindsKey d key found = MatchOption found (number_at d.state.tree key ≡ None) (IsFound d key)
 
 -- the keys are erased one after another, each from the dictionary that the one before it left, and it is known of
 -- each whether it was held

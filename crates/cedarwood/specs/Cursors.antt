@@ -1,5 +1,5 @@
 -- How far cursors over the entries of a range are in a table, and what a caller sees of them.
-use Rattle.std.specs.Prelude.{◌≡◌, ℕ, ℤ, List, [], ◌++◌, filter, map}
+use Rattle.std.specs.Prelude.{◌≡◌, ℕ, ℤ, List, [], ◌∷◌, ◌++◌, filter, map}
 use Rattle.std.specs.Prelude.{MatchOption, None, Option, Some}
 use Rattle.std.specs.Coded.{Coded, code_by, coded×, coded_ℕ, coded_ℤ, coded_list}
 use Rattle.std.proofs.Common.{refl}
@@ -27,6 +27,11 @@ cursor_code =
     (λ c. (c.key, (c.left, c.room)))
     (λ p. record { key = p.0; left = p.1.0; room = p.1.1 })
     (λ _. refl)
+
+-- a cursor gives the first of the entries that it has left, and then holds its key and has the others left; or none is
+-- left
+abbrev pub GivesEntry : Cursor → Cursor → Option ℤ → Type 0
+GivesEntry old new found = MatchOption found ((old.left ≡ []) × (new.left ≡ [])) (λ value. old.left ≡ (new.key, value) ∷ new.left)
 
 -- the place of a cursor before it comes to the node of its first entry, if there is one
 abbrev pub place_before : Option Numbered → CursorPlace

@@ -33,12 +33,12 @@ pub use Rattle.cedar_walk.specs.Visits.{ComesTo, ComesToFirst, ComesToNumber, Go
 pub use Rattle.cedar_walk.specs.Visits.{GoesToNumber, IsBelow, IsNumberedBelow, left_at, path_to}
 pub use Rattle.cedar_walk.specs.Visits.{SkipsToNode}
 pub use Rattle.cedar_walk.specs.declared.visits.Numbered.{Numbered}
-pub use Rattle.cedarwood.specs.Batches.{held_in_turn, IsErasure, IsErasures, IsFound, IsUpdates}
-pub use Rattle.cedarwood.specs.Batches.{keys_erased, pair_at, StopsAt}
+pub use Rattle.cedarwood.specs.Batches.{FindsKey, held_in_turn, IsErasure, IsErasures, IsFound}
+pub use Rattle.cedarwood.specs.Batches.{IsUpdates, keys_erased, pair_at, StopsAt}
 pub use Rattle.cedarwood.specs.Blanks.{IsBlankOf}
 pub use Rattle.cedarwood.specs.Builds.{all_stored, first_fault, IsBuild, IsRefusedBuild, outcome}
 pub use Rattle.cedarwood.specs.Cursors.{Cursor, cursor_code, cursor_entries, cursor_left, FindsNext}
-pub use Rattle.cedarwood.specs.Cursors.{IsAtEnd, IsCursorEnd, IsCursorPlace, IsShortOf}
+pub use Rattle.cedarwood.specs.Cursors.{GivesEntry, IsAtEnd, IsCursorEnd, IsCursorPlace, IsShortOf}
 pub use Rattle.cedarwood.specs.Cursors.{place_before, WritesNextKey}
 pub use Rattle.cedarwood.specs.Dictionary.{AreSameFigures, capacity_after, Dictionary}
 pub use Rattle.cedarwood.specs.Dictionary.{dictionary_code, first_bytes, Grows, IsMarked}

@@ -1,8 +1,8 @@
 //! Erasures of all keys that begin with a prefix, and of a key that was found.
 
-ghost use Rattle.std.specs.Prelude.{◌≡◌, false, MatchOption, None, true, ℕ};
+ghost use Rattle.std.specs.Prelude.{◌≡◌, false, None, true, ℕ};
 ghost use Rattle.cedarwood.specs.Words.{dictionary_of, fields, IsCleared, IsErasedUnder, IsErasure};
-ghost use Rattle.cedarwood.specs.Words.{IsFound, IsWellFormed, number_at};
+ghost use Rattle.cedarwood.specs.Words.{FindsKey, IsFound, IsWellFormed};
 
 use crate::{Layout, Trie};
 use cedar_edit::erase_at;
@@ -25,7 +25,7 @@ fn find_in<L: Layout, const SLOTS: usize, A: Allocator>(
     key: &[u8],
 ) -> Option<Found>
     requires { IsWellFormed SLOTS (fields table.now) }
-    ensures found { (n : ℕ) → MatchOption result (number_at (dictionary_of n (fields table.now)).state.tree key.now ≡ None) (IsFound (dictionary_of n (fields table.now)) key.now) }
+    ensures found { (n : ℕ) → FindsKey (dictionary_of n (fields table.now)) key.now result }
     ensures absent { (n : ℕ) → result ≡ None → IsErasure (dictionary_of n (fields table.now)) (dictionary_of n (fields table.now)) key.now false }
 {
     let slot = table.node_of(key)?;
@@ -126,7 +126,7 @@ impl<L: Layout, const SLOTS: usize, A: Allocator> Trie<L, SLOTS, A> {
     pub fn find_bytes(&self, key: &[u8]) -> Option<Found>
         //= `find_bytes` finds a key exactly if it is held, and then has its value. If it finds none, an erasure would change nothing. [with
         //  absent]
-        ensures found { MatchOption result (number_at self.now.state.tree key.now ≡ None) (IsFound self.now key.now) }
+        ensures found { FindsKey self.now key.now result }
         ensures absent { result ≡ None → IsErasure self.now self.now key.now false }
     {
         find_in(&self.table, key)

@@ -41,6 +41,10 @@ precedes_stop (Included key) w = is_le (slice_cmp nat_cmp w key)
 precedes_stop (Excluded key) w = is_lt (slice_cmp nat_cmp w key)
 precedes_stop Unbounded w = true
 
+-- a range holds what comes neither before its start nor behind its end
+abbrev pub HoldsBetween : Bound (List ℕ) → Bound (List ℕ) → KeySpan → Type 0
+HoldsBetween start end span = (w : List ℕ) → holds span w ≡ (follows_start start w && precedes_stop end w)
+
 -- the entries of a tree whose keys are in a range
 abbrev pub entries_within : Tree → KeySpan → List Entry
 entries_within t span = filter (λ e. holds span e.0) (walk t)

@@ -2,7 +2,8 @@
 
 ghost use Rattle.std.specs.Prelude.{◌++◌, ◌∷◌, ◌≡◌, Bool, filter, List, nat_eq, ℕ};
 ghost use Rattle.key_ranges.specs.Words.{entries_within, Entry, holds, HoldsBefore, HoldsBehind};
-ghost use Rattle.key_ranges.specs.Words.{HoldsPrefixed, IsAscending, IsSound, KeySpan, starts_with, Tree, walk};
+ghost use Rattle.key_ranges.specs.Words.{HoldsPrefixed, IsAscending, IsSound, KeySpan, starts_with};
+ghost use Rattle.key_ranges.specs.Words.{Tree, walk};
 
 /// A range has the entries at whose keys a test holds, if that test says what the range holds: as the clause of [`KeyRange::between`] does.
 ///

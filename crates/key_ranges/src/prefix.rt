@@ -1,6 +1,7 @@
 //! What comes behind all byte strings with a prefix.
 
-ghost use Rattle.std.specs.Prelude.{◌<◌, ◌≡◌, ◌≢◌, ◌≤◌, ◌-◌, ◌⊎◌, get_or, IfOk, length, option_map, take};
+ghost use Rattle.std.specs.Prelude.{◌<◌, ◌≡◌, ◌≢◌, ◌≤◌, ◌-◌, ◌⊎◌, get_or, IfOk, length, option_map};
+ghost use Rattle.std.specs.Prelude.{take};
 ghost use Rattle.key_ranges.specs.Words.{successor};
 
 use std::alloc::{AllocError, Allocator};

@@ -1,9 +1,8 @@
 //! Ranges of byte strings.
 
-ghost use Rattle.std.specs.Prelude.{◌&&◌, ◌≡◌, IfOk, List, OnErr, OnOk, option_map, ℕ};
-ghost use Rattle.key_ranges.specs.Words.{bound_map, follows_start, holds, HoldsBefore};
-ghost use Rattle.key_ranges.specs.Words.{HoldsBehind, HoldsPast, HoldsPrefixed, KeySpan};
-ghost use Rattle.key_ranges.specs.Words.{precedes_stop, span_code};
+ghost use Rattle.std.specs.Prelude.{◌≡◌, IfOk, OnErr, OnOk, option_map};
+ghost use Rattle.key_ranges.specs.Words.{bound_map, HoldsBefore, HoldsBehind, HoldsBetween};
+ghost use Rattle.key_ranges.specs.Words.{HoldsPast, HoldsPrefixed, KeySpan, span_code};
 
 use crate::ends::{behind, comes_before, end_of, start_of};
 use crate::prefix::behind_prefix;
@@ -42,7 +41,7 @@ impl<A: Allocator + Copy> KeyRange<A> {
     /// An allocation was refused.
     pub fn between(alloc: A, start: Bound<&[u8]>, end: Bound<&[u8]>) -> Result<Self, AllocError>
         //= A range between two ends holds what comes neither before the one nor behind the other: an end itself, if it is included.
-        ensures { IfOk result (λ range. (w : List ℕ) → holds range w ≡ (follows_start (bound_map (λ key. key.now) start.entry) w && precedes_stop (bound_map (λ key. key.now) end.entry) w)) }
+        ensures { IfOk result (HoldsBetween (bound_map (λ key. key.now) start.entry) (bound_map (λ key. key.now) end.entry)) }
     {
         let from = start_of(alloc, start)?;
         let to = end_of(alloc, end)?;

@@ -1,9 +1,9 @@
 //! A cursor over the entries of a range, which lends their keys.
 
-ghost use Rattle.std.specs.Prelude.{◌<◌, ◌∷◌, ◌≡◌, ◌≤◌, [], IfErr, IfOk, length, List, MatchOption};
+ghost use Rattle.std.specs.Prelude.{◌<◌, ◌≡◌, ◌≤◌, [], IfErr, IfOk, length, List, MatchOption};
 ghost use Rattle.std.specs.Prelude.{OnErr, option_map, Some, vec_capacity, ℕ};
 ghost use Rattle.cedarwood.specs.Words.{Cursor, cursor_code, cursor_entries, cursor_left};
-ghost use Rattle.cedarwood.specs.Words.{FindsNext, IsAtEnd, IsCursorEnd, IsCursorPlace};
+ghost use Rattle.cedarwood.specs.Words.{FindsNext, GivesEntry, IsAtEnd, IsCursorEnd, IsCursorPlace};
 ghost use Rattle.cedarwood.specs.Words.{IsRangePlace, IsShortOf, IsWellFormed, KeyOutgrows};
 ghost use Rattle.cedarwood.specs.Words.{place_before, WritesNextKey};
 
@@ -139,7 +139,7 @@ impl<'a, T: Walked, A: Allocator> EntryCursor<'a, T, A> {
     pub fn advance(&mut self) -> Result<Option<i32>, CedarError>
         //= A cursor over the entries of a range gives the next one each call, and then holds its key. If that fails with `Memory`, the
         //  cursor is where it was. [with refused]
-        ensures found { IfOk result (λ found. MatchOption found ((self.old.left ≡ []) × (self.new.left ≡ [])) (λ value. self.old.left ≡ (self.new.key, value) ∷ self.new.left)) }
+        ensures found { IfOk result (GivesEntry self.old self.new) }
         ensures refused { IfErr result (λ e. (e ≡ CedarError.Memory) × (self.new.left ≡ self.old.left) × (0 < length self.old.left)) }
 
         //= A cursor fails only if the next key is longer than the capacity of its own buffer, which never falls. [with room; by

@@ -1,10 +1,9 @@
-use Rattle.std.proofs.Common.{rules, ◌≡◌, ◌∙◌, ◌⊎◌, ◌*◌, ◌≤◌, List, None, Err, IfSome, IfOk, IfErr, length, map, subst, ap}
-use Rattle.cedarwood.specs.declared.error.CedarError.TheVariants.{Memory, SlotLimit}
-use Rattle.cedarwood.specs.Queries.{Entry, asc, prefixes}
+use Rattle.std.proofs.Common.{rules, ◌≡◌, ◌∙◌, List, None, Err, IfSome, IfOk, IfErr, map, subst, ap}
+use Rattle.cedarwood.specs.Queries.{Entry}
 use Rattle.cedarwood.specs.Sorted.{entries_of}
 use Rattle.cedarwood.specs.Words.{IsSorted, most_slots}
 use Rattle.either_layout.specs.Layouts.{inner_dictionary, inner_layout}
-use Rattle.cedar_c.specs.Pairs.{build_fault, entries_in, taken_pair}
+use Rattle.cedar_c.specs.Pairs.{build_fault, entries_in, IsBuildShortage, taken_pair}
 use Rattle.cedar_c.proofs.PairLemmas.{entries_taken, fault_answered}
 use Rattle.cedar_c.proofs.builds.of_pairs.Goals as goal
 
@@ -28,4 +27,4 @@ returns-in-Some-clause-refused c =
     let same : c.as_slice.result.now ≡ map taken_pair c.args.pairs.now = search rules in
     let is : entries_of c.as_slice.result.now ≡ entries_in c.args.pairs.now = ap entries_of same ∙ entries_taken c.args.pairs.now in
     let result = c.build_taken.result in
-    subst (λ (es : List Entry). build_fault c.args.wanted.is_sorted es ≡ None → IfErr result (λ e. (e ≡ Memory) ⊎ ((e ≡ SlotLimit) × (most_slots ≤ 256 * length (prefixes (asc es)))))) is c.build_taken.ensures.refused
+    subst (λ (es : List Entry). build_fault c.args.wanted.is_sorted es ≡ None → IfErr result (λ e. IsBuildShortage most_slots es e)) is c.build_taken.ensures.refused
