@@ -144,6 +144,7 @@ void bounds(layout kind) {
         plain[key] = i;
     }
     CHECK(from(d, d.begin()) == Pairs(plain.begin(), plain.end()) && from(d, d.cbegin()) == Pairs(plain.begin(), plain.end()));
+    CHECK(d.cend() == d.end() && (d.cbegin() == d.cend()) == plain.empty());
     for (int i = 0; i < 1000; ++i) {
         const std::string key = short_key(), to = short_key();
         const auto at = plain.lower_bound(key), found = plain.find(key);
