@@ -30,7 +30,7 @@ abbrev pub TellsWanted : (List ℕ → Bool) → State → List ℕ → List ℕ
 TellsWanted wanted s behind bytes written value told needed found status =
     TellsNeighbour s (IsHeadOf (wanted_behind wanted s.tree behind)) bytes written value told needed found status
 
--- the same of what fits a pattern, unless that has more than 63 bytes
+-- the same as `TellsWanted` of the entries whose keys fit a pattern, unless that has more than 63 bytes
 abbrev pub TellsFitting : State → List ℕ → List ℕ → List ℕ → List ℕ → ℤ → ℤ → ℕ → ℕ → ℕ → Type 0
 TellsFitting s pattern behind bytes written value told needed found status =
     (length pattern ≤ 63 × TellsWanted (fits pattern) s behind bytes written value told needed found status)

@@ -21,16 +21,17 @@ pub record ReachesNode (stands : List ℕ → ℕ → Type 0) (tree : Tree) (lef
   pub visits : left ≡ (path_on path next, next.number) ∷ visits_left tree (forwards (path_on path next))
   pub deep : (0 < next.depth) × (next.depth ≤ length path + 1)
 
--- from a slot it goes to the first of those that it has left, unless none is. `left` says what it has left at a path
+-- a walk goes from the node in a slot to the first of the nodes that it has left there, if there is one. `left` says which it has left at a
+-- path
 abbrev pub StepsOn : (List ℕ → ℕ → Type 0) → Tree → (List ℕ → List Visit) → ℕ → ℕ → Option Node → Type 0
 StepsOn stands tree left slot depth next =
     (path : List ℕ) → stands path slot → length path ≡ depth → MatchOption next (left path ≡ []) (ReachesNode stands tree (left path) path)
 
--- what it has left where it has been at the node at a path, and not yet below it
+-- the nodes that a walk has left where it has been at the node at a path, and not yet below it
 abbrev pub left_from : Tree → List ℕ → List Visit
 left_from tree path = visits_left tree (forwards path)
 
--- and what it has left but for the nodes below that
+-- the nodes that a walk has left where it has been at the node at a path, but for those below it
 abbrev pub left_past : Tree → List ℕ → List Visit
 left_past tree path = visits_after tree (forwards path)
 
@@ -40,7 +41,7 @@ left_past tree path = visits_after tree (forwards path)
 abbrev pub wanted_entries : (List ℕ → Bool) → List Visit → List Entry
 wanted_entries test visits = filter (λ e. test e.0) (visited_entries visits)
 
--- how many of them do
+-- how many of some nodes have paths that pass a test
 abbrev pub visit_count : (List ℕ → Bool) → List Visit → ℕ
 visit_count test visits = length (filter (λ v. test v.0) visits)
 
@@ -62,12 +63,12 @@ pub record MatchLeadsTo (stands : List ℕ → ℕ → Type 0) (tree : Tree) (ac
   pub nodes : visit_count leads left ≡ 1 + visit_count leads (left_from tree (path_on path next))
   pub deep : (0 < next.depth) × (next.depth ≤ length path + 1)
 
--- or none is left
+-- an automaton leads to none of the nodes that are left, and none of their entries is wanted
 pub record MatchEnds (accepts leads : List ℕ → Bool) (left : List Visit) : Type 0 where
   pub entries : wanted_entries accepts left ≡ []
   pub nodes : visit_count leads left ≡ 0
 
--- to the next node, or to none
+-- an automaton goes on from a path to the next node to which it leads (`MatchLeadsTo`), or there is none (`MatchEnds`)
 abbrev pub MatchLeads : (List ℕ → ℕ → Type 0) → Tree → (List ℕ → Bool) → (List ℕ → Bool) → List ℕ → Option Node → Type 0
 MatchLeads stands tree accepts leads path next =
     MatchOption next (MatchEnds accepts leads (left_from tree path)) (MatchLeadsTo stands tree accepts leads (left_from tree path) path)
@@ -79,7 +80,7 @@ LeadsToNext stands tree accepts after may initial automaton path next =
 
 -- ---- the walk
 
--- it stands at the node at the end of its key, has led there, and knows the states on the way
+-- a walk by an automaton stands at the node at the end of its key: the automaton has led there, and its states on the way are known
 pub record IsMatchPlace {S : Type 0} (stands : List ℕ → ℕ → Type 0) (after : S → ℕ → S) (may : S → Bool) (initial : S) (key : List ℕ) (states : List S) (slot : ℕ) : Type 0 where
   pub there : stands key slot
   pub led : leads_on after may initial key ≡ true
@@ -90,25 +91,25 @@ abbrev pub IsMatchPlaceOf : {M S : Type 0} → (List ℕ → ℕ → Type 0) →
 IsMatchPlaceOf stands after may initial automaton key states slot =
     IsMatchPlace stands (after automaton) (may automaton) (initial automaton) key states slot
 
--- the entries that it has left where it is at the node at a path
+-- the entries that a walk by an automaton has left where it is at the node at a path
 abbrev pub entries_to_come : Tree → (List ℕ → Bool) → List ℕ → List Entry
 entries_to_come tree accepts path = wanted_entries accepts (left_from tree path)
 
--- how many nodes it still goes to
+-- how many nodes a walk by an automaton still goes to from the node at a path
 abbrev pub nodes_to_come : Tree → (List ℕ → Bool) → List ℕ → ℕ
 nodes_to_come tree leads path = visit_count leads (left_from tree path)
 
--- it comes from one path to another: to the first of the entries that it had left
+-- a walk by an automaton comes from one path to another, whose entry is the first that it had left
 pub record ComesToMatch (tree : Tree) (accepts leads : List ℕ → Bool) (before after : List ℕ) (value : ℤ) : Type 0 where
   pub entries : entries_to_come tree accepts before ≡ (after, value) ∷ entries_to_come tree accepts after
   pub nodes : nodes_to_come tree leads after < nodes_to_come tree leads before
 
--- or it had none left
+-- a walk by an automaton had no entry left, and has none
 pub record ComesToEnd (tree : Tree) (accepts : List ℕ → Bool) (before after : List ℕ) : Type 0 where
   pub none_before : entries_to_come tree accepts before ≡ []
   pub none_after : entries_to_come tree accepts after ≡ []
 
--- or it stops short of a node, and has passed no entry that is wanted
+-- a walk by an automaton stops short of a node, and has passed no entry that is wanted
 pub record StopsShort (tree : Tree) (accepts leads : List ℕ → Bool) (before after : List ℕ) : Type 0 where
   pub entries : entries_to_come tree accepts before ≡ entries_to_come tree accepts after
   pub nodes : 0 < nodes_to_come tree leads after
@@ -137,7 +138,8 @@ CountsNodes tree after may initial automaton before path old new =
     let leads = leads_on (after automaton) (may automaton) (initial automaton) in
     new + nodes_to_come tree leads path ≡ old + nodes_to_come tree leads before
 
--- what a caller sees: the key that it holds, the entries that it has left, and how many nodes it still goes to at most
+-- what a caller sees of a walk by an automaton: the key that it holds, the entries that it has left, and how many nodes it still goes to at
+-- most
 pub record MatchWalk : Type 0 where
   pub key : List ℕ
   pub left : List Entry
@@ -149,12 +151,12 @@ abbrev pub GivesMatch : MatchWalk → MatchWalk → Option ℤ → Type 0
 GivesMatch old new found =
     MatchOption found ((old.left ≡ []) × (new.left ≡ [])) (λ value. (old.left ≡ (new.key, value) ∷ new.left) × (new.nodes < old.nodes))
 
--- the same with a copy of its key
+-- a walk gives the first of the entries that it has left (`GivesMatch`), with a copy of its key
 abbrev pub GivesCopy : {A : Type 0} → MatchWalk → MatchWalk → Option (Vec ℕ A × ℤ) → Type 0
 GivesCopy old new found =
     MatchOption found ((old.left ≡ []) × (new.left ≡ [])) (λ entry. (old.left ≡ (entry.0.items, entry.1) ∷ new.left) × (new.nodes < old.nodes))
 
--- it serves `impl Model` alone
+-- a walk by an automaton as plain data, for `impl Model` alone
 abbrev pub match_walk_code : Coded MatchWalk
 match_walk_code =
     code_by (List ℕ × (List (List ℕ × ℤ) × ℕ)) (coded× (coded_list coded_ℕ) (coded× (coded_list (coded× (coded_list coded_ℕ) coded_ℤ)) coded_ℕ))

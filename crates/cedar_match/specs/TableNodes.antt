@@ -6,11 +6,11 @@ use Rattle.cedarwood.specs.Words.{cells_in, IsBelow, path_to}
 use Rattle.cedar_walk.specs.declared.visits.Visited.{Visited}
 use Rattle.cedar_match.specs.declared.nodes.Node.{Node}
 
--- the same node
+-- a node that a walk over the table visits, as a `Node`
 abbrev pub as_node : Visited → Node
 as_node v = record { slot = v.slot; depth = v.depth; label = v.label; number = v.number }
 
--- the same, if there is one
+-- a node that a walk over the table visits, if there is one, as a `Node`
 abbrev pub node_of : Option Visited → Option Node
 node_of visited = option_map as_node visited
 

@@ -49,7 +49,7 @@ child_in states s l =
 abbrev pub with_base : List State → PlacedNode → List State
 with_base states n = slice_set states n.parent (record (state_at states n.parent) { base = bit_xor n.slot n.label })
 
--- and with what is read in the node's own slot
+-- the states with a node's place among the others, and with what is read in the node's own slot
 abbrev pub with_node : List State → PlacedNode → List State
 with_node states n =
     slice_set (with_base states n) n.slot
@@ -93,7 +93,7 @@ pub record IsLinked (t : Tree) (slot_of : List ℕ → ℕ) (states : List State
   pub failure : (state_at states (slot_of w)).failure ≡ slot_of (Rattle.cedar_scan.specs.Suffixes.failure t w)
   pub output : (state_at states (slot_of w)).output ≡ slot_of (key_suffix t w)
 
--- each node whose path has at most so many bytes
+-- each node whose path has at most so many bytes has its links
 abbrev pub AreLinked : Tree → (List ℕ → ℕ) → List State → ℕ → Type 0
 AreLinked t slot_of states most = (w : List ℕ) → is_node t w ≡ true → length w ≤ most → IsLinked t slot_of states w
 
@@ -117,7 +117,7 @@ abbrev pub GoesToSuffix : Tree → (List ℕ → ℕ) → ℕ → ℕ → ℕ �
 GoesToSuffix t slot_of from label to =
     (path : List ℕ) → is_node t path ≡ true → from ≡ slot_of path → to ≡ slot_of (held_suffix t (path ++ label ∷ []))
 
--- it takes two steps, less one for each byte by which the path is shorter then
+-- a step by a label takes at most two tests, one more for each byte by which the path is shorter then, and one less if it is longer by one
 abbrev pub StepsWithin : Tree → (List ℕ → ℕ) → ℕ → ℕ → ℕ → ℕ → Type 0
 StepsWithin t slot_of from label before after =
     (path : List ℕ) → is_node t path ≡ true → from ≡ slot_of path → after + length (held_suffix t (path ++ label ∷ [])) ≤ before + length path + 2

@@ -19,7 +19,7 @@ earliest_from t read place (b ∷ rest) =
     let found = first_key (keys_ending t (read ++ b ∷ [])) in
     cons_option (option_map (occurrence_ending (place + 1)) found) (earliest_from t (if is_some found then [] else read ++ b ∷ []) (place + 1) rest)
 
--- those of the whole text
+-- the keys of a text that don't overlap: of those that end first the longest, and so on from its end
 abbrev pub earliest : Tree → List ℕ → List Occurrence
 earliest t text = earliest_from t [] 0 text
 
@@ -29,10 +29,10 @@ pub record EndsFirst (t : Tree) (offset : ℕ) (text : List ℕ) (found : FoundK
   pub short : found.len ≤ place
   pub spots : earliest_from t [] offset text ≡ (offset + place - found.len, found.len, found.value) ∷ earliest_from t [] (offset + place) (drop place text)
 
--- the next such key, with the position where it ends; or none is left
+-- the next of the keys that don't overlap (`EndsFirst`), with the position where it ends; or none is left
 abbrev pub GivesEarliest : Tree → ℕ → List ℕ → Option (FoundKey × ℕ) → Type 0
 GivesEarliest t offset text next = MatchOption next (earliest_from t [] offset text ≡ []) (λ found. EndsFirst t offset text found.0 found.1)
 
--- two steps for each byte up to there, and one for the key
+-- a search for the next key takes at most two steps for each byte up to its end, and one for the key; where none is left, two for each byte
 abbrev pub CostsFirst : List ℕ → Option (FoundKey × ℕ) → ℕ → ℕ → Type 0
 CostsFirst text next before after = MatchOption next (after ≤ before + 2 * length text) (λ found. after ≤ before + 2 * found.1 + 1)

@@ -22,13 +22,13 @@ pops_of fall popped = map popped_key (take (fall.last - fall.first) (drop fall.f
 abbrev pub fall_at : List Fall → ℕ → Fall
 fall_at falls s = slice_index_or falls s (record { to = 0; first = 0; last = 0 })
 
--- these keys were added
+-- the keys of a fall are put behind those of other falls
 pub record AddsPopped (old : List Popped) (pops : List Spot) (new : List Popped) : Type 0 where
   pub added : List Popped
   pub whole : new ≡ old ++ added
   pub are : map popped_key added ≡ pops
 
--- the fall of a node
+-- a node has its fall: what it gives and where it leads is known (`IsFall`)
 pub record HasFall (t : Tree) (slot_of : List ℕ → ℕ) (falls : List Fall) (popped : List Popped) (w : List ℕ) : Type 0 where
   pub rest : List ℕ
   pub to : (fall_at falls (slot_of w)).to ≡ slot_of rest
@@ -36,11 +36,11 @@ pub record HasFall (t : Tree) (slot_of : List ℕ → ℕ) (falls : List Fall) (
   pub inside : (fall_at falls (slot_of w)).last ≤ length popped
   pub fall : IsFall t w (pops_of (fall_at falls (slot_of w)) popped) rest
 
--- each node below the root has its own
+-- each node below the root has its fall
 abbrev pub AreFalls : Tree → (List ℕ → ℕ) → List Fall → List Popped → Type 0
 AreFalls t slot_of falls popped = (w : List ℕ) → is_node t w ≡ true → 0 < length w → HasFall t slot_of falls popped w
 
--- a node can get its own: those with shorter paths have theirs
+-- a node can get its fall: those with shorter paths have theirs
 pub record CanFall (t : Tree) (slot_of : List ℕ → ℕ) (states : List State) (falls : List Fall) (popped : List Popped) (n : PlacedNode) : Type 0 where
   pub placing : IsPlacing t slot_of
   pub goto : IsGoto t slot_of states
@@ -56,12 +56,12 @@ pub record FallsTo (t : Tree) (slot_of : List ℕ → ℕ) (n : PlacedNode) (old
   pub adds : AddsPopped old pops new
   pub fall : (is : IsListedNode t slot_of n) → IsFall t (is.path ++ n.label ∷ []) pops rest
 
--- a node gets its own, and each other one keeps the one that it has
+-- a node gets its fall, and each other one keeps the one that it has
 pub record AddsFall (t : Tree) (slot_of : List ℕ → ℕ) (n : PlacedNode) (falls : List Fall) (popped : List Popped) (new : List Fall) (more : List Popped) : Type 0 where
   pub here : (w : List ℕ) → is_node t w ≡ true → n.slot ≡ slot_of w → HasFall t slot_of new more w
   pub kept : (w : List ℕ) → is_node t w ≡ true → HasFall t slot_of falls popped w → HasFall t slot_of new more w
 
--- the first nodes of a list have theirs
+-- the first nodes of a list have their falls
 abbrev pub AreFallsFirst : Tree → (List ℕ → ℕ) → List PlacedNode → ℕ → List Fall → List Popped → Type 0
 AreFallsFirst t slot_of nodes n falls popped =
     (k : ℕ) (d : PlacedNode) → k < n → (w : List ℕ) → is_node t w ≡ true → (slice_index_or nodes k d).slot ≡ slot_of w → HasFall t slot_of falls popped w

@@ -30,7 +30,7 @@ pending_of popped cursor = map popped_key (take (cursor.last - cursor.next) (dro
 abbrev pub read_path : List State → List ℕ → KeywordCursor → List ℕ
 read_path states text cursor = last_of (state_at states cursor.slot).depth (take cursor.place text)
 
--- where a search is
+-- where a search for keywords is: at the node that the last bytes it has read lead to, with the keys of a fall that it has still to give
 pub record IsKeywordCursor (t : Tree) (slot_of : List ℕ → ℕ) (states : List State) (popped : List Popped) (text : List ℕ) (cursor : KeywordCursor) : Type 0 where
   pub path : List ℕ
   pub node : is_node t path ≡ true
@@ -42,38 +42,38 @@ pub record IsKeywordCursor (t : Tree) (slot_of : List ℕ → ℕ) (states : Lis
   pub inside : cursor.last ≤ length popped
   pub fits : All (λ p. cursor.base + p.0 + p.1 ≤ cursor.place) (pending_of popped cursor)
 
--- the keywords that it has still to give
+-- the keywords that a search has still to give
 abbrev pub keywords_left : Tree → List State → List Popped → List ℕ → KeywordCursor → List Spot
 keywords_left t states popped text cursor =
     map (popped_at cursor.base) (pending_of popped cursor)
     ++ keywords_from t (cursor.place - (state_at states cursor.slot).depth) (read_path states text cursor ++ drop cursor.place text)
 
--- at most so many steps are still to come
+-- how many steps of a search are still to come at most
 abbrev pub tests_left : List State → List ℕ → KeywordCursor → ℕ
 tests_left states text cursor = (state_at states cursor.slot).depth + 2 * (length text - cursor.place)
 
--- no child is under the next byte, or none is left
+-- the node that a search is at has no child under the next byte, or no byte is left
 abbrev pub CantGoOn : List State → List ℕ → KeywordCursor → Type 0
 CantGoOn states text cursor = (length text ≤ cursor.place) ⊎ ((cursor.place < length text) × (child_in states cursor.slot (slice_index text cursor.place) ≡ None))
 
--- it goes on where no key is to be given: nothing is lost, and fewer steps are to come
+-- a search goes on where no key is to be given: nothing is lost, and fewer steps are to come
 pub record ScansOn (t : Tree) (slot_of : List ℕ → ℕ) (states : List State) (popped : List Popped) (text : List ℕ) (old new : KeywordCursor) (before after : ℕ) : Type 0 where
   pub cursor : IsKeywordCursor t slot_of states popped text new
   pub keywords : keywords_left t states popped text old ≡ keywords_left t states popped text new
   pub fewer : tests_left states text new < tests_left states text old
   pub cost : after + tests_left states text new ≤ before + tests_left states text old
 
--- or nothing is left
+-- a search goes on (`ScansOn`), or it has nothing left
 abbrev pub ScansOnOrEnds : Tree → (List ℕ → ℕ) → List State → List Popped → List ℕ → KeywordCursor → Bool → KeywordCursor → ℕ → ℕ → Type 0
 ScansOnOrEnds t slot_of states popped text old true new before after = ScansOn t slot_of states popped text old new before after
 ScansOnOrEnds t slot_of states popped text old false new before after = (keywords_left t states popped text old ≡ []) × (new ≡ old) × (after ≡ before)
 
--- what a caller sees: the keywords that are left, and how many steps they take at most
+-- what a caller sees of a search for keywords: those that are left, and how many steps they take at most
 pub record KeywordsLeft : Type 0 where
   pub rest : List Spot
   pub steps : ℕ
 
--- it serves `impl Model` alone
+-- what is left of a search for keywords as plain data, for `impl Model` alone
 abbrev pub keyword_code : Coded KeywordsLeft
 keyword_code =
     code_by (List (ℕ × ℕ × ℤ) × ℕ) (coded× (coded_list (code_by (ℕ × (ℕ × ℤ)) (coded× coded_ℕ (coded× coded_ℕ coded_ℤ)) (λ s. (s.0, (s.1, s.2))) (λ p. (p.0, p.1.0, p.1.1)) (λ _. refl))) coded_ℕ)

@@ -8,12 +8,12 @@ use Rattle.cedar_scan.specs.Suffixes.{held_suffix, is_node, overlapping, Occurre
 abbrev pub EndsBefore : Occurrence → Occurrence → Type 0
 EndsBefore s next = (s.0 + s.1 < next.0 + next.1) ⊎ ((s.0 + s.1 ≡ next.0 + next.1) × (next.1 < s.1))
 
--- it comes before the first of some, if there is one
+-- a key that was found comes before the first of some others, if there is one
 abbrev pub IsBeforeFirst : Occurrence → List Occurrence → Type 0
 IsBeforeFirst s [] = Unit {0}
 IsBeforeFirst s (next ∷ spots) = EndsBefore s next
 
--- each comes before the next
+-- each of some keys that were found comes before the next
 abbrev pub AreByEnd : List Occurrence → Type 0
 AreByEnd [] = Unit {0}
 AreByEnd (s ∷ spots) = IsBeforeFirst s spots × AreByEnd spots

@@ -21,7 +21,7 @@ pub record IsFall (t : Tree) (path : List ℕ) (pops : List Spot) (rest : List �
   pub gives : (place : ℕ) (y : List ℕ) → longest t (path ++ y) ≡ longest t path
       → keywords_from t place (path ++ y) ≡ map (popped_at place) pops ++ keywords_from t (place + (length path - length rest)) (rest ++ y)
 
--- the same of a path that goes on by a byte
+-- the same as `IsFall`, of a text in which one more byte is known behind the path
 pub record IsFallOn (t : Tree) (path : List ℕ) (label : ℕ) (pops : List Spot) (rest : List ℕ) : Type 0 where
   pub node : is_node t rest ≡ true
   pub front : List ℕ

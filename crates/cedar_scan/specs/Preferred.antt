@@ -36,7 +36,7 @@ leftmost_behind kind t zero place (b ∷ rest) =
 abbrev pub leftmost : MatchKind → Tree → List ℕ → List Spot
 leftmost kind t text = leftmost_behind kind t 0 0 text
 
--- those of the longest keys are the keywords of a text
+-- by the rule of the longest the keys that count in a text are its keywords
 abbrev pub LongestAreKeywords : Tree → List ℕ → Type 0
 LongestAreKeywords t text = leftmost LeftmostLongest t text ≡ keywords_in t text
 
@@ -59,7 +59,7 @@ abbrev pub first_below : Option ℤ → Forest → Forest
 first_below above none = none
 first_below above (child l n below rest) = child l (if_less above n) (first_below (lesser above n) below) (first_below above rest)
 
--- the tree with those numbers alone
+-- a tree with those numbers alone that are less than each one above them
 abbrev pub first_tree : Tree → Tree
 first_tree t = record { number = t.number; children = first_below None t.children }
 

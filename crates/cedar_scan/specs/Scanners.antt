@@ -7,12 +7,13 @@ use Rattle.cedar_tree.specs.Tree.{Tree}
 use Rattle.cedar_scan.specs.declared.kind.MatchKind.{MatchKind}
 use Rattle.cedar_scan.specs.declared.kind.MatchKind.TheVariants.{LeftmostFirst, LeftmostLongest}
 
--- the labelled tree of its dictionary, and which of the keys that begin at one position counts
+-- what a caller sees of a scanner for leftmost matches: the labelled tree of its dictionary, and which of the keys that begin at one
+-- position counts
 pub record LeftmostKeys : Type 0 where
   pub kind : MatchKind
   pub tree : Tree
 
--- a kind of match as a truth value, and back
+-- a kind of match as a truth value: whether the key with the least number counts
 abbrev pub is_first : MatchKind → Bool
 is_first LeftmostLongest = false
 is_first LeftmostFirst = true
@@ -22,12 +23,12 @@ abbrev pub kind_by : Bool → MatchKind
 kind_by false = LeftmostLongest
 kind_by true = LeftmostFirst
 
--- these are inverse
+-- a kind of match is the one that its truth value says
 pub match_kind_back : (kind : MatchKind) → kind_by (is_first kind) ≡ kind
 match_kind_back LeftmostLongest = refl
 match_kind_back LeftmostFirst = refl
 
--- it serves `impl Model` alone
+-- a scanner for leftmost matches as plain data, for `impl Model` alone
 abbrev pub leftmost_code : Coded LeftmostKeys
 leftmost_code =
     code_by (Bool × Tree) (coded× coded_bool coded_tree)

@@ -30,7 +30,7 @@ pub record StreamAt : Type 0 where
   pub read : ℕ
   pub place : ℕ
 
--- it serves `impl Model` alone
+-- a scan of a text in pieces as plain data, for `impl Model` alone
 abbrev pub stream_code : Coded StreamAt
 stream_code =
     code_by ((Tree × (List ℕ × List (ℤ × ℕ))) × (ℕ × ℕ)) (coded× (coded× coded_tree (coded× (coded_list coded_ℕ) (coded_list (coded× coded_ℤ coded_ℕ)))) (coded× coded_ℕ coded_ℕ))
@@ -56,7 +56,7 @@ pub record IsStream (t : Tree) (slot_of : List ℕ → ℕ) (states : List State
   pub short : length key ≤ length suffix
   pub within : length suffix ≤ position
 
--- no key is left in a piece: it has read the piece, and is before the next one
+-- no key is left in a piece: a scan has read it, and is before the next one
 pub record EndsPiece (piece : List ℕ) (old new : StreamAt) : Type 0 where
   pub left : left_in old piece ≡ []
   pub tree : new.tree ≡ old.tree
@@ -65,17 +65,18 @@ pub record EndsPiece (piece : List ℕ) (old new : StreamAt) : Type 0 where
   pub read : new.read ≡ 0
   pub place : new.place ≡ old.place + (length piece - old.read)
 
--- it gives a key of a piece
+-- a scan gives a key of a piece, the first that was left in it
 pub record GivesInPiece (piece : List ℕ) (old : StreamAt) (spot : Occurrence) (new : StreamAt) : Type 0 where
   pub left : left_in old piece ≡ spot ∷ left_in new piece
   pub tree : new.tree ≡ old.tree
   pub suffix : held_suffix old.tree (new.suffix ++ drop new.read piece) ≡ held_suffix old.tree (old.suffix ++ drop old.read piece)
   pub place : new.place + (length piece - new.read) ≡ old.place + (length piece - old.read)
 
--- it gives the next key of a piece, unless none is left
+-- a scan gives the next key of a piece (`GivesInPiece`), or none is left (`EndsPiece`)
 abbrev pub NextInPiece : List ℕ → StreamAt → Option Occurrence → StreamAt → Type 0
 NextInPiece piece old next new = MatchOption next (EndsPiece piece old new) (λ spot. GivesInPiece piece old spot new)
 
--- two steps for each byte that it reads, less one for each byte by which the suffix is shorter then, and one for the key
+-- a scan takes at most two steps for each byte that it reads, one more for each byte by which the suffix is shorter then or one less for
+-- each by which it is longer, and one for the key
 abbrev pub CostsInPiece : StreamAt → Option Occurrence → StreamAt → ℕ → ℕ → Type 0
 CostsInPiece old next new before after = after + length new.suffix + 2 * old.place ≤ before + length old.suffix + 2 * new.place + (if is_some next then 1 else 0)

@@ -9,7 +9,7 @@ pub record ScanLeft : Type 0 where
   pub rest : List Occurrence
   pub steps : ℕ
 
--- it serves `impl Model` alone
+-- what is left of a scan as plain data, for `impl Model` alone
 abbrev pub scan_code : Coded ScanLeft
 scan_code =
     code_by (List (ℕ × ℕ × ℤ) × ℕ) (coded× (coded_list (code_by (ℕ × (ℕ × ℤ)) (coded× coded_ℕ (coded× coded_ℕ coded_ℤ)) (λ s. (s.0, (s.1, s.2))) (λ p. (p.0, p.1.0, p.1.1)) (λ _. refl))) coded_ℕ)

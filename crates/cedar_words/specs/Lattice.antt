@@ -23,7 +23,7 @@ abbrev pub own_run : UnknownRun → List (ℤ × ℕ) → Option UnknownRun
 own_run run [] = Some run
 own_run run (found ∷ fronts) = if run.beside_keys then Some run else None
 
--- such a run as an edge, or none
+-- an unknown run as an edge, if there is one
 abbrev pub run_edges : ℕ → ℕ → Option UnknownRun → List Edge
 run_edges place left None = []
 run_edges place left (Some run) = run_edge place left run ∷ []
@@ -36,7 +36,7 @@ edges_from tree key run place (b ∷ rest) =
     map (key_edge key place) (front tree (b ∷ rest))
     ++ (run_edges place (length (b ∷ rest)) (own_run (run place) (front tree (b ∷ rest))) ++ edges_from tree key run (place + 1) rest)
 
--- those that are left in a text where a walk at a position has these keys left, and this run is to come after them
+-- the tokens that are left in a text where a walk at a position has these keys left, and this run is to come after them
 abbrev pub edges_left : Tree → (ℤ → ℕ) → (ℕ → UnknownRun) → List ℕ → ℕ → List (ℤ × ℕ) → Option UnknownRun → List Edge
 edges_left tree key run text place fronts own =
     map (key_edge key place) fronts
@@ -51,7 +51,7 @@ keys_left (Some found) fronts = found ∷ fronts
 abbrev pub run_by : (ℕ → UnknownRun) → List ℕ → ℕ → List (ℤ × ℕ) → Option UnknownRun
 run_by run text place fronts = if nat_lt place (length text) then own_run (run place) fronts else None
 
--- the same, where the walk and what is to come at its position are one value
+-- the same as `edges_left`, where the walk and what is to come at its position are one value
 abbrev pub edges_at : Tree → (ℤ → ℕ) → (ℕ → UnknownRun) → List ℕ → Stop × List (ℤ × ℕ) → List Edge
 edges_at tree key run text at = edges_left tree key run text at.0.place (keys_left at.0.key at.1) at.0.run
 

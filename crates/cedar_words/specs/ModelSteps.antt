@@ -66,11 +66,11 @@ TellsStep step (Key len value) = (step.len ≡ len) × (step.value ≡ Some valu
 abbrev pub kept_at : List Kept → ℕ → Kept
 kept_at kept left = slice_index_or kept left Long
 
--- such for each number of bytes so far
+-- what is kept for each number of bytes so far says the best step over as many of the last bytes (`TellsStep`)
 abbrev pub AreKeptUpTo : Tree → (ℤ → ℕ) → (ℕ → UnknownRun) → List ℕ → List ℕ → List Kept → Type 0
 AreKeptUpTo tree key run text costs kept = (left : ℕ) → 0 < left → left < length kept → TellsStep (step_by tree key run text costs left) (kept_at kept left)
 
--- and for each up to all
+-- what is kept says the best step over so many of a text's last bytes, for each number up to all
 abbrev pub AreKeptBy : Tree → (ℤ → ℕ) → (ℕ → UnknownRun) → List ℕ → List ℕ → List Kept → Type 0
 AreKeptBy tree key run text costs kept = (length kept ≡ length text + 1) × AreKeptUpTo tree key run text costs kept
 

@@ -45,7 +45,7 @@ abbrev pub IsLeastFrom : Tree → (ℤ → ℕ) → (ℕ → UnknownRun) → Lis
 IsLeastFrom tree key run text place tokens =
     (other : List Token) → IsCutFromBy tree run text place other → min (cost_with key run tokens) (2 ^ 64 - 1) ≤ cost_with key run other
 
--- so it is from each token on
+-- from each of some tokens on, no cut of the rest of the text costs less (`IsLeastFrom`)
 abbrev pub IsLeastThroughout : Tree → (ℤ → ℕ) → (ℕ → UnknownRun) → List ℕ → ℕ → List Token → Type 0
 IsLeastThroughout tree key run text place [] = Unit {0}
 IsLeastThroughout tree key run text place (t ∷ tokens) =

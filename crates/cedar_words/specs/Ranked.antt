@@ -59,16 +59,16 @@ way_before a b =
     else if nat_lt (kind_number b.value) (kind_number a.value) then false
     else nat_lt a.rank b.rank
 
--- a way among others, which are in order
+-- ways that are in order, with one more in its place among them
 abbrev pub insert_way : Way → List Way → List Way
 insert_way way [] = way ∷ []
 insert_way way (first ∷ ways) = if way_before way first then way ∷ first ∷ ways else first ∷ insert_way way ways
 
--- so many of them at most
+-- the best of some ways and of one more, so many at most
 abbrev pub put_way : ℕ → List Way → Way → List Way
 put_way most ways way = take most (insert_way way ways)
 
--- some more ways, put one after another
+-- the best of some ways and of some more, so many at most
 abbrev pub put_ways : ℕ → List Way → List Way → List Way
 put_ways most ways [] = ways
 put_ways most ways (way ∷ more) = put_ways most (put_way most ways way) more
@@ -88,7 +88,7 @@ abbrev pub key_ways : (ℤ → ℕ) → List (List Way) → List (ℤ × ℕ) �
 key_ways key later [] = []
 key_ways key later (found ∷ fronts) = step_ways (key found.0) (found.1 + 1) (Some found.0) 0 (ways_behind later (found.1 + 1)) ++ key_ways key later fronts
 
--- those over an unknown run, if there is one
+-- the ways over an unknown run, if there is one
 abbrev pub run_ways : List (List Way) → Option UnknownRun → List Way
 run_ways later None = []
 run_ways later (Some run) = step_ways run.cost (run_len (length later) run) None 0 (ways_behind later (run_len (length later) run))

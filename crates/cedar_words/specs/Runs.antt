@@ -13,7 +13,7 @@ cost_in_table costs beyond (negsuc n) = beyond
 abbrev pub byte_run : ℕ → UnknownRun
 byte_run cost = record { len = 1; cost = cost; beside_keys = true }
 
--- the same bytes, but only where no key begins
+-- an unknown run of the same bytes that may stand only where no key begins
 abbrev pub only_without_key : UnknownRun → UnknownRun
 only_without_key run = record { len = run.len; cost = run.cost; beside_keys = false }
 
@@ -96,16 +96,16 @@ is_han code =
 abbrev pub is_hiragana : ℕ → Bool
 is_hiragana code = is_between 0x3041 0x309F code
 
--- also narrow ones, with the mark of a long vowel and without the point between words
+-- the characters of Katakana, narrow ones and the mark of a long vowel among them, but not the point between words
 abbrev pub is_katakana : ℕ → Bool
 is_katakana code =
     is_between 0x30A1 0x30FA code || is_between 0x30FC 0x30FF code || is_between 0x31F0 0x31FF code || is_between 0xFF66 0xFF9F code
 
--- syllables, and the letters that they are made of
+-- the syllables of Hangul, and the letters that they are made of
 abbrev pub is_hangul : ℕ → Bool
 is_hangul code = is_between 0xAC00 0xD7A3 code || is_between 0x1100 0x11FF code || is_between 0x3130 0x318F code
 
--- both are letters, both digits, or both of one script
+-- two characters are letters, or digits, or of one script
 abbrev pub are_one_script : ℕ → ℕ → Bool
 are_one_script a b =
     is_letter a && is_letter b || is_numeral a && is_numeral b || is_han a && is_han b || is_hiragana a && is_hiragana b
