@@ -11,6 +11,7 @@ pub mod NodesLemmas
 pub mod OccurrenceLemmas
 pub mod PlainLemmas
 pub mod PreferredLemmas
+pub mod ResumedLemmas
 pub mod ScanLemmas
 pub mod StepLemmas
 pub mod StreamLemmas
