@@ -1,6 +1,6 @@
 //! What the iterators of a scanner give, written into a buffer as far as there is room.
 
-ghost use Rattle.std.specs.Prelude.{◌+◌, ◌++◌, ◌<◌, ◌≡◌, ◌≤◌, ◌⊎◌, length, map, set, take};
+ghost use Rattle.std.specs.Prelude.{◌+◌, ◌++◌, ◌-◌, ◌<◌, ◌≡◌, ◌≤◌, ◌⊎◌, length, map, set, take};
 ghost use Rattle.cedar_c.specs.Words.{earliest_behind, ending_behind, found_keyword, keys_ending};
 ghost use Rattle.cedar_c.specs.Words.{leftmost_from};
 
@@ -21,6 +21,16 @@ fn put_spot(found: &mut [Found], at: usize, spot: (usize, usize, i32))
     };
 }
 
+/// Moves a position to the byte at which a key ends, unless it is there: then the keys before that one are whole, so many.
+fn move_before(end: usize, count: usize, next: &mut usize, whole: &mut usize)
+    ensures { ((next.old + 1 < end) × (next.new ≡ end - 1) × (whole.new ≡ count)) ⊎ ((end ≤ next.old + 1) × (next.new ≡ next.old) × (whole.new ≡ whole.old)) }
+{
+    if end > 0 && *next < end - 1 {
+        *next = end - 1;
+        *whole = count;
+    }
+}
+
 /// Writes the keys of a text that end behind a position. Those that end at one byte are written together, or not at all.
 pub(crate) fn write_overlapping<T: Placed + Drop>(
     scanner: &OwnedScanner<T, Global>,
@@ -38,11 +48,7 @@ pub(crate) fn write_overlapping<T: Placed + Drop>(
     // How many of these end where `next` is, or before it.
     let mut whole = 0;
     while let Some(spot) = walk.next() {
-        let end = spot.0 + spot.1;
-        if *next + 1 < end {
-            *next = end - 1;
-            whole = count;
-        }
+        move_before(spot.0 + spot.1, count, next, &mut whole);
         if count == found.len() {
             return whole;
         }

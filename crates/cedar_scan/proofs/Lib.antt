@@ -1,3 +1,4 @@
+pub mod BehindLemmas
 pub mod EarliestLemmas
 pub mod EndOrderLemmas
 pub mod FallLemmas

@@ -65,11 +65,11 @@ module _ (t : Tree) (slot_of : List ℕ → ℕ) (p : IsPlacing t slot_of) (node
   height_is (inl none) = record { most = reached_by; lowest = []; node = refl; reaches = sym none }
   height_is (inr some) =
       let n = some.0 in
-      let found = some.1.0 in
+      let found = some.1 in
       let is = subst (IsListedNode t slot_of) found.2 (all.each found.0 n found.1) in
       let one = length-append is.path (n.label ∷ []) in
       let deep = is.depth in
-      let here = some.1.1 in
+      let here = some.2 in
       record { most = reached_by; lowest = is.path ++ n.label ∷ []; node = is.node; reaches = omega (arith, one, deep, here) }
 
 -- no longer path leads to a node

@@ -6,8 +6,8 @@ use Rattle.cedar_scan.proofs.ResumedLemmas.{held_behind, held_last_bytes, rest_o
 use Rattle.cedar_scan.proofs.SuffixLemmas.{held_goes_on, held_is_node}
 use Rattle.cedar_scan.proofs.owned.state_behind.Goals as goal
 
-pub loop-byte-first : goal.loop-byte-first
-loop-byte-first g c = record { stands = sym c.requires.automaton.placing.root; cost = omega arith }
+pub loop-byte-init : goal.loop-byte-init
+loop-byte-init g c = record { stands = sym c.requires.automaton.placing.root; cost = omega arith }
 
 pub step-requires : goal.step-requires
 step-requires g c =
