@@ -23,7 +23,7 @@ use Rattle.cedarwood.specs.Builds.{all_stored, first_fault}
 use Rattle.cedarwood.specs.Dictionary.{Dictionary}
 use Rattle.cedarwood.specs.Fault.{fault, IsShortage}
 use Rattle.cedarwood.specs.SortedInput.{sorted_fault}
-use Rattle.cedar_scan.specs.Words.{earliest, overlapping}
+use Rattle.cedar_scan.specs.Words.{earliest, leftmost, overlapping}
 use Rattle.cedar_words.specs.declared.edges.Edge.{Edge}
 use Rattle.cedar_words.specs.Runs.{cost_in_table}
 use Rattle.cedar_words.specs.Words.{byte_run, character_price, edges_from}
@@ -276,6 +276,7 @@ text_says tree text text_query.Matches = spotted (spots_from tree 0 text)
 text_says tree text (text_query.MatchesFrom place) = spotted (spots_from tree place (drop place text))
 text_says tree text text_query.Overlapping = spotted (overlapping tree text)
 text_says tree text text_query.Earliest = spotted (earliest tree text)
+text_says tree text (text_query.Leftmost kind) = spotted (leftmost kind tree text)
 text_says tree text (text_query.Cheapest unknown) = cut_into (model_cut_of tree unsigned_abs (λ _. byte_run unknown) text)
 text_says tree text (text_query.CheapestByCharacters unknown) = cut_into (model_cut_of tree unsigned_abs (λ place. byte_run (character_price unknown text place)) text)
 text_says tree text (text_query.CheapestBy model) = cut_into (model_cut_of tree (cost_in_table model.costs.now model.beyond) (run_in_table model.runs.now model.beyond) text)

@@ -32,7 +32,7 @@ use Rattle.cedar_calls.specs.declared.answer.BufferReply.TheVariants as buffer_r
 use Rattle.cedar_calls.specs.declared.answer.TextReply.{TextReply}
 use Rattle.cedar_calls.specs.declared.answer.TextReply.TheVariants as text_reply
 use Rattle.cedar_calls.specs.Texts.{IsCheapCut, run_in_table}
-use Rattle.cedar_scan.specs.Words.{earliest, overlapping}
+use Rattle.cedar_scan.specs.Words.{earliest, leftmost, overlapping}
 use Rattle.cedar_words.specs.Runs.{cost_in_table}
 use Rattle.cedar_words.specs.Words.{character_price, edges_from, IsBestCut}
 use Rattle.cedar_words.specs.Words.{keywords_from, keywords_in, longest}
@@ -114,6 +114,7 @@ IsTextReply tree text text_query.Matches (text_reply.Keys result) = CollectsAll 
 IsTextReply tree text (text_query.MatchesFrom place) (text_reply.Keys result) = CollectsAll result (spots_from tree place (drop place text))
 IsTextReply tree text text_query.Overlapping (text_reply.Keys result) = CollectsSome result (λ found. found.items ≡ overlapping tree text) text
 IsTextReply tree text text_query.Earliest (text_reply.Keys result) = CollectsSome result (λ found. found.items ≡ earliest tree text) text
+IsTextReply tree text (text_query.Leftmost kind) (text_reply.Keys result) = CollectsSome result (λ found. found.items ≡ leftmost kind tree text) text
 IsTextReply tree text (text_query.Cheapest unknown) (text_reply.Tokens result) = CollectsSome result (λ found. IsCheapCut tree (λ _. unknown) text found.items) text
 IsTextReply tree text (text_query.CheapestByCharacters unknown) (text_reply.Tokens result) =
     CollectsSome result (λ found. IsCheapCut tree (character_price unknown text) text found.items) text

@@ -10,7 +10,7 @@ pub use Rattle.cedar_calls.specs.Replies.{CollectsAll, CollectsSome, IsFigure, I
 pub use Rattle.cedar_calls.specs.Replies.{IsBufferReply, IsTextReply}
 pub use Rattle.cedar_calls.specs.Runs.{AddsRun, IsRun, IsStep}
 pub use Rattle.cedar_calls.specs.Texts.{IsCheapCut, run_in_table}
-pub use Rattle.cedar_scan.specs.Words.{earliest, overlapping}
+pub use Rattle.cedar_scan.specs.Words.{earliest, leftmost, overlapping}
 pub use Rattle.cedar_words.specs.Runs.{cost_in_table}
 pub use Rattle.cedar_words.specs.Words.{character_price, IsBestCut}
 pub use Rattle.cedarwood.specs.Tables.{IsTableFile}

@@ -2,6 +2,7 @@
 use crate::calls::runs::is_made;
 use crate::lists::{Tries, ask, ask_of, run};
 use cedar_calls::{Answer, Call, ModelTables, Question, Reply, TextQuery, TextReply};
+use cedar_scan::MatchKind;
 use cedar_words::UnknownRun;
 use cedarwood::{CedarBuilder, DefaultLayout, Layout, MOST_SLOTS, ReducedLayout};
 use std::alloc::Global;
@@ -167,8 +168,12 @@ fn expect_answers(rt: &impl Abort, answers: &[Answer<Global>]) {
     assert!(rt; matches!(missing, Answer::Missing));
 }
 
-// Keys by their ends, all of them and those that don't overlap; a text without a byte has none.
-fn scans(settings: CedarBuilder) -> [Call<'static>; 5] {
+fn leftmost(kind: MatchKind) -> TextQuery<'static> {
+    TextQuery::Leftmost { kind }
+}
+
+// Keys by their ends, all of them and those that don't overlap, and from left to right; a text without a byte has none.
+fn scans(settings: CedarBuilder) -> [Call<'static>; 8] {
     [
         Call::Unsorted {
             settings,
@@ -176,13 +181,16 @@ fn scans(settings: CedarBuilder) -> [Call<'static>; 5] {
         },
         ask_of(b"abcd", TextQuery::Overlapping),
         ask_of(b"abcd", TextQuery::Earliest),
+        ask_of(b"abbcd", leftmost(MatchKind::LeftmostLongest)),
+        ask_of(b"abbcd", leftmost(MatchKind::LeftmostFirst)),
         ask_of(b"", TextQuery::Overlapping),
         ask_of(b"", TextQuery::Earliest),
+        ask_of(b"", leftmost(MatchKind::LeftmostFirst)),
     ]
 }
 
 fn expect_scans(rt: &impl Abort, answers: &[Answer<Global>]) {
-    let [_, all, first, none, none_first] = answers else {
+    let [_, all, first, longest, least, none, none_first, none_least] = answers else {
         panic!(rt; "other answers");
     };
     assert_eq!(rt;
@@ -190,7 +198,9 @@ fn expect_scans(rt: &impl Abort, answers: &[Answer<Global>]) {
         [(0, 1, 5), (0, 2, 6), (0, 3, 4), (1, 3, 1)].as_slice()
     );
     assert_eq!(rt; keys(first), [(0, 1, 5), (1, 3, 1)].as_slice());
-    assert!(rt; is_listed(none) && is_listed(none_first));
+    assert_eq!(rt; keys(longest), [(0, 2, 6), (2, 3, 1)].as_slice());
+    assert_eq!(rt; keys(least), [(0, 1, 5), (2, 3, 1)].as_slice());
+    assert!(rt; is_listed(none) && is_listed(none_first) && is_listed(none_least));
 }
 
 // Whether the answer has a list of keys.
