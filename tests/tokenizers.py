@@ -29,7 +29,7 @@ def in_bytes(cut, ids):
 
 
 def ordered(all_cuts, price):
-    """By cost; of those that cost the same first the one with the longer token where they first differ, and with a word rather than none."""
+    """By cost; of those that cost the same first the one with the longer token where they first differ, and a word rather than none."""
 
     def order(cut):
         return sum(map(price, cut)), [(-len(part.encode()), word is None) for part, word in cut]

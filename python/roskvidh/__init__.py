@@ -26,4 +26,5 @@ from .store import Store
 from .words import Stats
 
 __version__ = "0.1.0"
-__all__ = ["LOAD_LIMIT", "MAX_VALUE", "MIN_VALUE", "Cedar", "CedarError", "CedarMap", "Found", "Match", "Matches", "Scanner", "Stats", "Store"]
+__all__ = ["LOAD_LIMIT", "MAX_VALUE", "MIN_VALUE", "Cedar", "CedarError", "CedarMap", "Found", "Match", "Matches", "Scanner", "Stats",
+           "Store"]

@@ -73,7 +73,7 @@ static void scanner_dealloc(Scanner *scanner) {
 }
 
 /* Finds what begins before `stop`, or of overlapping keys what ends there or before it, as far as there is room. No key is longer than
- * `longest`, so nothing behind `stop` by more than that is looked at; what begins from `stop` on may be cut off by that, and is left out. */
+ * `longest`, so nothing behind `stop` by more than that is looked at; what begins from `stop` on may be cut off by that and is left out. */
 static size_t find_before(const Scanner *scanner, const Span *text, size_t stop, size_t *next, cedar_found *found, size_t room) {
     const cedar_scanner mine = scanner->inside;
     if (scanner->search == CEDAR_OVERLAPPING) return cedar_scanner_find(&mine, text->at, stop, next, found, room);

@@ -116,8 +116,10 @@ class Scanners(unittest.TestCase):
     def test_wrong_calls(self):
         cedar = Cedar({b"a": 1})
         scanner = Scanner(cedar)
-        for wrong in (lambda: Scanner(), lambda: Scanner({}), lambda: Scanner(cedar, 5), lambda: scanner.find("a"), lambda: scanner.find(5)):
+        for wrong in (lambda: Scanner(), lambda: Scanner({}), lambda: Scanner(cedar, 5)):
             self.assertRaises(TypeError, wrong)
+        for text in ("a", 5):
+            self.assertRaises(TypeError, lambda: scanner.find(text))
         self.assertRaises(ValueError, lambda: Scanner(cedar, "leftmost"))
         self.assertRaises(TypeError, lambda: Scanner(Cedar(text=True)).find(b"a"))
         self.assertRaises(CedarError, lambda: Scanner(closed(Cedar())))

@@ -80,12 +80,12 @@ impl ScannerReading {
 }
 
 /// Opens a handle with a scanner of a copy of a dictionary. If the handle is open, the new one replaces the old one. Later changes of the
-/// dictionary don't change the scanner. `search` says what it finds: 0 all keys, by their ends; 1 keys that don't overlap, of those that end first
-/// the longest; 2 keys that don't overlap, of those that begin first the longest, or 3 the one with the least value.
+/// dictionary don't change the scanner. `search` says what it finds: 0 all keys, by their ends; 1 keys that don't overlap, of those that
+/// end first the longest; 2 keys that don't overlap, of those that begin first the longest, or 3 the one with the least value.
 ///
 /// # Errors
-/// `CLOSED` if the dictionary is closed, `UNKNOWN_SEARCH` if `search` is above 3, and `MEMORY` if an allocation was refused. Then the handle is as
-/// it was.
+/// `CLOSED` if the dictionary is closed, `UNKNOWN_SEARCH` if `search` is above 3, and `MEMORY` if an allocation was refused. Then the
+/// handle is as it was.
 #[unsafe(no_mangle)]
 pub extern "C" fn cedar_scanner_new(
     original: &mut Reading,
@@ -93,13 +93,13 @@ pub extern "C" fn cedar_scanner_new(
     search: u32,
     handle: &mut ScannerHandle,
 ) -> u32
-    //= It returns `CLOSED` exactly if the dictionary is closed, and of an open one `UNKNOWN_SEARCH` exactly if no search has the number. [with
-    //  unknown]
+    //= It returns `CLOSED` exactly if the dictionary is closed, and of an open one `UNKNOWN_SEARCH` exactly if no search has the number.
+    //  [with unknown]
     ensures closed { (result ≡ CLOSED) ↔ (shown_in original.old ≡ None) }
     ensures unknown { IsSome (shown_in original.old) → ((result ≡ UNKNOWN_SEARCH) ↔ (SEARCHES ≤ search)) }
 
-    //= A scanner that was made is that of the dictionary's tree for this search. Otherwise memory was wanting, or the call was refused, and the
-    //  handle has what it had. The dictionary isn't changed. [with refused, kept; by scanner_by]
+    //= A scanner that was made is that of the dictionary's tree for this search. Otherwise memory was wanting, or the call was refused, and
+    //  the handle has what it had. The dictionary isn't changed. [with refused, kept; by scanner_by]
     ensures made { result ≡ OK → (scanner_in handle.new ≡ scanner_by search (shown_tree original.old)) × IsSome (scanner_in handle.new) }
     ensures refused { (result ≡ OK) ⊎ (((result ≡ CLOSED) ⊎ (result ≡ UNKNOWN_SEARCH) ⊎ (result ≡ MEMORY)) × (scanner_in handle.new ≡ scanner_in handle.old)) }
     ensures kept { original.new ≡ original.old }
@@ -142,7 +142,8 @@ pub extern "C" fn cedar_scanner_free(handle: &mut ScannerHandle, alloc: Global)
 /// Returns how many bytes the longest key of a scanner has: at most so many end at one byte of a text. 0 if the handle is closed.
 #[unsafe(no_mangle)]
 pub extern "C" fn cedar_scanner_longest(handle: &mut ScannerReading) -> usize
-    //= What `cedar_scanner_longest` returns is how many labels lead to the lowest node of the tree, or 0 if the handle is closed. [with closed]
+    //= What `cedar_scanner_longest` returns is how many labels lead to the lowest node of the tree, or 0 if the handle is closed. [with
+    //  closed]
     ensures height { IfSome (shown_scanner_in handle.old) (λ scanner. IsHeight (scanned_tree scanner) result) }
     ensures closed { shown_scanner_in handle.old ≡ None → result ≡ 0 }
     ensures kept { handle.new ≡ handle.old }
@@ -154,11 +155,11 @@ pub extern "C" fn cedar_scanner_longest(handle: &mut ScannerReading) -> usize
 }
 
 /// Writes what a scanner finds in a text from a position on, as far as there is room. Of all keys those that end at one byte are written by
-/// the same call: if there is no room left for them, the call ends, and `next` is the position of that byte. Of keys that don't overlap `next` is
-/// the end of the last one if there is no room for more. A call from there goes on. At the end of the text `next` is the text's length. It returns
-/// how many elements of the buffer it wrote; what the others have then is left open. It allocates nothing. It takes at most two steps for each
-/// byte from `next` on that it reads; of all keys it reads as many bytes before `next` as the longest key has, and of keys that begin first it may
-/// read as many behind the last one.
+/// the same call: if there is no room left for them, the call ends, and `next` is the position of that byte. Of keys that don't overlap
+/// `next` is the end of the last one if there is no room for more. A call from there goes on. At the end of the text `next` is the text's
+/// length. It returns how many elements of the buffer it wrote; what the others have then is left open. It allocates nothing. It takes at
+/// most two steps for each byte from `next` on that it reads; of all keys it reads as many bytes before `next` as the longest key has, and
+/// of keys that begin first it may read as many behind the last one.
 #[unsafe(no_mangle)]
 pub extern "C" fn cedar_scanner_find(
     handle: &mut ScannerReading,
@@ -173,8 +174,8 @@ pub extern "C" fn cedar_scanner_find(
     //  IsFullAt]
     ensures full { IfSome (shown_scanner_in handle.old) (λ scanner. (length text.now ≤ next.new) ⊎ IsFullAt scanner text.now next.new result (length found.new)) }
 
-    //= `next` never goes back, nor past the text's end unless it was past that before. A search returns at most the room, and 0 if the handle
-    //  is closed. [with ends, closed]
+    //= `next` never goes back, nor past the text's end unless it was past that before. A search returns at most the room, and 0 if the
+    //  handle is closed. [with ends, closed]
     ensures within { (result ≤ length found.new) × (next.old ≤ next.new) }
     ensures ends { (next.new ≤ length text.now) ⊎ (next.new ≡ next.old) }
     ensures closed { shown_scanner_in handle.old ≡ None → result ≡ 0 }

@@ -7,8 +7,8 @@ ghost use Rattle.cedar_c.specs.FieldWords.{scanner_code, shown_scanner_owns};
 use crate::any_scanner::AnyScanner;
 use std::marker::{Model, Send};
 
-/// A pointer to a scanner that isn't freed while it is read, or to none. It has a lifetime of its own, for which the scanner is lent, and so any
-/// number of them may have the same scanner.
+/// A pointer to a scanner that isn't freed while it is read, or to none. It has a lifetime of its own, for which the scanner is lent, and
+/// so any number of them may have the same scanner.
 #[repr(C)]
 #[derive(Drop)]
 pub struct ShownScanner {

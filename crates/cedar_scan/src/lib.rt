@@ -1,8 +1,8 @@
 //! A text searched for the keys of a dictionary in linear time.
 //!
-//! In the examples `rt` is the program's runtime, `cedar` a new dictionary, `scanner` the scanner of one with the keys `he`, `she` and `hers`
-//! and the values 1, 2 and 3 if it isn't made there, `longest` one for its longest leftmost matches, and `ticks` a count. `owned` is a scanner
-//! that owns the dictionary with these three keys, for all matches or for the longest leftmost ones.
+//! In the examples `rt` is the program's runtime, `cedar` a new dictionary, `scanner` the scanner of one with the keys `he`, `she` and
+//! `hers` and the values 1, 2 and 3 if it isn't made there, `longest` one for its longest leftmost matches, and `ticks` a count. `owned` is
+//! a scanner that owns the dictionary with these three keys, for all matches or for the longest leftmost ones.
 #![tactic(auto)]
 
 mod build;

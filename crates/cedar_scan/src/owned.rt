@@ -43,8 +43,8 @@ pub(crate) fn height_of<T: Placed, A: Allocator + Copy>(
     Ok(lowest_depth(&nodes))
 }
 
-/// Returns the slot of the longest suffix of what was read of a text that leads to a node. It has no more bytes than the longest key, so that no
-/// others are looked at.
+/// Returns the slot of the longest suffix of what was read of a text that leads to a node. It has no more bytes than the longest key, so
+/// that no others are looked at.
 fn state_behind<T: Placed, C: Ledger>(
     trie: &T,
     states: &[State],
@@ -156,9 +156,9 @@ impl<T: Placed + Drop, A: Allocator + Copy> OwnedScanner<T, A> {
         self.height
     }
 
-    /// Finds the keys in a text that end behind a position, as [`overlapping`](crate::Scanner::overlapping) does: so a search can be left and
-    /// gone on with. It reads the bytes before the position again, as many as the longest key has at most. From a position after the end
-    /// there are none.
+    /// Finds the keys in a text that end behind a position, as [`overlapping`](crate::Scanner::overlapping) does: so a search can be left
+    /// and gone on with. It reads the bytes before the position again, as many as the longest key has at most. From a position after the
+    /// end there are none.
     ///
     /// ```
     /// let mut found = owned.overlapping_from(b"ushers", 4);
@@ -166,7 +166,8 @@ impl<T: Placed + Drop, A: Allocator + Copy> OwnedScanner<T, A> {
     /// assert_eq!(rt; found.next(), None);
     /// ```
     pub fn overlapping_from<'s>(&'s self, text: &'s [u8], place: usize) -> Overlapping<'s, T>
-        //= The overlapping matches behind a position of a text are the keys that end behind it, end after end and at each the longest first.
+        //= The overlapping matches behind a position of a text are the keys that end behind it, end after end and at each the longest
+        //  first.
         ensures rest { result.rest ≡ ending_behind self.now place text.now }
 
         //= Besides the bytes before the position, at most two steps for each byte behind it are to come, and one for each byte before it.
@@ -184,8 +185,8 @@ impl<T: Placed + Drop, A: Allocator + Copy> OwnedScanner<T, A> {
         Overlapping::behind(&self.trie, &self.states, text, start, state)
     }
 
-    /// Finds keys in a text that don't overlap from a position on, as [`earliest`](crate::Scanner::earliest) does. From the end of a match it
-    /// goes on as the whole search would. From a position after the end there are none.
+    /// Finds keys in a text that don't overlap from a position on, as [`earliest`](crate::Scanner::earliest) does. From the end of a match
+    /// it goes on as the whole search would. From a position after the end there are none.
     ///
     /// ```
     /// let mut found = owned.earliest_from(b"she hers", 3);

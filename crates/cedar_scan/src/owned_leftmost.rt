@@ -34,8 +34,8 @@ impl<T: Placed + Drop> Placed for OwnedKeys<T> {
     }
 }
 
-/// What a [`LeftmostScanner`](crate::LeftmostScanner) is, with a dictionary of its own in place of a borrowed one. It holds what that holds, and
-/// the dictionary.
+/// What a [`LeftmostScanner`](crate::LeftmostScanner) is, with a dictionary of its own in place of a borrowed one. It holds what that
+/// holds, and the dictionary.
 ///
 /// A contract sees the kind of match, and the labelled tree of the dictionary.
 #[derive(Drop)]
@@ -80,8 +80,8 @@ impl<T: Placed + Drop, A: Allocator + Copy> OwnedLeftmostScanner<T, A> {
     /// # Errors
     /// The dictionary, as it was, if an allocation was refused, or if the lists would have 2^32 keys.
     pub fn new(trie: T, kind: MatchKind, alloc: A) -> Result<Self, T>
-        //= A scanner for leftmost matches that owns its dictionary is made of the dictionary's tree and a kind of match. If there is no memory
-        //  for it, the dictionary is given back. [with refused]
+        //= A scanner for leftmost matches that owns its dictionary is made of the dictionary's tree and a kind of match. If there is no
+        //  memory for it, the dictionary is given back. [with refused]
         ensures made { IfOk result (λ scanner. scanner ≡ record { kind = kind; tree = T.tree trie }) }
         ensures refused { IfErr result (λ back. back ≡ trie) }
     {
@@ -110,8 +110,8 @@ impl<T: Placed + Drop, A: Allocator + Copy> OwnedLeftmostScanner<T, A> {
         self.height
     }
 
-    /// Finds keys in a text that don't overlap from a position on, as [`leftmost`](crate::LeftmostScanner::leftmost) does. From the end of a
-    /// match it goes on as the whole search would. From a position after the end there are none.
+    /// Finds keys in a text that don't overlap from a position on, as [`leftmost`](crate::LeftmostScanner::leftmost) does. From the end of
+    /// a match it goes on as the whole search would. From a position after the end there are none.
     ///
     /// ```
     /// let mut found = owned.leftmost_from(b"she hers", 3);
@@ -123,8 +123,8 @@ impl<T: Placed + Drop, A: Allocator + Copy> OwnedLeftmostScanner<T, A> {
         text: &'s [u8],
         place: usize,
     ) -> Leftmost<'s, OwnedKeys<T>>
-        //= The leftmost matches from a position on are, from left to right, of the keys that begin at a position the one that counts, and so
-        //  on from its end.
+        //= The leftmost matches from a position on are, from left to right, of the keys that begin at a position the one that counts, and
+        //  so on from its end.
         ensures rest { result.rest ≡ leftmost_from self.now.kind self.now.tree place text.now }
         ensures steps { result.steps ≡ 2 * (length text.now - place) }
     {

@@ -1,7 +1,7 @@
-//! Times searches of a text for the keys of a dictionary, plainly and by scanners, and cuts of a text. `scan_run FOLDER PASSES [WORK]` reads
-//! FOLDER/sorted.tsv, lines of a key, a tab and what the key costs, and FOLDER/text.txt. For each pass of each search it prints a line
-//! `search TAB nanoseconds TAB matches TAB sum`. With 0 passes each search is made once and no clock is read: its nanoseconds are 0. WORK is
-//! `searches`, which is so if it isn't said, `cuts`, or `all`. `bench/searches` makes such folders and calls it.
+//! Times searches of a text for the keys of a dictionary, plainly and by scanners, and cuts of a text. `scan_run FOLDER PASSES [WORK]`
+//! reads FOLDER/sorted.tsv, lines of a key, a tab and what the key costs, and FOLDER/text.txt. For each pass of each search it prints a
+//! line `search TAB nanoseconds TAB matches TAB sum`. With 0 passes each search is made once and no clock is read: its nanoseconds are 0.
+//! WORK is `searches`, which is so if it isn't said, `cuts`, or `all`. `bench/searches` makes such folders and calls it.
 //!
 //! A key's value is its line's number from 0. The sum of a search is that of `(value + 1) * length + start` over all matches, by which the
 //! searches of other programs can be compared; that of a cut is over its tokens, with 0 in place of their values.
