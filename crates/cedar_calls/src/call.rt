@@ -186,6 +186,8 @@ pub enum TextQuery<'a> {
     CheapestByCharacters { unknown: u32 },
     /// Which tokens do by a model of costs?
     CheapestBy { model: ModelTables<'a> },
+    /// Which cuts by a model are the best, in their order, so many at most?
+    CheapestCuts { model: ModelTables<'a>, most: usize },
     /// Which tokens may cuts by a model have, and what do they cost?
     Lattice { model: ModelTables<'a> },
 }

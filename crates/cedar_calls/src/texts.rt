@@ -1,17 +1,18 @@
 //! Replies about texts, by the keys of a dictionary.
 
 ghost use Rattle.std.specs.Prelude.{◌≡◌, IfOk};
-ghost use Rattle.cedar_calls.specs.Words.{character_price, CollectsAll, CollectsSome};
-ghost use Rattle.cedar_calls.specs.Words.{cost_in_table, earliest, IsBestCut, IsCheapCut};
-ghost use Rattle.cedar_calls.specs.Words.{IsTextReply, leftmost, overlapping, run_in_table};
+ghost use Rattle.cedar_calls.specs.Words.{character_price, CollectsAll, CollectsFew, CollectsSome};
+ghost use Rattle.cedar_calls.specs.Words.{cost_in_table, earliest, IsBestCut, IsBestCuts};
+ghost use Rattle.cedar_calls.specs.Words.{IsCheapCut, IsTextReply, leftmost, lists_of, overlapping};
+ghost use Rattle.cedar_calls.specs.Words.{run_in_table};
 
 use crate::reply::add;
 use crate::{ModelTables, TextQuery, TextReply};
 use cedar_scan::{Earliest, Leftmost, LeftmostScanner, MatchKind, Overlapping, Placed, Scanner};
 use cedar_words::{
     AllMatches, Edge, Edges, Fronts, Keywords, LongestPrefix, Segments, cheapest, cheapest_by,
-    cheapest_by_characters, lattice, leftmost_longest, leftmost_longest_from, matches,
-    matches_from, segment, segment_from,
+    cheapest_by_characters, cheapest_cuts, lattice, leftmost_longest, leftmost_longest_from,
+    matches, matches_from, segment, segment_from,
 };
 use cedarwood::{CedarError, Layout, PrefixIter, Trie};
 use std::alloc::{AllocError, Allocator};
@@ -55,6 +56,9 @@ pub(crate) fn text_reply<L: Layout, const SLOTS: usize, A: Allocator + Copy>(
             TextReply::Tokens(least_cut_by_characters(trie, alloc, text, *unknown))
         }
         TextQuery::CheapestBy { model } => TextReply::Tokens(best_cut(trie, alloc, text, model)),
+        TextQuery::CheapestCuts { model, most } => {
+            TextReply::Cuts(best_cuts(trie, alloc, text, model, *most))
+        }
         TextQuery::Lattice { model } => {
             TextReply::Edges(collect_edges(alloc, lattice(trie, text, model)))
         }
@@ -262,4 +266,20 @@ fn best_cut<L: Layout, const SLOTS: usize, A: Allocator + Copy>(
         return Ok(Vec::new(alloc));
     }
     Ok(cheapest_by(alloc, trie, text, model)?)
+}
+
+/// The tokens of the best cuts by a model. They are looked for only if some are wanted.
+fn best_cuts<L: Layout, const SLOTS: usize, A: Allocator + Copy>(
+    trie: &Trie<L, SLOTS, A>,
+    alloc: A,
+    text: &[u8],
+    model: &ModelTables<'_>,
+    most: usize,
+) -> Result<Vec<Vec<(usize, usize, Option<i32>), A>, A>, CedarError>
+    ensures { CollectsFew result (λ cuts. IsBestCuts trie.now.state.tree (cost_in_table model.now.costs.now model.now.beyond) (run_in_table model.now.runs.now model.now.beyond) text.now most (lists_of cuts.items)) most }
+{
+    if most == 0 {
+        return Ok(Vec::new(alloc));
+    }
+    Ok(cheapest_cuts(alloc, trie, text, model, most)?)
 }

@@ -67,6 +67,17 @@ fn calls(settings: CedarBuilder) -> [Call<'static>; 15] {
     ]
 }
 
+fn best_cuts(most: usize) -> TextQuery<'static> {
+    TextQuery::CheapestCuts {
+        model: ModelTables {
+            costs: &COSTS,
+            beyond: 8,
+            runs: &[],
+        },
+        most,
+    }
+}
+
 // Returns the answer's tokens, or none.
 fn tokens(answer: &Answer<Global>) -> &[(usize, usize, Option<i32>)] {
     match answer {
@@ -211,6 +222,35 @@ fn is_listed(answer: &Answer<Global>) -> bool {
     )
 }
 
+// The best three cuts of "abcd", and none where none are wanted.
+fn few_cuts(settings: CedarBuilder) -> [Call<'static>; 3] {
+    [
+        Call::Unsorted {
+            settings,
+            pairs: &PAIRS,
+        },
+        ask_of(b"abcd", best_cuts(3)),
+        ask_of(b"abcd", best_cuts(0)),
+    ]
+}
+
+fn expect_few_cuts(rt: &impl Abort, answers: &[Answer<Global>]) {
+    let [_, best, none] = answers else {
+        panic!(rt; "other answers");
+    };
+    let Answer::Replied(Reply::InText(TextReply::Cuts(Ok(cuts)))) = best else {
+        panic!(rt; "no cuts");
+    };
+    let Answer::Replied(Reply::InText(TextReply::Cuts(Ok(none)))) = none else {
+        panic!(rt; "no empty list");
+    };
+    assert_eq!(rt; cuts.len(), 3);
+    assert_eq!(rt; cuts[0].as_slice(), [(0, 3, Some(4)), (3, 1, None)].as_slice());
+    assert_eq!(rt; cuts[1].as_slice(), [(0, 1, Some(5)), (1, 3, Some(1))].as_slice());
+    assert_eq!(rt; cuts[2].as_slice(), [(0, 1, None), (1, 3, Some(1))].as_slice());
+    assert!(rt; none.is_empty());
+}
+
 #[tactic(auto, using(cedarwood::proofs::DictionaryLemmas::default_limit))]
 fn expect_texts<L: Layout>(
     rt: &impl Abort,
@@ -223,6 +263,9 @@ fn expect_texts<L: Layout>(
     let mut tries: Tries<L, MOST_SLOTS, Global> = Vec::new(alloc);
     let answers = run(alloc, &mut tries, &scans(settings))?;
     expect_scans(rt, &answers);
+    let mut tries: Tries<L, MOST_SLOTS, Global> = Vec::new(alloc);
+    let answers = run(alloc, &mut tries, &few_cuts(settings))?;
+    expect_few_cuts(rt, &answers);
     Ok(())
 }
 
