@@ -8,6 +8,7 @@
     list(d.scan(b"a net, nets")) == [(2, 3, 7), (7, 3, 7), (7, 4, 8)]
     list(d.segment(b"nets!")) == [(0, 4, 8), (4, 1, None)]
     list(d.keywords(b"a net, nets")) == [(2, 3, 7), (7, 4, 8)]
+    list(Scanner(d, search=EARLIEST).find(b"a net, nets")) == [(2, 3, 7), (7, 3, 7)]
     list(d.cheapest(b"nets!", unknown=0)) == [(0, 1, None), (1, 1, None), (2, 1, None), (3, 1, None), (4, 1, None)]
     Cedar.loaded(d.save())
     Cedar.from_sorted([(b"net", 7), (b"nets", 8)])
@@ -26,7 +27,7 @@ from itertools import accumulate, chain
 from pathlib import Path
 
 
-class _Handle(ctypes.Structure):
+class _Handle(ctypes.Structure):  # of a dictionary, or of a scanner
     _fields_ = [("held", c_void_p), ("is_open", c_uint32)]
 
 
@@ -94,6 +95,10 @@ def _library(path=os.environ.get("CEDAR_LIBRARY", Path(__file__).parent / "libro
         ("cedar_reserve", c_uint32, [handle, c_size_t]),
         ("cedar_set_search_limit", None, [handle, c_size_t]),
         ("cedar_search_limit", c_size_t, [handle]),
+        ("cedar_scanner_new", c_uint32, [handle, c_uint32, handle]),
+        ("cedar_scanner_find", c_size_t, [handle, c_char_p, c_size_t, POINTER(c_size_t), POINTER(_Found), c_size_t]),
+        ("cedar_scanner_longest", c_size_t, [handle]),
+        ("cedar_scanner_free", None, [handle]),
     ]:
         function = getattr(library, name)
         function.restype = result
@@ -214,6 +219,20 @@ class Matches(Sequence):
     def __iter__(self):
         for place, length, value in chain.from_iterable(map(self._ENTRY.iter_unpack, self._parts)):
             yield place, length, None if value < 0 else value
+
+
+def _everything(call, handle, text):
+    """All that a call finds in a text, which it goes along in pieces."""
+    text, place, parts, least = _bytes(text), c_size_t(0), [], 64
+    while place.value < len(text) and handle.is_open:
+        room = max(least, min(len(text) - place.value, _MOST_AT_ONCE))
+        memory = _fresh_memory(room * ctypes.sizeof(_Found))
+        count = call(byref(handle), text, len(text), byref(place), _Found.from_buffer(memory), room)
+        parts.append(memoryview(memory)[: count * ctypes.sizeof(_Found)])
+        # One call returns all keys of a place: those of this one are more than `room`.
+        if count == 0:
+            least = 4 * room
+    return Matches(parts)
 
 
 class Cedar:
@@ -409,29 +428,17 @@ class Cedar:
         keys = keys.raw
         return [(keys[one.place : one.place + one.length], one.value) for one in found[: count.value]], needed.value == 0
 
-    def _everything(self, call, text):
-        text, place, parts, least = _bytes(text), c_size_t(0), [], 64
-        while place.value < len(text) and self._handle.is_open:
-            room = max(least, min(len(text) - place.value, _MOST_AT_ONCE))
-            memory = _fresh_memory(room * ctypes.sizeof(_Found))
-            count = call(self._this, text, len(text), byref(place), _Found.from_buffer(memory), room)
-            parts.append(memoryview(memory)[: count * ctypes.sizeof(_Found)])
-            # One call returns all keys of a place: those of this one are more than `room`.
-            if count == 0:
-                least = 4 * room
-        return Matches(parts)
-
     def scan(self, text):
         """Returns all keys in a text: place after place, and at each place the shortest first."""
-        return self._everything(_CEDAR.cedar_scan, text)
+        return _everything(_CEDAR.cedar_scan, self._handle, text)
 
     def segment(self, text):
         """Returns the tokens of a text: at each place the longest key that begins there, or otherwise one byte without a value."""
-        return self._everything(_CEDAR.cedar_segment, text)
+        return _everything(_CEDAR.cedar_segment, self._handle, text)
 
     def keywords(self, text):
         """Returns the keywords of a text, which don't overlap: of the keys that begin first the longest, then the same from its end on."""
-        return self._everything(_CEDAR.cedar_keywords, text)
+        return _everything(_CEDAR.cedar_keywords, self._handle, text)
 
     def cheapest(self, text, unknown, by_characters=False):
         """Returns the tokens of a text whose costs have the least sum: a key costs its value, and a byte without one `unknown`. If
@@ -472,3 +479,34 @@ class Cedar:
 
     def capacity(self):
         return _CEDAR.cedar_capacity(self._this)
+
+
+OVERLAPPING, EARLIEST, LEFTMOST_LONGEST, LEFTMOST_FIRST = range(4)
+
+
+class Scanner:
+    """An automaton of a dictionary, which finds its keys in a text in linear time. It has a copy of the dictionary. `search` says what it
+    finds: all keys by their ends (OVERLAPPING), or keys that don't overlap: of those that end first the longest (EARLIEST), of those that
+    begin first the longest (LEFTMOST_LONGEST), or the one with the least value (LEFTMOST_FIRST)."""
+
+    def __init__(self, cedar, search=OVERLAPPING):
+        self._handle = _Handle()
+        _check(_CEDAR.cedar_scanner_new(cedar._this, search, byref(self._handle)))
+
+    def find(self, text):
+        """Returns what it finds in a text: for each key where it begins, how many bytes it has, and its value."""
+        return _everything(_CEDAR.cedar_scanner_find, self._handle, text)
+
+    def longest(self):
+        """Returns how many bytes the longest key has."""
+        return _CEDAR.cedar_scanner_longest(byref(self._handle))
+
+    def __del__(self):
+        if hasattr(self, "_handle"):
+            _CEDAR.cedar_scanner_free(byref(self._handle))
+
+    # A copy of the handle would be freed twice.
+    def __copy__(self):
+        raise TypeError("a Scanner isn't copied")
+
+    __deepcopy__ = __reduce__ = lambda self, *_: self.__copy__()

@@ -6,7 +6,7 @@ import sys
 import threading
 import time
 
-from cedar import Cedar, CedarError
+from cedar import EARLIEST, LEFTMOST_FIRST, LEFTMOST_LONGEST, Cedar, CedarError, Scanner
 
 
 def random_key():
@@ -202,6 +202,27 @@ def cheapest_in(plain, text, unknown):
     return tokens
 
 
+def searched(cedar, plain):
+    """What scanners find in a text, beside all keys that stand in it."""
+    text = bytes(random.choices(b"abcd", k=300))
+    keys = [(place, len(key), value) for key, value in plain.items() for place in range(len(text)) if text.startswith(key, place)]
+    orders = {
+        EARLIEST: lambda key: (key[0] + key[1], -key[1]),
+        LEFTMOST_LONGEST: lambda key: (key[0], -key[1]),
+        LEFTMOST_FIRST: lambda key: (key[0], key[2], key[1]),
+    }
+    assert list(Scanner(cedar).find(text)) == sorted(keys, key=orders[EARLIEST])
+    for search, order in orders.items():
+        found, end = [], 0
+        for place, length, value in sorted(keys, key=order):
+            if place >= end:
+                found.append((place, length, value))
+                end = place + length
+        assert list(Scanner(cedar, search).find(text)) == found
+    assert Scanner(cedar).longest() == max(map(len, plain)) and len(Scanner(Cedar()).find(text)) == 0
+    refuses(CedarError, lambda: Scanner(cedar, 4))
+
+
 def whole_texts(cedar, plain):
     """Scans and tokens of texts beside those found by tries, texts long enough for several calls to C among them."""
     longest = max(map(len, plain))
@@ -229,6 +250,7 @@ def whole_texts(cedar, plain):
             assert list(by_id.cheapest_by(text, costs, unknown)) == wanted
     assert scanned[0] == found[0] and scanned[-1] == found[-1] and scanned[2:4] == found[2:4]
     assert list(pickle.loads(pickle.dumps(scanned))) == found
+    searched(cedar, plain)
     # More matches than bytes, so that a text takes many calls.
     nested, text = Cedar({b"a" * n: n for n in range(1, 200)}), b"a" * 300
     assert list(nested.scan(text)) == [(place, n, n) for place in range(300) for n in range(1, min(199, 300 - place) + 1)]

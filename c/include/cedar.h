@@ -81,6 +81,7 @@ enum {
     CEDAR_NO_ROOM = 11,      /* the buffer is too short */
     CEDAR_NOT_ASCENDING = 12, /* labels do not ascend, so an iteration can't go on after a key */
     CEDAR_PATTERN_TOO_LONG = 13, /* the pattern has more than 63 bytes */
+    CEDAR_UNKNOWN_SEARCH = 14, /* no search has the number */
     /* of a file: the first thing that is wrong with it */
     CEDAR_FILE_TRUNCATED = 20,
     CEDAR_FILE_MAGIC = 21,         /* not a file of this format */
@@ -426,6 +427,56 @@ typedef struct cedar_range {
 uint32_t cedar_cheapest_by(const cedar_dictionary *d, const uint8_t *text, size_t length, const uint32_t *costs, size_t count,
                            uint32_t beyond, const cedar_range *kinds, size_t ranges, uint32_t unknown, size_t most, bool beside_keys,
                            cedar_found *found, size_t room, size_t *needed);
+
+/* A scanner: an automaton of a dictionary, which finds its keys in a text in linear time, whatever keys and text are. It is initialised
+ * with CEDAR_SCANNER_CLOSED, and only these calls change it. It may be moved. Its fields are neither read nor written by the program.
+ *
+ * It has a copy of the dictionary, so that the dictionary may be changed or freed while the scanner lives; what the scanner finds stays
+ * as it is. Any number of threads may search by one scanner at the same time, each with its own copy of the variable, made before
+ * (`cedar_scanner mine = *s;`). Meanwhile no call may replace or free it. */
+typedef struct cedar_scanner {
+    void *held;
+    uint32_t is_open;
+} cedar_scanner;
+
+#define CEDAR_SCANNER_CLOSED { NULL, 0 }
+
+/* What a scanner finds. */
+enum {
+    CEDAR_OVERLAPPING = 0,      /* all keys, by their ends: at each end the longest first */
+    CEDAR_EARLIEST = 1,         /* keys that don't overlap: of those that end first the longest, and so on from its end */
+    CEDAR_LEFTMOST_LONGEST = 2, /* keys that don't overlap: of those that begin first the longest, and so on from its end: the keywords */
+    CEDAR_LEFTMOST_FIRST = 3    /* the same, of those that begin first the one with the least value, and of several with it the shortest */
+};
+
+/* Opens *s with a scanner of *d for one of these searches. If *s is open, the new scanner replaces the old one. It takes 24 bytes for
+ * each slot of the dictionary up to that of its last node, or 36 for leftmost keys, besides the copy of the dictionary. For leftmost
+ * keys it also takes 12 bytes for each key that a path of the dictionary gives where it can't go on: a few in most dictionaries, and 6
+ * m^2 bytes at most for a key of m bytes. While it is made it takes a list of 24 bytes for each node, and what a sort of that needs.
+ * Returns CEDAR_OK; CEDAR_IS_CLOSED if *d is closed; CEDAR_UNKNOWN_SEARCH; or CEDAR_MEMORY. After an error *s is as it was. */
+uint32_t cedar_scanner_new(const cedar_dictionary *d, uint32_t search, cedar_scanner *s);
+
+/* Writes what a scanner finds in a text, from the position *next on, to found[0] and on, and returns how many it wrote; the other
+ * elements may be written to as well. If there is no room for more, *next is such that calling again with it goes on; at the end *next
+ * is the text's length. Begin with *next 0, and go on while *next is below length.
+ *
+ * - CEDAR_OVERLAPPING: keys that end behind *next. Those that end at one byte are returned by the same call. If it returns 0 and *next is
+ *   below length, more keys than room end at the next byte; never more than the longest key has bytes.
+ * - The other searches: from *next on, where the text begins or the last key ended. With room 1 or more each call goes on.
+ *
+ * It allocates nothing, and takes two steps at most for each byte that it reads. A call for overlapping keys first reads the bytes
+ * before *next again, as many as the longest key has at most, and one for leftmost keys may read as many behind the last key that it
+ * returns: so let the room be some hundred elements. It finds nothing with a closed scanner.
+ *
+ * A text that comes in pieces: for CEDAR_OVERLAPPING keep the last bytes, one fewer than cedar_scanner_longest, in front of the next
+ * piece, and begin with *next at the end of these. Then just those keys are found that end in the piece. */
+size_t cedar_scanner_find(const cedar_scanner *s, const uint8_t *text, size_t length, size_t *next, cedar_found *found, size_t room);
+
+/* Returns how many bytes the longest key of a scanner has. 0 if it has no key, or if it is closed. */
+size_t cedar_scanner_longest(const cedar_scanner *s);
+
+/* Frees the memory of *s. *s is closed then. Does nothing if *s is closed. */
+void cedar_scanner_free(cedar_scanner *s);
 
 /* The library's own functions take no null for position, held, before, needed and erased. In a program these functions take their names,
  * and pass a variable of their own where the caller passes null. They cost nothing where the compiler sees that a pointer isn't null.

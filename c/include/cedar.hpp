@@ -39,6 +39,10 @@
 //     load_from_path                                the same, system
 //     save_to_path                                  closed, memory, system
 //
+//     member of a scanner                           throws
+//     scanner                                       closed, memory
+//     find                                          what the callable throws; memory
+//
 //     member of a store                             throws
 //     store                                         CEDAR_STORE_LOCKED, CEDAR_STORE_FOREIGN, CEDAR_STORE_CORRUPT, CEDAR_STORE_DAMAGED,
 //                                                   CEDAR_SLOT_LIMIT, memory, system
@@ -608,6 +612,7 @@ private:
     cedar_dictionary inside_ = CEDAR_CLOSED;
 
     friend class store;
+    friend class scanner;
 };
 
 /// A change of a batch: a value is put at a key, or without a value the key is removed.
@@ -768,5 +773,7 @@ private:
 };
 
 } // namespace roskvidh
+
+#include "cedar_scanner.hpp"
 
 #endif

@@ -13,7 +13,7 @@
 """
 
 try:
-    from ._core import LOAD_LIMIT, MAX_VALUE, MIN_VALUE, CedarError, Match, Matches
+    from ._core import LOAD_LIMIT, MAX_VALUE, MIN_VALUE, CedarError, Match, Matches, Scanner
 except ImportError as error:
     raise ImportError(
         f"the compiled part of roskvidh is missing or can't be loaded ({error}). "
@@ -26,4 +26,5 @@ from .store import Store
 from .words import Stats
 
 __version__ = "0.1.0"
-__all__ = ["LOAD_LIMIT", "MAX_VALUE", "MIN_VALUE", "Cedar", "CedarError", "CedarMap", "Found", "Match", "Matches", "Stats", "Store"]
+__all__ = ["LOAD_LIMIT", "MAX_VALUE", "MIN_VALUE", "Cedar", "CedarError", "CedarMap", "Found", "Match", "Matches", "Scanner", "Stats",
+           "Store"]

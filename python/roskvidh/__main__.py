@@ -6,7 +6,7 @@ import sys
 from typing import Any, Dict
 
 import roskvidh
-from roskvidh import Cedar, CedarMap, Store, _core, cedar, files, maps, store, views, words
+from roskvidh import Cedar, CedarMap, Scanner, Store, _core, cedar, files, maps, store, views, words
 
 _CALLS = 20_000
 
@@ -34,10 +34,11 @@ def check_calls(text: bool, reduced: bool) -> None:
 def check_examples() -> int:
     """Runs the examples of the documentation, and returns how many there are."""
     runner = doctest.DocTestRunner()
-    names = {"Cedar": Cedar, "CedarMap": CedarMap, "Store": Store}
+    names = {"Cedar": Cedar, "CedarMap": CedarMap, "Scanner": Scanner, "Store": Store}
     tests = [test for module in (roskvidh, cedar, files, maps, store, views, words) for test in doctest.DocTestFinder().find(module, extraglobs=names)]
-    for name in dir(_core.Core):
-        tests += doctest.DocTestFinder(recurse=False).find(getattr(_core.Core, name), f"Core.{name}", module=False, globs=names)
+    for kind in (_core.Core, _core.Scanner):
+        for name in dir(kind):
+            tests += doctest.DocTestFinder(recurse=False).find(getattr(kind, name), f"{kind.__name__}.{name}", module=False, globs=names)
     for test in tests:
         runner.run(test)
     assert runner.failures == 0, f"{runner.failures} examples fail"

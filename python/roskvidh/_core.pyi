@@ -1,4 +1,4 @@
-from typing import Any, Final, Generic, Iterable, Iterator, List, Mapping, Optional, Tuple, TypeVar, Union, final, overload
+from typing import Any, Final, Generic, Iterable, Iterator, List, Literal, Mapping, Optional, Tuple, TypeVar, Union, final, overload
 
 from _typeshed import structseq
 
@@ -36,6 +36,17 @@ class Matches:
     def __getitem__(self, at: slice) -> List[Match]: ...
     def __iter__(self) -> Iterator[Match]: ...
     def __eq__(self, other: object) -> bool: ...
+
+Search = Literal["overlapping", "earliest", "leftmost-longest", "leftmost-first"]
+
+@final
+class Scanner(Generic[K]):
+    def __new__(cls, dictionary: Core[K], /, search: Search = "overlapping") -> Scanner[K]: ...
+    @property
+    def search(self) -> Search: ...
+    @property
+    def text(self) -> bool: ...
+    def find(self, text: K, /) -> Matches: ...
 
 class Core(Generic[K]):
     @property

@@ -109,10 +109,10 @@ static PyObject *as_bytes(PyObject *given) {
 }
 
 /* The bytes of a key or of a text. What can change while they are in use is copied. The caller gives `owner` back. */
-int span_take(Core *core, PyObject *given, Span *span) {
+int text_take(bool is_text, PyObject *given, Span *span) {
     char *at;
     Py_ssize_t length;
-    span->owner = core->is_text ? text_as_bytes(given) : as_bytes(given);
+    span->owner = is_text ? text_as_bytes(given) : as_bytes(given);
     if (!span->owner) return -1;
     if (PyBytes_AsStringAndSize(span->owner, &at, &length) < 0) {
         Py_CLEAR(span->owner);
@@ -121,6 +121,11 @@ int span_take(Core *core, PyObject *given, Span *span) {
     span->at = (const uint8_t *)at;
     span->length = (size_t)length;
     return 0;
+}
+
+/* The same of a dictionary's keys and texts. */
+int span_take(Core *core, PyObject *given, Span *span) {
+    return text_take(core->is_text, given, span);
 }
 
 /* Whether an object is of a type that keys have. */

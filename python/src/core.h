@@ -107,6 +107,7 @@ typedef struct Span {
     size_t length;
 } Span;
 
+int text_take(bool is_text, PyObject *given, Span *span);
 int span_take(Core *core, PyObject *given, Span *span);
 bool is_key_type(const Core *core, PyObject *given);
 int value_take(PyObject *given, int32_t *value);
@@ -118,6 +119,7 @@ int fail_at(uint32_t status, const char *what, size_t position);
 int key_test(const Span *key);
 void name_item(const char *what, size_t position);
 extern PyObject *cedar_error;
+PyObject *type_of_keys(PyObject *type, PyObject *keys);
 
 /* lookups.c: calls of one key. */
 PyObject *core_subscript(Core *core, PyObject *key);
@@ -212,6 +214,27 @@ PyObject *core_neighbour(Core *core, PyObject *arguments);
 PyObject *core_next_wanted(Core *core, PyObject *arguments);
 
 /* matches.c: what stands in a text. */
+
+/* What one call to the library found; `end` counts the matches up to its last one. */
+typedef struct Piece {
+    cedar_found *found;
+    size_t count;
+    size_t end;
+} Piece;
+
+typedef struct Matches {
+    PyObject_HEAD
+    Piece *pieces;
+    size_t piece_count;
+    size_t count;
+} Matches;
+
+/* Places of a piece, of 24 bytes each. Those that nothing is written to take no memory. */
+enum { PIECE_LEAST = SIZED(64, 4), PIECE_MOST = SIZED(1 << 21, 64) };
+
+Piece *piece_begin(Matches *matches, size_t places);
+void piece_end(Matches *matches, Piece *piece, size_t count);
+size_t characters(const uint8_t *at, size_t length);
 extern PyType_Spec matches_spec;
 extern PyTypeObject *matches_type;
 extern PyTypeObject *match_type;
@@ -221,7 +244,11 @@ PyObject *core_segment(Core *core, PyObject *text);
 PyObject *core_keywords(Core *core, PyObject *text);
 PyObject *core_cheapest(Core *core, PyObject *arguments, PyObject *named);
 
+/* scanners.c: keys found in linear time. */
+extern PyType_Spec scanner_spec;
+
 /* makes.c: what puts a dictionary in place, and what gives its file. */
+bool is_long_table(const Core *core);
 PyObject *core_open(Core *core, PyObject *arguments);
 PyObject *core_build(Core *core, PyObject *arguments);
 PyObject *core_build_unsorted(Core *core, PyObject *arguments);

@@ -82,7 +82,7 @@ PyObject *core_open(Core *core, PyObject *arguments) {
 }
 
 /* Whether a call that goes through the whole table is a long one. */
-static bool is_long_table(const Core *core) {
+bool is_long_table(const Core *core) {
     return cedar_capacity(&core->store.dictionary) > LONG_TABLE;
 }
 

@@ -7,20 +7,6 @@
 
 PyTypeObject *matches_type, *match_type;
 
-/* What one call to the library found; `end` counts the matches up to its last one. */
-typedef struct Piece {
-    cedar_found *found;
-    size_t count;
-    size_t end;
-} Piece;
-
-typedef struct Matches {
-    PyObject_HEAD
-    Piece *pieces;
-    size_t piece_count;
-    size_t count;
-} Matches;
-
 static PyStructSequence_Field match_fields[] = {
     {"place", "where it begins"},
     {"length", "how long it is"},
@@ -161,12 +147,11 @@ typedef struct Finder {
 
 static const Finder SCAN = {cedar_scan, true}, SEGMENT = {cedar_segment, false}, KEYWORDS = {cedar_keywords, false};
 
-/* Places of a piece, of 24 bytes each. Those that nothing is written to take no memory. */
-enum { LEAST_PLACES = SIZED(64, 4), MOST_PLACES = SIZED(1 << 21, 64), PAGE = 4096, MANY_PAGES = 1 << 20 };
+enum { PAGE = 4096, MANY_PAGES = 1 << 20 };
 
 /* A further piece with so many places, or NULL where memory is wanted. A large one comes in large pages where the system has them: to map
  * small ones takes as long as the walk over a text that fills them. */
-static Piece *piece_begin(Matches *matches, size_t places) {
+Piece *piece_begin(Matches *matches, size_t places) {
     Piece *pieces = realloc(matches->pieces, (matches->piece_count + 1) * sizeof *pieces);
     if (!pieces) return NULL;
     matches->pieces = pieces;
@@ -182,7 +167,7 @@ static Piece *piece_begin(Matches *matches, size_t places) {
 }
 
 /* Ends a piece with so many matches, and gives back the places behind them. */
-static void piece_end(Matches *matches, Piece *piece, size_t count) {
+void piece_end(Matches *matches, Piece *piece, size_t count) {
     cedar_found *fitted = realloc(piece->found, (count + 1) * sizeof *fitted);
     if (fitted) piece->found = fitted;
     matches->count += count;
@@ -267,10 +252,10 @@ static bool fill_piece(Finder finder, Turn *turn, const Span *text, size_t longe
 
 /* All that a finder tells of a text. Raises an error where memory is wanted or a signal has ended it. */
 static int find_all(Finder finder, Turn *turn, const Span *text, Matches *matches) {
-    size_t next = 0, least = LEAST_PLACES, longest = longest_key(turn, text);
+    size_t next = 0, least = PIECE_LEAST, longest = longest_key(turn, text);
     if (longest > LONGEST_HELD && text->length > HELD_TEXT) turn_yield(turn);
     while (next < text->length) {
-        size_t left = text->length - next, places = left < MOST_PLACES ? left : MOST_PLACES, count = 0;
+        size_t left = text->length - next, places = left < PIECE_MOST ? left : PIECE_MOST, count = 0;
         if (places < least) places = least;
         Piece *piece = piece_begin(matches, places);
         if (!piece) return CEDAR_MEMORY;
@@ -362,7 +347,8 @@ static int find_cheapest(const Costs *costs, Turn *turn, const Span *text, Match
     return CEDAR_OK;
 }
 
-static size_t characters(const uint8_t *at, size_t length) {
+/* How many characters begin among some bytes. */
+size_t characters(const uint8_t *at, size_t length) {
     size_t count = 0;
     for (size_t i = 0; i < length; i++) count += begins_character(at[i]);
     return count;

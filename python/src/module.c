@@ -44,8 +44,8 @@ static PyObject *core_figures(Core *core, PyObject *nothing) {
                          (Py_ssize_t)cedar_spare_blocks(d));
 }
 
-/* Type checkers read Core as generic in its keys; when the program runs, Core[K] is Core. */
-static PyObject *core_of_keys(PyObject *type, PyObject *keys) {
+/* Type checkers read Core and Scanner as generic in their keys; when the program runs, Core[K] is Core. */
+PyObject *type_of_keys(PyObject *type, PyObject *keys) {
     (void)keys;
     Py_INCREF(type);
     return type;
@@ -166,7 +166,7 @@ static PyMethodDef core_methods[] = {
      "reserve($self, blocks, /)\n--\n\nAllocates ahead for so many blocks of 256 slots more than are in use. An update takes at most one for each\n"
      "byte of its key, so the next ones need no memory.\n\n"
      ">>> d = Cedar()\n>>> d.reserve(100)\n>>> d.stats().spare_blocks >= 100\nTrue\n"},
-    {"__class_getitem__", core_of_keys, METH_O | METH_CLASS, NULL},
+    {"__class_getitem__", type_of_keys, METH_O | METH_CLASS, NULL},
     {"_open", (PyCFunction)core_open, METH_VARARGS, NULL},
     {"_build", (PyCFunction)core_build, METH_VARARGS, NULL},
     {"_build_unsorted", (PyCFunction)core_build_unsorted, METH_VARARGS, NULL},
@@ -242,6 +242,8 @@ static int fill(PyObject *module) {
     if (add(module, "Matches", (PyObject *)matches_type) < 0 || add(module, "Match", (PyObject *)match_type) < 0) return -1;
     core_type = (PyTypeObject *)PyType_FromSpec(&core_spec);
     if (add(module, "Core", (PyObject *)core_type) < 0) return -1;
+    PyObject *scanner_type = PyType_FromSpec(&scanner_spec);
+    if (add(module, "Scanner", scanner_type) < 0) return -1;
     if (PyModule_AddIntConstant(module, "MIN_VALUE", CEDAR_MIN_VALUE) < 0 || PyModule_AddIntConstant(module, "MAX_VALUE", CEDAR_MAX_VALUE) < 0) return -1;
     if (PyModule_AddIntConstant(module, "OPEN_EXISTING", CEDAR_OPEN_EXISTING) < 0 || PyModule_AddIntConstant(module, "OPEN_NEW", CEDAR_OPEN_NEW) < 0) return -1;
     if (PyModule_AddIntConstant(module, "OPEN_TO_READ", CEDAR_OPEN_TO_READ) < 0) return -1;

@@ -2,7 +2,7 @@
 
 from typing import Any, Dict, Iterator, List, Mapping, MutableMapping, Optional, Tuple
 
-from roskvidh import Cedar, CedarError, CedarMap, Found, Match, Matches, Stats, Store
+from roskvidh import Cedar, CedarError, CedarMap, Found, Match, Matches, Scanner, Stats, Store
 
 
 def keys_are_bytes(data: bytes) -> None:
@@ -15,13 +15,15 @@ def keys_are_bytes(data: bytes) -> None:
     cut: Matches = d.cheapest(b"text", unknown=5)
     cut = d.cheapest(b"text", 5, costs=[1, 2])
     cut = d.cheapest(b"text", unknown=5, costs={7: 1})
+    scanner: Scanner[bytes] = Scanner(d, search="leftmost-longest")
+    matches = scanner.find(b"text")
     match: Match = matches[0]
     some: List[Match] = matches[1:]
     stats: Stats = d.stats()
     as_mapping: MutableMapping[bytes, int] = d
     erased: int = loaded.erase_all([b"x", b"y"]) + loaded.erase_all(d)
     loaded |= built
-    print(erased, value, match.value, some, keywords, cut, stats.keys, as_mapping)
+    print(erased, value, match.value, some, keywords, cut, stats.keys, as_mapping, scanner.search, scanner.text)
 
 
 def keys_are_texts(path: str, plain: Dict[str, int]) -> None:

@@ -4,7 +4,7 @@ import ctypes
 import os
 import unittest
 
-from roskvidh import Cedar
+from roskvidh import Cedar, Scanner
 
 PLAIN = {b"%d" % i: i for i in range(400)}
 TEXT = b"12 345 7" * 1000
@@ -48,6 +48,14 @@ class Refused(unittest.TestCase):
             next_to = [lambda d: d.best(b"3", 20), lambda d: d.floor(b"3999"), lambda d: list(d.irange(b"30", b"31", reverse=True))]
             for call in (*walks, *texts, *next_to, Cedar.to_bytes, Cedar.copy):
                 self.assertEqual(self.each(lambda: cedar, call, lambda d: d == PLAIN), call(cedar))
+
+    def test_scanners(self):
+        cedar = Cedar(PLAIN)
+        for search in ("overlapping", "earliest", "leftmost-longest", "leftmost-first"):
+            scanner = Scanner(cedar, search=search)
+            found = list(scanner.find(TEXT))
+            self.assertEqual(list(self.each(lambda: cedar, lambda d: Scanner(d, search=search), lambda d: d == PLAIN).find(TEXT)), found)
+            self.assertEqual(self.each(lambda: cedar, lambda d: scanner.find(TEXT), lambda d: d == PLAIN), found)
 
     def test_changes(self):
         for reduced in (False, True):

@@ -13,7 +13,7 @@ import zipfile
 from pathlib import Path
 
 import roskvidh
-from roskvidh import Cedar, Store, _core
+from roskvidh import Cedar, Scanner, Store, _core
 from roskvidh.__main__ import check_examples
 
 HERE = Path(__file__).resolve().parent.parent
@@ -31,15 +31,17 @@ class Package(unittest.TestCase):
             self.assertTrue(call.__doc__, name)
             if callable(call):
                 self.assertIn(">>>", call.__doc__, name)
+        self.assertIn(">>>", Scanner.find.__doc__)
         self.assertTrue(all(getattr(Store, name).__doc__ for name in dir(Store) if not name.startswith("_") and name != "path"))
         self.assertGreater(check_examples(), 40)
 
     def test_hints(self):
         """The stub has the compiled part's names, and no others; each function of Python has hints."""
         stub = ast.parse((HERE / "roskvidh" / "_core.pyi").read_text())
-        core = next(node for node in stub.body if isinstance(node, ast.ClassDef) and node.name == "Core")
-        hinted = {node.name for node in core.body if isinstance(node, ast.FunctionDef)}
-        self.assertEqual(hinted, set(vars(_core.Core)) - {"__new__", "__doc__", "__module__", "__class_getitem__"})
+        for kind in (_core.Core, Scanner):
+            told = next(node for node in stub.body if isinstance(node, ast.ClassDef) and node.name == kind.__name__)
+            hinted = {node.name for node in told.body if isinstance(node, ast.FunctionDef)} - {"__new__"}
+            self.assertEqual(hinted, set(vars(kind)) - {"__new__", "__doc__", "__module__", "__repr__", "__class_getitem__"})
         for kind in (Cedar, Store):
             for name, call in inspect.getmembers(kind, inspect.isfunction):
                 if name != "__init__":
@@ -54,7 +56,7 @@ class Package(unittest.TestCase):
             os.chdir(empty)
             self.addCleanup(os.chdir, folder)
             for block in blocks:
-                names = {"Cedar": Cedar, "Store": Store}
+                names = {"Cedar": Cedar, "Scanner": Scanner, "Store": Store}
                 tree = ast.parse(block)
                 for statement in tree.body:
                     code = ast.get_source_segment(block, statement)

@@ -5,7 +5,7 @@ import pickle
 import random
 import unittest
 
-from roskvidh import Cedar, Match
+from roskvidh import Cedar, CedarError, Match, Scanner
 
 LETTERS = "abcß漢"
 
@@ -39,6 +39,97 @@ def cheapest_in(plain, text, unknown):
         tokens.append(first[place])
         place += first[place][1]
     return tokens
+
+
+def found_by(plain, text, search):
+    """What a search finds, place after place and key after key."""
+    keys = [(place, len(key), value) for key, value in plain.items() for place in range(len(text)) if text.startswith(key, place)]
+    ends = sorted(keys, key=lambda key: (key[0] + key[1], -key[1]))
+    if search == "overlapping":
+        return ends
+    if search != "earliest":
+        ends = sorted(keys, key=lambda key: (key[0], -key[1] if search == "leftmost-longest" else key[2], key[1]))
+    found, end = [], 0
+    for key in ends:
+        if key[0] >= end:
+            found.append(key)
+            end = key[0] + key[1]
+    return found
+
+
+SEARCHES = ("overlapping", "earliest", "leftmost-longest", "leftmost-first")
+
+
+class Scanners(unittest.TestCase):
+    def test_beside_tries(self):
+        chance = random.Random(7)
+        for number in range(200):
+            is_text, reduced = number % 2 == 0, number % 4 < 2
+            coded = (lambda given: given) if is_text else str.encode
+            keys = {coded("".join(chance.choices(LETTERS, k=chance.randint(1, 5)))) for _ in range(chance.randint(0, 12))}
+            plain = {key: chance.randint(0, 5) for key in keys}
+            cedar = Cedar(plain, text=is_text, reduced=reduced, ordered=number % 3 > 0)
+            for search in SEARCHES:
+                scanner = Scanner(cedar, search=search)
+                self.assertEqual((scanner.search, scanner.text), (search, is_text))
+                for size in (0, 1, 7, 60, 300):
+                    text = coded("".join(chance.choices(LETTERS, k=size)))
+                    self.assertEqual(list(scanner.find(text)), found_by(plain, text, search))
+
+    def test_what_becomes_of_the_dictionary(self):
+        cedar = Cedar({"net": 7}, text=True)
+        scanner = Scanner(cedar)
+        cedar["network"] = 8
+        self.assertEqual([tuple(m) for m in scanner.find("network")], [(0, 3, 7)])
+        self.assertEqual([tuple(m) for m in Scanner(cedar, "leftmost-longest").find("network")], [(0, 7, 8)])
+        cedar.close()
+        self.assertEqual(len(scanner.find("net net")), 2)
+        with self.assertRaises(ValueError):
+            Scanner(cedar)
+
+    def test_long_texts(self):
+        """Long texts are searched in steps, and what begins in one may end in another."""
+        plain = {b"ab" * 30: 1, b"b": 2, b"ba": 3, b"a" * 40: 4}
+        cedar = Cedar(plain)
+        text = bytes(random.Random(9).choices(b"ab", [2, 3], k=30_000)) + b"ab" * 5000 + b"a" * 3000
+        for search in SEARCHES:
+            scanner = Scanner(cedar, search=search)
+            whole = [tuple(m) for m in scanner.find(text)]
+            short = [tuple(m) for m in scanner.find(text[-500:])]
+            self.assertEqual(short, found_by(plain, text[-500:], search))
+            if search in ("overlapping", "earliest"):
+                self.assertEqual(whole[: len(whole) // 2], found_by(plain, text, search)[: len(whole) // 2])
+            if search == "leftmost-longest":
+                self.assertEqual(whole, [tuple(m) for m in cedar.keywords(text)])
+            if search == "overlapping":
+                self.assertEqual(sorted(whole), sorted(tuple(m) for m in cedar.scan(text)))
+
+    def test_many_at_one_end(self):
+        text = b"a" * 700
+        cedar = Cedar({text[:n]: n for n in range(1, 701)})
+        found = Scanner(cedar).find(text)
+        self.assertEqual(len(found), 700 * 701 // 2)
+        self.assertEqual([tuple(found[0]), tuple(found[-1])], [(0, 1, 1), (699, 1, 1)])
+        self.assertEqual(len(Scanner(cedar, "leftmost-longest").find(text)), 1)
+        self.assertEqual(len(Scanner(cedar, "earliest").find(text)), 700)
+
+    def test_wrong_calls(self):
+        cedar = Cedar({b"a": 1})
+        scanner = Scanner(cedar)
+        for wrong in (lambda: Scanner(), lambda: Scanner({}), lambda: Scanner(cedar, 5)):
+            self.assertRaises(TypeError, wrong)
+        for text in ("a", 5):
+            self.assertRaises(TypeError, lambda: scanner.find(text))
+        self.assertRaises(ValueError, lambda: Scanner(cedar, "leftmost"))
+        self.assertRaises(TypeError, lambda: Scanner(Cedar(text=True)).find(b"a"))
+        self.assertRaises(CedarError, lambda: Scanner(closed(Cedar())))
+        self.assertEqual(repr(scanner), "<Scanner, overlapping>")
+        self.assertEqual([tuple(m) for m in scanner.find(bytearray(b"aa"))], [(0, 1, 1), (1, 1, 1)])
+
+
+def closed(cedar):
+    cedar.close()
+    return cedar
 
 
 class Texts(unittest.TestCase):

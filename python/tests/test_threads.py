@@ -11,7 +11,7 @@ import time
 import unittest
 import warnings
 
-from roskvidh import Cedar
+from roskvidh import Cedar, Scanner
 
 SECONDS = float(os.environ.get("ROSKVIDH_SECONDS", "10"))
 
@@ -102,6 +102,25 @@ class Threads(unittest.TestCase):
             assert list(cedar.cheapest(text, unknown=4)) == tokens
 
         self.run_all(SECONDS / 4, *[lambda chance, n=n: cut(chance) for n in range(4)])
+
+    def test_scanners_beside_changes(self):
+        """Four threads search by one scanner, while its dictionary is changed: each has what one thread alone has."""
+        for search in ("overlapping", "earliest", "leftmost-longest", "leftmost-first"):
+            cedar = Cedar({b"ab": 3, b"a": 1, b"abc": 9, b"c": 2})
+            text = bytes(random.Random(5).choices(b"abcd", k=20_000))
+            scanner = Scanner(cedar, search=search)
+            found = list(scanner.find(text))
+
+            def change(chance):
+                cedar[b"b"] = 1
+                assert len(Scanner(cedar, search=search).find(text)) > 0
+                cedar.clear()
+                cedar.update({b"ab": 3, b"c": 5})
+
+            def look(chance):
+                assert list(scanner.find(text)) == found
+
+            self.run_all(SECONDS / 8, change, *[lambda chance, n=n: look(chance) for n in range(4)])
 
     def test_own_keys_of_each_thread(self):
         for reduced in (False, True):

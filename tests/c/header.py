@@ -26,6 +26,8 @@ TYPES = {
     "Key": "cedar_key",
     "Pair": "cedar_pair",
     "Plan": "cedar_plan",
+    "ScannerHandle": "cedar_scanner",
+    "ScannerReading": "const cedar_scanner",
 }
 
 

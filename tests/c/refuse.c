@@ -191,6 +191,34 @@ static void pages(void) {
     cedar_free(&d);
 }
 
+/* A scanner for a search, with each request refused in turn: the one before it stays till all are met. Answers how many were refused. */
+static int scanners(uint32_t search) {
+    cedar d = CEDAR_CLOSED;
+    cedar_scanner s = CEDAR_SCANNER_CLOSED;
+    uint8_t key[3];
+    cedar_found found[4];
+    size_t position = 0;
+    nth_key(5, key);
+    CHECK(cedar_new(&d) == CEDAR_OK && cedar_update(&d, key, 1, 70, &position) == CEDAR_OK);
+    CHECK(cedar_scanner_new(&d, search, &s) == CEDAR_OK);
+    CHECK(cedar_erase(&d, key, 1) && fill(&d) == KEYS);
+    for (int refused = 0;; refused++) {
+        left = refused;
+        uint32_t status = cedar_scanner_new(&d, search, &s);
+        left = 0;
+        size_t next = 0, count = cedar_scanner_find(&s, key, 3, &next, found, 4);
+        left = -1;
+        CHECK(count == 1 && next == 3 && found[0].place == 0);
+        if (status == CEDAR_OK) {
+            CHECK(found[0].length == 3 && found[0].value == 5 && cedar_scanner_longest(&s) == 3);
+            cedar_scanner_free(&s);
+            cedar_free(&d);
+            return refused;
+        }
+        CHECK(status == CEDAR_MEMORY && found[0].length == 1 && found[0].value == 70 && cedar_scanner_longest(&s) == 1);
+    }
+}
+
 int main(void) {
     int refused_new = 0, refused_update = 0;
     for (long budget = 0; budget < 60; budget++) {
@@ -216,6 +244,7 @@ int main(void) {
     CHECK(refused_new > 0 && refused_update > 0 && refused_builds > 10 && refused_unsorted > refused_builds && refused_reserves > 0 && refused_copies > 0 && refused_shrinks > 0);
     CHECK(cuts(false) > 0 && cuts(true) > 0);
     pages();
+    for (uint32_t search = CEDAR_OVERLAPPING; search <= CEDAR_LEFTMOST_FIRST; search++) CHECK(scanners(search) > 1);
     printf("refused: %d new, %d updates, %d builds, %d reserves\nok\n", refused_new, refused_update, refused_builds, refused_reserves);
     return 0;
 }

@@ -110,6 +110,38 @@ Tokens cut_by(const dictionary &d, std::string_view text, const roskvidh::cut_co
     return found;
 }
 
+Tokens found_by(const roskvidh::scanner &scanner, std::string_view text) {
+    Tokens found;
+    scanner.find(text, [&](const roskvidh::occurrence &one) { found.emplace_back(one.place, one.length, one.value); });
+    return found;
+}
+
+void scanners(layout kind) {
+    using roskvidh::scanner;
+    using roskvidh::search;
+    dictionary d(kind);
+    d.update_all({{"he", 2}, {"she", 3}, {"hers", 1}, {"e", 2}});
+    scanner all(d, search::overlapping);
+    const scanner first_end(d, search::earliest), longest(d, search::leftmost_longest), first(d, search::leftmost_first);
+    // What becomes of the dictionary doesn't matter.
+    d.clear();
+    CHECK(found_by(all, "ushers") == Tokens({{1, 3, 3}, {2, 2, 2}, {3, 1, 2}, {2, 4, 1}}) && all.longest() == 4);
+    CHECK(found_by(first_end, "ushers") == Tokens({{1, 3, 3}}) && found_by(first_end, "hers") == Tokens({{0, 2, 2}}));
+    CHECK(found_by(longest, "hers ushers") == Tokens({{0, 4, 1}, {6, 3, 3}}));
+    CHECK(found_by(first, "her hers") == Tokens({{0, 2, 2}, {4, 4, 1}}) && found_by(first, "").empty());
+    scanner moved(std::move(all));
+    CHECK(found_by(all, "ushers").empty() && all.longest() == 0 && found_by(moved, "he") == Tokens({{0, 2, 2}, {1, 1, 2}}));
+    all = std::move(moved);
+    CHECK(all.longest() == 4 && moved.longest() == 0);
+    CHECK(found_by(scanner(d, search::earliest), "hers").empty());
+    int calls = 0;
+    all.find("hehehe", [&](const roskvidh::occurrence &) { return ++calls < 3; });
+    CHECK(calls == 3);
+    dictionary gone = std::move(d);
+    refused(CEDAR_IS_CLOSED, {}, "the dictionary is closed", [&] { scanner of_none(d, search::overlapping); });
+    lacks_memory([&] { scanner of_one(gone, search::leftmost_longest); });
+}
+
 void each_member(layout kind) {
     dictionary d(kind);
     CHECK(d.kind() == kind && d.is_open() && d.empty() && d.size() == 0 && listed(d.entries()).empty());
@@ -210,6 +242,10 @@ void many_answers() {
     CHECK(d.prefixes(text).size() == 600 && d.prefixes(text).back().length == 600 && d.longest_match(text)->length == 600);
     CHECK(d.predictions("a").size() == 600 && d.predictions("a", 100).size() == 100 && d.predictions("a", 100).back().value == 100);
     CHECK(d.predictions("a", 1000).back().length == 600);
+    const roskvidh::scanner overlapping(d, roskvidh::search::overlapping);
+    CHECK(found_by(overlapping, text).size() == all.size() && found_by(overlapping, text).back() == Tokens::value_type(599, 1, 1));
+    const roskvidh::scanner keywords(dictionary::from_sorted({{"a", 1}}), roskvidh::search::leftmost_longest);
+    CHECK(found_by(keywords, text).size() == 600);
 }
 
 void settings_and_sorted_pairs(layout kind) {
@@ -687,6 +723,7 @@ int main(int count, char **arguments) {
     many_answers();
     for (const layout kind : {layout::standard, layout::reduced}) {
         each_member(kind);
+        scanners(kind);
         settings_and_sorted_pairs(kind);
         refusals(kind);
         moves(kind);

@@ -10,6 +10,7 @@ pub mod KeywordLemmas
 pub mod LengthLemmas
 pub mod LoanLemmas
 pub mod MatchLemmas
+pub mod HeldScannerValues
 pub mod MatchingLemmas
 pub mod HeldValues
 pub mod LooseValues
@@ -17,3 +18,4 @@ pub mod PairLemmas
 pub mod PlanLemmas
 pub mod ReaderLemmas
 pub mod ScanLemmas
+pub mod ScannerLemmas

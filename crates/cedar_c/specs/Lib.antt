@@ -17,6 +17,10 @@ pub mod Ownership
 pub mod Pairs
 pub mod Plans
 pub mod Readings
+pub mod ScannerHandles
+pub mod ScannerLending
+pub mod ScannerOwnership
+pub mod Scanners
 pub mod Scans
 pub mod Shrinks
 pub mod Status

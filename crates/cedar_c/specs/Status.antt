@@ -11,7 +11,7 @@ use Rattle.cedar_c.specs.declared.status.TheConstants.{FILE_TRAILING, FILE_UNREA
 use Rattle.cedar_c.specs.declared.status.TheConstants.{STORE_DAMAGED, STORE_DEVICE, STORE_FAILED}
 use Rattle.cedar_c.specs.declared.status.TheConstants.{STORE_FOREIGN, STORE_FULL, STORE_KEPT}
 use Rattle.cedar_c.specs.declared.status.TheConstants.{STORE_LOCKED, STORE_NO_ROOM, STORE_READ_ONLY}
-use Rattle.cedar_c.specs.declared.status.TheConstants.{STORE_TOO_LONG}
+use Rattle.cedar_c.specs.declared.status.TheConstants.{STORE_TOO_LONG, UNKNOWN_SEARCH}
 use Rattle.cedarwood.specs.Tree.{Tree, number_at}
 use Rattle.cedarwood.specs.declared.error.CedarError.{CedarError}
 use Rattle.cedarwood.specs.declared.error.CedarError.TheVariants.{EmptyKey, NulByte, InvalidValue}
@@ -66,6 +66,7 @@ texts_by_status =
     ∷ (NO_ROOM, codes "the buffer is too short")
     ∷ (NOT_ASCENDING, codes "the labels of the dictionary do not ascend")
     ∷ (PATTERN_TOO_LONG, codes "the pattern has more than 63 bytes")
+    ∷ (UNKNOWN_SEARCH, codes "there is no such search")
     ∷ (FILE_TRUNCATED, codes "serialized cedar trie is truncated")
     ∷ (FILE_MAGIC, codes "input is not a cedarwood serialized trie")
     ∷ (FILE_VERSION, codes "unsupported cedarwood format version")

@@ -37,13 +37,19 @@ pub use Rattle.cedar_c.specs.Plans.{damage_of, format_if, IsErasurePlan, IsOpeni
 pub use Rattle.cedar_c.specs.Plans.{LacksChange, LacksRecord, MayCut}
 pub use Rattle.cedar_c.specs.Plans.{TellsWhy, store_status}
 pub use Rattle.cedar_c.specs.Readings.{shown_figure, shown_in, shown_layout, shown_tree}
-pub use Rattle.cedar_c.specs.Scans.{found_keywords, found_spot, found_spots, found_token}
-pub use Rattle.cedar_c.specs.Scans.{found_tokens, WritesOn, WritesPiece}
+pub use Rattle.cedar_c.specs.ScannerHandles.{scanner_in, shown_scanner_in}
+pub use Rattle.cedar_c.specs.ScannerLending.{as_shown_scanner, LendsSeenScanner}
+pub use Rattle.cedar_c.specs.Scanners.{IsFullAt, scanned_tree, scanner_by, WritesFound}
+pub use Rattle.cedar_c.specs.Scans.{found_keyword, found_keywords, found_spot, found_spots}
+pub use Rattle.cedar_c.specs.Scans.{found_token, found_tokens, WritesOn, WritesPiece}
 pub use Rattle.cedar_c.specs.Shrinks.{Shrinks}
 pub use Rattle.cedar_c.specs.Status.{position_of, status_of, status_text}
 pub use Rattle.cedar_c.specs.Status.{TellsFault, TellsPosition}
 pub use Rattle.cedar_c.specs.Stores.{HoldsFront, HoldsPart, RefusesAll}
 pub use Rattle.cedar_c.specs.Updates.{KeepsSlots, StoresValue}
+pub use Rattle.cedar_c.specs.declared.any_scanner.AnyScanner.{AnyScanner}
+pub use Rattle.cedar_scan.specs.Words.{earliest_behind, ending_behind, IsHeight, keys_ending}
+pub use Rattle.cedar_scan.specs.Words.{leftmost_from, slot_in}
 pub use Rattle.either_layout.specs.declared.any.AnyCedar.{AnyCedar}
 pub use Rattle.cedarwood.specs.Format.{header_answer}
 pub use Rattle.cedarwood.specs.Refusal.{refusal_of}

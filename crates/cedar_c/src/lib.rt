@@ -5,6 +5,7 @@
 //! read take the same words as a [`reading::Reading`].
 #![tactic(auto)]
 
+mod any_scanner;
 mod below;
 mod best;
 mod builds;
@@ -17,6 +18,7 @@ mod files;
 mod grouped;
 mod handle;
 mod held;
+mod held_scanner;
 mod keys;
 mod keywords;
 mod loose;
@@ -30,7 +32,10 @@ mod reading;
 mod records;
 mod room;
 mod save;
+mod scanners;
 mod scans;
+mod searches;
 mod shown;
+mod shown_scanner;
 mod status;
 mod walks;

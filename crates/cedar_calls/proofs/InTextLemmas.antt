@@ -7,6 +7,7 @@ use Rattle.cedar_words.specs.Cuts.{character_price}
 use Rattle.cedar_words.specs.Lattice.{edges_from}
 use Rattle.cedar_words.specs.Models.{IsBestCut}
 use Rattle.cedar_words.specs.ModelSteps.{AreCostsBy, AreCostsUpTo, best_by}
+use Rattle.cedar_words.specs.Ranked.{lists_of}
 use Rattle.cedar_words.specs.Runs.{byte_run, cost_in_table}
 use Rattle.cedar_words.specs.Tokens.{Token}
 use Rattle.cedar_words.specs.declared.models.UnknownRun.{UnknownRun}
@@ -14,15 +15,16 @@ use Rattle.cedar_words.proofs.ModelCutLemmas.{steps_best}
 use Rattle.cedar_words.proofs.ModelStepLemmas.{costs_up}
 use Rattle.cedar_words.proofs.OneLemmas.{best_same}
 use Rattle.cedar_calls.specs.Agreement.{AreSameTables, IsSameTextQuery}
-use Rattle.cedar_calls.specs.Plain.{cut_into, edged, found, IsMet, listed, plain_text_reply, PlainAnswer, spotted, text_says}
+use Rattle.cedar_calls.specs.Plain.{cut_in_turn, cut_into, edged, found, IsMet, listed, plain_text_reply, PlainAnswer, spotted, text_says}
 use Rattle.cedar_calls.specs.Replies.{IsTextReply}
-use Rattle.cedar_calls.specs.Texts.{costs_by_model, model_cut_of, run_in_table}
+use Rattle.cedar_calls.specs.Texts.{costs_by_model, model_cut_of, model_cuts_of, run_in_table}
 use Rattle.cedar_calls.specs.declared.call.TextQuery.{TextQuery}
 use Rattle.cedar_calls.specs.declared.call.TextQuery.TheVariants as text_query
 use Rattle.cedar_calls.specs.declared.model.ModelTables.{ModelTables}
 use Rattle.cedar_calls.specs.declared.answer.TextReply.{TextReply}
 use Rattle.cedar_calls.specs.declared.answer.TextReply.TheVariants as text_reply
 use Rattle.cedar_calls.proofs.CollectLemmas.{short}
+use Rattle.cedar_calls.proofs.FewCutsLemmas.{same_cuts}
 
 module _ (t : Tree) (key : ℤ → ℕ) (run : ℕ → UnknownRun) (text : List ℕ) where
   -- the costs that the tree decides are those of the best steps
@@ -63,6 +65,8 @@ text_goes t text text_query.Overlapping (text_reply.Keys (Ok v)) h met = ap spot
 text_goes t text text_query.Overlapping (text_reply.Keys (Err e)) h met = absurd (met (short e h.0))
 text_goes t text text_query.Earliest (text_reply.Keys (Ok v)) h met = ap spotted h
 text_goes t text text_query.Earliest (text_reply.Keys (Err e)) h met = absurd (met (short e h.0))
+text_goes t text (text_query.Leftmost kind) (text_reply.Keys (Ok v)) h met = ap spotted h
+text_goes t text (text_query.Leftmost kind) (text_reply.Keys (Err e)) h met = absurd (met (short e h.0))
 text_goes t text (text_query.Cheapest unknown) (text_reply.Tokens (Ok v)) h met = ap cut_into (same_cut t unsigned_abs (λ _. byte_run unknown) text v.items h.best)
 text_goes t text (text_query.Cheapest unknown) (text_reply.Tokens (Err e)) h met = absurd (met (short e h.0))
 text_goes t text (text_query.CheapestByCharacters unknown) (text_reply.Tokens (Ok v)) h met =
@@ -71,6 +75,9 @@ text_goes t text (text_query.CheapestByCharacters unknown) (text_reply.Tokens (E
 text_goes t text (text_query.CheapestBy m) (text_reply.Tokens (Ok v)) h met =
     ap cut_into (same_cut t (cost_in_table m.costs.now m.beyond) (run_in_table m.runs.now m.beyond) text v.items h)
 text_goes t text (text_query.CheapestBy m) (text_reply.Tokens (Err e)) h met = absurd (met (short e h.0))
+text_goes t text (text_query.CheapestCuts m most) (text_reply.Cuts (Ok v)) h met =
+    ap cut_in_turn (same_cuts most t (cost_in_table m.costs.now m.beyond) (run_in_table m.runs.now m.beyond) text (lists_of v.items) h)
+text_goes t text (text_query.CheapestCuts m most) (text_reply.Cuts (Err e)) h met = absurd (met (short e h.0))
 text_goes t text (text_query.Lattice m) (text_reply.Edges (Ok v)) h met = ap edged h
 text_goes t text (text_query.Lattice m) (text_reply.Edges (Err e)) h met = absurd (met (short e h.0))
 text_goes t text q a h met = absurd h
@@ -86,5 +93,8 @@ by_tables say m n h =
 -- of the same question, wherever its tables lie, the tree says the same
 pub text_alike : (t : Tree) (text : List ℕ) (q r : TextQuery) → IsSameTextQuery q r → text_says t text q ≡ text_says t text r
 text_alike t text (text_query.CheapestBy m) (text_query.CheapestBy n) h = by_tables (λ key run. cut_into (model_cut_of t key run text)) m n h
+text_alike t text (text_query.CheapestCuts m most) (text_query.CheapestCuts n other) h =
+    by_tables (λ key run. cut_in_turn (model_cuts_of most t key run text)) m n h.0
+    ∙ ap (λ few. cut_in_turn (model_cuts_of few t (cost_in_table n.costs.now n.beyond) (run_in_table n.runs.now n.beyond) text)) h.1
 text_alike t text (text_query.Lattice m) (text_query.Lattice n) h = by_tables (λ key run. edged (edges_from t key run 0 text)) m n h
 text_alike t text q r h = ap (λ x. text_says t text x) h

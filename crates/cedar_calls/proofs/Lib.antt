@@ -4,6 +4,7 @@ mod PlaceLemmas
 mod CollectLemmas
 mod RunLemmas
 mod BufferLemmas
+mod FewCutsLemmas
 mod InTextLemmas
 mod PlainLemmas
 mod PlainRunLemmas

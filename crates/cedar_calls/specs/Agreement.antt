@@ -51,6 +51,7 @@ AreSameTables m n = (m.costs.now ≡ n.costs.now) × (m.beyond ≡ n.beyond) × 
 -- the same question about a text, wherever its tables lie
 abbrev pub IsSameTextQuery : TextQuery → TextQuery → Type 0
 IsSameTextQuery (text_query.CheapestBy m) (text_query.CheapestBy n) = AreSameTables m n
+IsSameTextQuery (text_query.CheapestCuts m most) (text_query.CheapestCuts n other) = AreSameTables m n × (most ≡ other)
 IsSameTextQuery (text_query.Lattice m) (text_query.Lattice n) = AreSameTables m n
 IsSameTextQuery q r = q ≡ r
 

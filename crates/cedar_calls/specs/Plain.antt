@@ -23,15 +23,15 @@ use Rattle.cedarwood.specs.Builds.{all_stored, first_fault}
 use Rattle.cedarwood.specs.Dictionary.{Dictionary}
 use Rattle.cedarwood.specs.Fault.{fault, IsShortage}
 use Rattle.cedarwood.specs.SortedInput.{sorted_fault}
-use Rattle.cedar_scan.specs.Words.{earliest, overlapping}
+use Rattle.cedar_scan.specs.Words.{earliest, leftmost, overlapping}
 use Rattle.cedar_words.specs.declared.edges.Edge.{Edge}
 use Rattle.cedar_words.specs.Runs.{cost_in_table}
 use Rattle.cedar_words.specs.Words.{byte_run, character_price, edges_from}
-use Rattle.cedar_words.specs.Words.{keywords_from, keywords_in, longest}
+use Rattle.cedar_words.specs.Words.{keywords_from, keywords_in, lists_of, longest}
 use Rattle.cedar_words.specs.Words.{segments, Spot, spots_from, Token, tokens_behind}
 use Rattle.cedar_calls.specs.Replies.{in_order}
 use Rattle.cedar_calls.specs.Runs.{IsRun}
-use Rattle.cedar_calls.specs.Texts.{model_cut_of, run_in_table}
+use Rattle.cedar_calls.specs.Texts.{model_cut_of, model_cuts_of, run_in_table}
 use Rattle.cedar_calls.specs.declared.call.Call.{Call}
 use Rattle.cedar_calls.specs.declared.call.Call.TheVariants as call
 use Rattle.cedar_calls.specs.declared.call.Change.{Change}
@@ -73,6 +73,7 @@ pub data PlainAnswer : Type 0 where
   ended : Option Entry → PlainAnswer
   worded : List (Option Entry) → PlainAnswer
   cut_into : List Token → PlainAnswer
+  cut_in_turn : List (List Token) → PlainAnswer
   spotted : List Spot → PlainAnswer
   edged : List Edge → PlainAnswer
   counted : ℕ → PlainAnswer
@@ -128,6 +129,7 @@ abbrev pub plain_text_reply : {A : Type 0} → TextReply A → PlainAnswer
 plain_text_reply (text_reply.Longest result) = found result
 plain_text_reply (text_reply.Fronts result) = plain_result (λ v. listed v.items) result
 plain_text_reply (text_reply.Tokens result) = plain_result (λ v. cut_into v.items) result
+plain_text_reply (text_reply.Cuts result) = plain_result (λ v. cut_in_turn (lists_of v.items)) result
 plain_text_reply (text_reply.Keys result) = plain_result (λ v. spotted v.items) result
 plain_text_reply (text_reply.Edges result) = plain_result (λ v. edged v.items) result
 
@@ -276,9 +278,12 @@ text_says tree text text_query.Matches = spotted (spots_from tree 0 text)
 text_says tree text (text_query.MatchesFrom place) = spotted (spots_from tree place (drop place text))
 text_says tree text text_query.Overlapping = spotted (overlapping tree text)
 text_says tree text text_query.Earliest = spotted (earliest tree text)
+text_says tree text (text_query.Leftmost kind) = spotted (leftmost kind tree text)
 text_says tree text (text_query.Cheapest unknown) = cut_into (model_cut_of tree unsigned_abs (λ _. byte_run unknown) text)
 text_says tree text (text_query.CheapestByCharacters unknown) = cut_into (model_cut_of tree unsigned_abs (λ place. byte_run (character_price unknown text place)) text)
 text_says tree text (text_query.CheapestBy model) = cut_into (model_cut_of tree (cost_in_table model.costs.now model.beyond) (run_in_table model.runs.now model.beyond) text)
+text_says tree text (text_query.CheapestCuts model most) =
+    cut_in_turn (model_cuts_of most tree (cost_in_table model.costs.now model.beyond) (run_in_table model.runs.now model.beyond) text)
 text_says tree text (text_query.Lattice model) = edged (edges_from tree (cost_in_table model.costs.now model.beyond) (run_in_table model.runs.now model.beyond) 0 text)
 
 -- what a question says of a state

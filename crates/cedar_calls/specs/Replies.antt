@@ -32,10 +32,10 @@ use Rattle.cedar_calls.specs.declared.answer.BufferReply.TheVariants as buffer_r
 use Rattle.cedar_calls.specs.declared.answer.TextReply.{TextReply}
 use Rattle.cedar_calls.specs.declared.answer.TextReply.TheVariants as text_reply
 use Rattle.cedar_calls.specs.Texts.{IsCheapCut, run_in_table}
-use Rattle.cedar_scan.specs.Words.{earliest, overlapping}
+use Rattle.cedar_scan.specs.Words.{earliest, leftmost, overlapping}
 use Rattle.cedar_words.specs.Runs.{cost_in_table}
-use Rattle.cedar_words.specs.Words.{character_price, edges_from, IsBestCut}
-use Rattle.cedar_words.specs.Words.{keywords_from, keywords_in, longest}
+use Rattle.cedar_words.specs.Words.{character_price, edges_from, IsBestCut, IsBestCuts}
+use Rattle.cedar_words.specs.Words.{keywords_from, keywords_in, lists_of, longest}
 use Rattle.cedar_words.specs.Words.{segments, spots_from, tokens_behind}
 
 -- what was asked for, or there was no memory to collect it
@@ -86,6 +86,10 @@ pub record AreStats (layout : LayoutKind) (d : Dictionary) (stats : MemoryStats)
 abbrev pub CollectsAll : {X A : Type 0} → Result (Vec X A) CedarError → List X → Type 0
 CollectsAll result items = CollectsSome result (λ found. found.items ≡ items) items
 
+-- what was asked for, or there was no memory to collect it; this only if some are wanted
+abbrev pub CollectsFew : {X : Type 0} → Result X CedarError → (X → Type 0) → ℕ → Type 0
+CollectsFew result P most = MatchResult result P (λ e. (e ≡ Memory) × (0 < most))
+
 -- what is returned of the entries of a tree where keys are written into a buffer: one that has no room is asked for no memory, and one that
 -- has room for the key is enough for the entry at an end
 abbrev pub IsBufferReply : {A : Type 0} → Tree → BufferQuery → BufferReply A → Type 0
@@ -114,11 +118,14 @@ IsTextReply tree text text_query.Matches (text_reply.Keys result) = CollectsAll 
 IsTextReply tree text (text_query.MatchesFrom place) (text_reply.Keys result) = CollectsAll result (spots_from tree place (drop place text))
 IsTextReply tree text text_query.Overlapping (text_reply.Keys result) = CollectsSome result (λ found. found.items ≡ overlapping tree text) text
 IsTextReply tree text text_query.Earliest (text_reply.Keys result) = CollectsSome result (λ found. found.items ≡ earliest tree text) text
+IsTextReply tree text (text_query.Leftmost kind) (text_reply.Keys result) = CollectsSome result (λ found. found.items ≡ leftmost kind tree text) text
 IsTextReply tree text (text_query.Cheapest unknown) (text_reply.Tokens result) = CollectsSome result (λ found. IsCheapCut tree (λ _. unknown) text found.items) text
 IsTextReply tree text (text_query.CheapestByCharacters unknown) (text_reply.Tokens result) =
     CollectsSome result (λ found. IsCheapCut tree (character_price unknown text) text found.items) text
 IsTextReply tree text (text_query.CheapestBy model) (text_reply.Tokens result) =
     CollectsSome result (λ found. IsBestCut tree (cost_in_table model.costs.now model.beyond) (run_in_table model.runs.now model.beyond) text found.items) text
+IsTextReply tree text (text_query.CheapestCuts model most) (text_reply.Cuts result) =
+    CollectsFew result (λ found. IsBestCuts tree (cost_in_table model.costs.now model.beyond) (run_in_table model.runs.now model.beyond) text most (lists_of found.items)) most
 IsTextReply tree text (text_query.Lattice model) (text_reply.Edges result) =
     CollectsAll result (edges_from tree (cost_in_table model.costs.now model.beyond) (run_in_table model.runs.now model.beyond) 0 text)
 IsTextReply tree text q r = ⊥

@@ -1,9 +1,11 @@
 -- Cuts of a text of least cost, and the one that a tree and a model decide.
 use Rattle.std.specs.Prelude.{◌^◌, ◌-◌, ◌<◌, ℕ, zero, suc, ℤ, unsigned_abs, List, [], ◌∷◌, ◌++◌}
-use Rattle.std.specs.Prelude.{length, drop, slice_index_or}
-use Rattle.cedar_words.specs.Words.{best_by, best_cut_by, byte_run, front, IsAheadCapped, IsBestCut}
-use Rattle.cedar_words.specs.Words.{IsCheapestBy, IsCut, IsLeastCapped, Token, Tree}
+use Rattle.std.specs.Prelude.{length, drop, slice_index_or, take}
+use Rattle.cedar_words.specs.Words.{best_by, best_cut_by, best_ways, byte_run, front, IsAheadCapped}
+use Rattle.cedar_words.specs.Words.{IsBestCut, IsCheapestBy, IsCut, IsLeastCapped, no_way, Token}
+use Rattle.cedar_words.specs.Words.{Tree, ways_along}
 use Rattle.cedar_words.specs.declared.models.UnknownRun.{UnknownRun}
+use Rattle.cedar_words.specs.declared.ranked.Way.{Way}
 
 -- a cut that costs no more than any and is ahead of each that costs as little, where a key costs its number and a byte without one what is
 -- said of its position, and sums above 2 ^ 64 - 1 count as 2 ^ 64 - 1. By that model it is the best cut
@@ -28,3 +30,14 @@ costs_by_model tree key run text (suc left) =
 -- the tokens of the best cut by a model
 abbrev pub model_cut_of : Tree → (ℤ → ℕ) → (ℕ → UnknownRun) → List ℕ → List Token
 model_cut_of tree key run text = best_cut_by tree key run text (costs_by_model tree key run text (length text))
+
+-- by a model, the best ways over the last bytes of a text, none of them, one, and so on up to so many
+abbrev pub ways_by_model : ℕ → Tree → (ℤ → ℕ) → (ℕ → UnknownRun) → List ℕ → ℕ → List (List Way)
+ways_by_model most tree key run text zero = take most (no_way ∷ []) ∷ []
+ways_by_model most tree key run text (suc left) =
+    let table = ways_by_model most tree key run text left in
+    table ++ best_ways most key table (run (length text - suc left)) (front tree (drop (length text - suc left) text)) ∷ []
+
+-- the tokens of the best cuts by a model, so many at most
+abbrev pub model_cuts_of : ℕ → Tree → (ℤ → ℕ) → (ℕ → UnknownRun) → List ℕ → List (List Token)
+model_cuts_of most tree key run text = ways_along (ways_by_model most tree key run text (length text)) (length text)

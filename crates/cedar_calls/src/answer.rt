@@ -116,6 +116,8 @@ pub enum TextReply<A: Allocator> {
     Fronts(Result<Vec<(i32, usize), A>, CedarError>),
     /// For each token where it begins, how many bytes it has, and its value if it has one.
     Tokens(Result<Vec<(usize, usize, Option<i32>), A>, CedarError>),
+    /// The tokens of each cut.
+    Cuts(Result<Vec<Vec<(usize, usize, Option<i32>), A>, A>, CedarError>),
     /// For each key in the text where it begins, how many bytes it has, and its value.
     Keys(Result<Vec<(usize, usize, i32), A>, CedarError>),
     /// The tokens that cuts may have, with their costs.

@@ -1,6 +1,7 @@
 //! Calls as values.
 
 use crate::ModelTables;
+use cedar_scan::MatchKind;
 use cedarwood::CedarBuilder;
 
 /// A call. A dictionary is named by its index: those that a run begins with come first, and each further one comes after all others. If
@@ -177,12 +178,16 @@ pub enum TextQuery<'a> {
     Overlapping,
     /// Which of those that don't overlap end first?
     Earliest,
+    /// Which of those that don't overlap come first from left to right, of those that begin at a position the one of this kind?
+    Leftmost { kind: MatchKind },
     /// Which tokens cost the least together, if each byte without a value costs this?
     Cheapest { unknown: u32 },
     /// Which tokens do, if each character without a value costs this once?
     CheapestByCharacters { unknown: u32 },
     /// Which tokens do by a model of costs?
     CheapestBy { model: ModelTables<'a> },
+    /// Which cuts by a model are the best, in their order, so many at most?
+    CheapestCuts { model: ModelTables<'a>, most: usize },
     /// Which tokens may cuts by a model have, and what do they cost?
     Lattice { model: ModelTables<'a> },
 }

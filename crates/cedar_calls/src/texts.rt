@@ -1,17 +1,18 @@
 //! Replies about texts, by the keys of a dictionary.
 
 ghost use Rattle.std.specs.Prelude.{◌≡◌, IfOk};
-ghost use Rattle.cedar_calls.specs.Words.{character_price, CollectsAll, CollectsSome};
-ghost use Rattle.cedar_calls.specs.Words.{cost_in_table, earliest, IsBestCut, IsCheapCut};
-ghost use Rattle.cedar_calls.specs.Words.{IsTextReply, overlapping, run_in_table};
+ghost use Rattle.cedar_calls.specs.Words.{character_price, CollectsAll, CollectsFew, CollectsSome};
+ghost use Rattle.cedar_calls.specs.Words.{cost_in_table, earliest, IsBestCut, IsBestCuts};
+ghost use Rattle.cedar_calls.specs.Words.{IsCheapCut, IsTextReply, leftmost, lists_of, overlapping};
+ghost use Rattle.cedar_calls.specs.Words.{run_in_table};
 
 use crate::reply::add;
 use crate::{ModelTables, TextQuery, TextReply};
-use cedar_scan::{Earliest, Overlapping, Placed, Scanner};
+use cedar_scan::{Earliest, Leftmost, LeftmostScanner, MatchKind, Overlapping, Placed, Scanner};
 use cedar_words::{
     AllMatches, Edge, Edges, Fronts, Keywords, LongestPrefix, Segments, cheapest, cheapest_by,
-    cheapest_by_characters, lattice, leftmost_longest, leftmost_longest_from, matches,
-    matches_from, segment, segment_from,
+    cheapest_by_characters, cheapest_cuts, lattice, leftmost_longest, leftmost_longest_from,
+    matches, matches_from, segment, segment_from,
 };
 use cedarwood::{CedarError, Layout, PrefixIter, Trie};
 use std::alloc::{AllocError, Allocator};
@@ -45,6 +46,9 @@ pub(crate) fn text_reply<L: Layout, const SLOTS: usize, A: Allocator + Copy>(
         }
         TextQuery::Overlapping => TextReply::Keys(all_ends(trie, alloc, text)),
         TextQuery::Earliest => TextReply::Keys(first_ends(trie, alloc, text)),
+        TextQuery::Leftmost { kind } => {
+            TextReply::Keys(first_beginnings(trie, alloc, text, *kind))
+        }
         TextQuery::Cheapest { unknown } => {
             TextReply::Tokens(least_cut(trie, alloc, text, *unknown))
         }
@@ -52,6 +56,9 @@ pub(crate) fn text_reply<L: Layout, const SLOTS: usize, A: Allocator + Copy>(
             TextReply::Tokens(least_cut_by_characters(trie, alloc, text, *unknown))
         }
         TextQuery::CheapestBy { model } => TextReply::Tokens(best_cut(trie, alloc, text, model)),
+        TextQuery::CheapestCuts { model, most } => {
+            TextReply::Cuts(best_cuts(trie, alloc, text, model, *most))
+        }
         TextQuery::Lattice { model } => {
             TextReply::Edges(collect_edges(alloc, lattice(trie, text, model)))
         }
@@ -144,6 +151,22 @@ fn first_ends<L: Layout, const SLOTS: usize, A: Allocator + Copy>(
     Ok(collect_first_ends(alloc, scanner.earliest(text))?)
 }
 
+/// The keys in a text that don't overlap, from left to right. A scanner is made only if the text has a byte.
+fn first_beginnings<L: Layout, const SLOTS: usize, A: Allocator + Copy>(
+    trie: &Trie<L, SLOTS, A>,
+    alloc: A,
+    text: &[u8],
+    kind: MatchKind,
+) -> Result<Vec<(usize, usize, i32), A>, CedarError>
+    ensures { CollectsSome result (λ found. found.items ≡ leftmost kind trie.now.state.tree text.now) text.now }
+{
+    if text.is_empty() {
+        return Ok(Vec::new(alloc));
+    }
+    let scanner = LeftmostScanner::new(trie, kind, alloc)?;
+    Ok(collect_beginnings(alloc, scanner.leftmost(text))?)
+}
+
 /// The keys that are left of those by their ends.
 fn collect_ends<T: Placed, A: Allocator + Copy>(
     alloc: A,
@@ -162,6 +185,20 @@ fn collect_ends<T: Placed, A: Allocator + Copy>(
 fn collect_first_ends<T: Placed, A: Allocator + Copy>(
     alloc: A,
     spots: Earliest<'_, T>,
+) -> Result<Vec<(usize, usize, i32), A>, AllocError>
+    ensures { IfOk result (λ found. found.items ≡ spots.entry.rest) }
+{
+    let mut found = Vec::new(alloc);
+    for spot in spots {
+        add(&mut found, spot)?;
+    }
+    Ok(found)
+}
+
+/// The keys that are left of those from left to right.
+fn collect_beginnings<T: Placed, A: Allocator + Copy>(
+    alloc: A,
+    spots: Leftmost<'_, T>,
 ) -> Result<Vec<(usize, usize, i32), A>, AllocError>
     ensures { IfOk result (λ found. found.items ≡ spots.entry.rest) }
 {
@@ -229,4 +266,20 @@ fn best_cut<L: Layout, const SLOTS: usize, A: Allocator + Copy>(
         return Ok(Vec::new(alloc));
     }
     Ok(cheapest_by(alloc, trie, text, model)?)
+}
+
+/// The tokens of the best cuts by a model. They are looked for only if some are wanted.
+fn best_cuts<L: Layout, const SLOTS: usize, A: Allocator + Copy>(
+    trie: &Trie<L, SLOTS, A>,
+    alloc: A,
+    text: &[u8],
+    model: &ModelTables<'_>,
+    most: usize,
+) -> Result<Vec<Vec<(usize, usize, Option<i32>), A>, A>, CedarError>
+    ensures { CollectsFew result (λ cuts. IsBestCuts trie.now.state.tree (cost_in_table model.now.costs.now model.now.beyond) (run_in_table model.now.runs.now model.now.beyond) text.now most (lists_of cuts.items)) most }
+{
+    if most == 0 {
+        return Ok(Vec::new(alloc));
+    }
+    Ok(cheapest_cuts(alloc, trie, text, model, most)?)
 }

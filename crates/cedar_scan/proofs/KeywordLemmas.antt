@@ -1,5 +1,5 @@
 -- How a search for keywords goes on, and what it gives.
-use Rattle.std.proofs.Common.{◌≡◌, inl, inr, ℕ, suc, ◌+◌, ◌-◌, ◌*◌, ◌<◌, ◌≤◌, Bool, true, false, cond, List, [], ◌∷◌, ◌++◌, add-one, append_assoc, drop, get_or, length, length-append, map, take, Some, None, refl, sym, ap, subst, ◌∙◌, arith}
+use Rattle.std.proofs.Common.{◌≡◌, inl, inr, ℕ, suc, ◌+◌, ◌-◌, ◌*◌, ◌<◌, ◌≤◌, Bool, true, false, cond, List, [], ◌∷◌, ◌++◌, add-one, append_assoc, drop, get_or, length, length-append, map, min, take, Some, None, refl, sym, ap, subst, ◌∙◌, arith}
 use Rattle.std.specs.List.{All}
 use Rattle.std.proofs.Math.Seq.{drop-cons, drop-length, take-suc}
 use Rattle.std.proofs.lemmas.List.{append-nil, drop-append-le, drop_all, length-take-le}
@@ -309,3 +309,31 @@ module _ (t : Tree) (slot_of : List ℕ → ℕ) (states : List State) (falls : 
 
   pub first_tests : tests_left states text (record { place = 0; slot = 0; base = 0; next = 0; last = 0 }) ≡ 2 * length text
   first_tests = let none = root_deep in omega (arith, none)
+
+  -- ---- a position to begin at
+
+  module _ (start : ℕ) (inside : start ≤ length text) where
+    abbrev pub cursor_at : KeywordCursor
+    cursor_at = record { place = start; slot = 0; base = 0; next = 0; last = 0 }
+
+    pub at_position : IsKeywordCursor t slot_of states popped text cursor_at
+    at_position = record {
+      path = [];
+      node = refl;
+      at = sym h.placing.root;
+      here = let all : length (take start text) - 0 ≡ length (take start text) = omega arith in sym (ap (λ n. drop n (take start text)) all ∙ drop-length (take start text));
+      short = omega arith;
+      within = inside;
+      range = omega arith;
+      inside = omega arith;
+      fits = All-nil (λ (p : Spot). 0 + p.0 + p.1 ≤ start);
+    }
+
+    pub position_left : keywords_left t states popped text cursor_at ≡ keywords_from t start (drop start text)
+    unfolding at_position
+    position_left =
+        let begin : start - 0 ≡ start = omega arith in
+        left_alone cursor_at at_position refl ∙ ap (λ n. keywords_from t n (drop start text)) begin
+
+    pub position_tests : (place : ℕ) → start ≡ min place (length text) → tests_left states text cursor_at ≡ 2 * (length text - place)
+    position_tests place e = let none = root_deep in omega (arith, none, e)

@@ -1,3 +1,4 @@
+pub mod BehindLemmas
 pub mod EarliestLemmas
 pub mod EndOrderLemmas
 pub mod FallLemmas
@@ -11,6 +12,7 @@ pub mod NodesLemmas
 pub mod OccurrenceLemmas
 pub mod PlainLemmas
 pub mod PreferredLemmas
+pub mod ResumedLemmas
 pub mod ScanLemmas
 pub mod StepLemmas
 pub mod StreamLemmas

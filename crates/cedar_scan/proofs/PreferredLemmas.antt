@@ -1,14 +1,15 @@
 -- The keys that a kind of match can take, and what is found by them.
-use Rattle.std.proofs.Common.{◌≡◌, ℕ, zero, suc, ◌+◌, ◌-◌, ◌<◌, true, false, cond, ◌&&◌, ◌||◌, ◌==◌, ℤ, List, [], ◌∷◌, ◌++◌, get_or, length, take, Option, Some, None, option_map, refl, sym, ap, ◌∙◌, arith}
+use Rattle.std.proofs.Common.{◌≡◌, ℕ, zero, suc, ◌+◌, ◌-◌, ◌<◌, true, false, cond, ◌&&◌, ◌||◌, ◌==◌, ℤ, List, [], ◌∷◌, ◌++◌, drop, get_or, length, take, Option, Some, None, option_map, refl, sym, ap, ◌∙◌, arith}
 use Rattle.std.specs.Prelude.{int_le}
 use Rattle.std.specs.List.{cons_option, filter_map, last_or, range_with_len}
 use Rattle.std.proofs.lemmas.List.{take_more}
 use Rattle.cedar_tree.specs.Tree.{child, Forest, has_label, none, number_at, subtree, Tree}
 use Rattle.cedar_tree.specs.Queries.{found_at}
-use Rattle.cedar_words.specs.Spots.{keyword_of, keywords_in, keywords_of, spot, Spot}
+use Rattle.cedar_words.specs.Spots.{keyword_of, keywords_from, keywords_in, keywords_of, spot, Spot}
 use Rattle.cedar_words.specs.Tokens.{found_number, len_of, longest, tokens_behind}
 use Rattle.cedar_scan.specs.Automata.{IsPlacing}
 use Rattle.cedar_scan.specs.Preferred.{first_below, first_tree, if_less, least_first, least_on, leftmost, leftmost_behind, lesser, key_for, keys_for}
+use Rattle.cedar_scan.specs.Resumed.{leftmost_from}
 use Rattle.cedar_scan.specs.Suffixes.{is_node}
 use Rattle.cedar_scan.specs.declared.kind.MatchKind.{MatchKind}
 use Rattle.cedar_scan.specs.declared.kind.MatchKind.TheVariants.{LeftmostFirst, LeftmostLongest}
@@ -126,3 +127,7 @@ keywords_behind kind t zero place (b ∷ rest) =
 
 pub keywords_are_leftmost : (kind : MatchKind) (t : Tree) (text : List ℕ) → keywords_in (keys_for kind t) text ≡ leftmost kind t text
 keywords_are_leftmost kind t text = keywords_behind kind t 0 0 text
+
+-- from any position on
+pub keywords_from_are_leftmost : (kind : MatchKind) (t : Tree) (place : ℕ) (text : List ℕ) → keywords_from (keys_for kind t) place (drop place text) ≡ leftmost_from kind t place text
+keywords_from_are_leftmost kind t place text = keywords_behind kind t 0 place (drop place text)

@@ -229,7 +229,7 @@ given_first t slot_of states before offset piece old now found new same gives = 
 
 -- ---- where a scan begins
 
-no_key_yet : (t : Tree) (slot_of : List ℕ → ℕ) (states : List State) → IsAutomaton t slot_of states → (read : List ℕ) → pending_key states read 0 ≡ []
+pub no_key_yet : (t : Tree) (slot_of : List ℕ → ℕ) (states : List State) → IsAutomaton t slot_of states → (read : List ℕ) → pending_key states read 0 ≡ []
 no_key_yet t slot_of states h read =
     let deep : (state_at states 0).depth ≡ 0 = ap (λ s. (state_at states s).depth) (sym h.placing.root) ∙ h.goto.depth [] refl in
     let all : length read - (state_at states 0).depth ≡ length read = omega (arith, deep) in

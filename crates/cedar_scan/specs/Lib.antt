@@ -6,6 +6,7 @@ pub mod Laws
 pub mod Leftmost
 pub mod Plain
 pub mod Preferred
+pub mod Resumed
 pub mod Scanners
 pub mod Scans
 pub mod Streams

@@ -13,6 +13,7 @@ pub use Rattle.cedar_scan.specs.Leftmost.{popped_at}
 pub use Rattle.cedar_scan.specs.Plain.{all_beginning, OccursIn}
 pub use Rattle.cedar_scan.specs.Preferred.{first_node, first_tree, FirstIsLongestLeft, if_less}
 pub use Rattle.cedar_scan.specs.Preferred.{keys_for, least_in, leftmost, lesser, LongestAreKeywords}
+pub use Rattle.cedar_scan.specs.Resumed.{earliest_behind, ending_behind, IsHeight, leftmost_from}
 pub use Rattle.cedar_scan.specs.Scanners.{LeftmostKeys, leftmost_code}
 pub use Rattle.cedar_scan.specs.Scans.{all_left, CostsNext, CostsStep, GivesNextFound, GivesPending}
 pub use Rattle.cedar_scan.specs.Scans.{GoesOnByByte, IsCursor, steps_left}
@@ -22,7 +23,7 @@ pub use Rattle.cedar_scan.specs.Suffixes.{failure, held_suffix, is_node, key_suf
 pub use Rattle.cedar_scan.specs.Suffixes.{overlapping, Occurrence, all_ending}
 pub use Rattle.cedar_scan.specs.Tables.{slot_in}
 pub use Rattle.cedar_scan.specs.Walks.{scan_code, ScanLeft}
-pub use Rattle.cedar_words.specs.Spots.{keywords_in}
+pub use Rattle.cedar_words.specs.Spots.{keywords_from, keywords_in}
 pub use Rattle.cedarwood.specs.Words.{IsBlankOf, IsWellFormed, Tree, tree_of}
 pub use Rattle.std.specs.Iterator.{item_count, YieldsFirst}
 pub use Rattle.std.specs.List.Sorted.{IsPermutation}

@@ -1,9 +1,10 @@
 //! Keys in a text that don't overlap, by their ends.
 
-ghost use Rattle.std.specs.Prelude.{◌*◌, ◌+◌, ◌<◌, ◌^◌, ◌≡◌, ◌≤◌, if◌then◌else◌, [], is_some};
+ghost use Rattle.std.specs.Prelude.{◌*◌, ◌+◌, ◌-◌, ◌<◌, ◌^◌, ◌≡◌, ◌≤◌, if◌then◌else◌, [], is_some};
 ghost use Rattle.std.specs.Prelude.{length, ℕ, ⊤};
-ghost use Rattle.cedar_scan.specs.Words.{CostsFirst, earliest, earliest_from, GivesEarliest};
-ghost use Rattle.cedar_scan.specs.Words.{IsAutomaton, IsBlankOf, item_count, scan_code, ScanLeft};
+ghost use Rattle.cedar_scan.specs.Words.{CostsFirst, earliest, earliest_behind, earliest_from};
+ghost use Rattle.cedar_scan.specs.Words.{GivesEarliest, IsAutomaton, IsBlankOf, item_count};
+ghost use Rattle.cedar_scan.specs.Words.{scan_code, ScanLeft};
 ghost use Rattle.cedar_scan.specs.Words.{YieldsFirst};
 
 use crate::placed::Placed;
@@ -79,6 +80,21 @@ impl<'a, T: Placed> Earliest<'a, T> {
             states,
             text,
             offset: 0,
+        }
+    }
+
+    // Before the byte at a position of the text.
+    pub(crate) fn behind(trie: &'a T, states: &'a [State], text: &'a [u8], place: usize) -> Self
+        requires { IsAutomaton (T.tree trie.now) (T.slot_of trie.now) states.now }
+        ensures rest { result.rest ≡ earliest_behind (T.tree trie.now) place text.now }
+        ensures steps { result.steps ≡ 2 * (length text.now - place) }
+    {
+        let offset = place.min(text.len());
+        Earliest {
+            trie,
+            states,
+            text: &text[offset..],
+            offset,
         }
     }
 

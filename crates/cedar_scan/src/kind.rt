@@ -1,7 +1,7 @@
 //! Which of the keys that begin at one position counts.
 
 /// Which of the keys that begin at one position a leftmost search takes. The names are those of the crate aho-corasick.
-#[derive(Clone, Copy, PartialEq, Eq)]
+#[derive(Clone, Copy, Debug, PartialEq, Eq)]
 pub enum MatchKind {
     /// The longest.
     LeftmostLongest,

@@ -1,10 +1,11 @@
 //! Leftmost matches of a text: keys that don't overlap, of those that begin first the longest.
 
-ghost use Rattle.std.specs.Prelude.{◌*◌, ◌+◌, ◌≡◌, ◌≤◌, ◌≢◌, length, ⊤};
+ghost use Rattle.std.specs.Prelude.{◌*◌, ◌+◌, ◌-◌, ◌≡◌, ◌≤◌, ◌≢◌, drop, length, ⊤};
 ghost use Rattle.cedar_scan.specs.Words.{CantGoOn, ScansOn, ScansOnOrEnds, IsBlankOf};
 ghost use Rattle.cedar_scan.specs.Words.{IsKeywordAutomaton, IsKeywordCursor, item_count};
 ghost use Rattle.cedar_scan.specs.Words.{keyword_code, KeywordsLeft};
-ghost use Rattle.cedar_scan.specs.Words.{keywords_in, keywords_left, tests_left, YieldsFirst};
+ghost use Rattle.cedar_scan.specs.Words.{keywords_from, keywords_in, keywords_left, tests_left};
+ghost use Rattle.cedar_scan.specs.Words.{YieldsFirst};
 
 use crate::falls::{Fall, Popped};
 use crate::placed::Placed;
@@ -183,6 +184,35 @@ impl<'a, T: Placed> Leftmost<'a, T> {
             text,
             cursor: KeywordCursor {
                 place: 0,
+                slot: 0,
+                base: 0,
+                next: 0,
+                last: 0,
+            },
+        }
+    }
+
+    // Before the byte at a position of the text.
+    pub(crate) fn behind(
+        trie: &'a T,
+        states: &'a [State],
+        falls: &'a [Fall],
+        popped: &'a [Popped],
+        text: &'a [u8],
+        place: usize,
+    ) -> Self
+        requires { IsKeywordAutomaton (T.tree trie.now) (T.slot_of trie.now) states.now falls.now popped.now }
+        ensures rest { result.rest ≡ keywords_from (T.tree trie.now) place (drop place text.now) }
+        ensures steps { result.steps ≡ 2 * (length text.now - place) }
+    {
+        Leftmost {
+            trie,
+            states,
+            falls,
+            popped,
+            text,
+            cursor: KeywordCursor {
+                place: place.min(text.len()),
                 slot: 0,
                 base: 0,
                 next: 0,

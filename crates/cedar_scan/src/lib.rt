@@ -1,7 +1,8 @@
 //! A text searched for the keys of a dictionary in linear time.
 //!
-//! In the examples `rt` is the program's runtime, `cedar` a new dictionary, `scanner` the scanner of one with the keys `he`, `she` and `hers`
-//! and the values 1, 2 and 3 if it isn't made there, `longest` one for its longest leftmost matches, and `ticks` a count.
+//! In the examples `rt` is the program's runtime, `cedar` a new dictionary, `scanner` the scanner of one with the keys `he`, `she` and
+//! `hers` and the values 1, 2 and 3 if it isn't made there, `longest` one for its longest leftmost matches, and `ticks` a count. `owned` is
+//! a scanner that owns the dictionary with these three keys, for all matches or for the longest leftmost ones.
 #![tactic(auto)]
 
 mod build;
@@ -13,6 +14,8 @@ mod leftmost;
 mod leftmost_scanner;
 mod nodes;
 mod overlapping;
+mod owned;
+mod owned_leftmost;
 mod placed;
 mod preferred;
 mod scan;
@@ -29,6 +32,8 @@ pub use laws::{
 pub use leftmost::Leftmost;
 pub use leftmost_scanner::LeftmostScanner;
 pub use overlapping::Overlapping;
+pub use owned::OwnedScanner;
+pub use owned_leftmost::{OwnedKeys, OwnedLeftmostScanner};
 pub use placed::Placed;
 pub use preferred::PreferredKeys;
 pub use scanner::Scanner;

@@ -1,8 +1,9 @@
 //! All keys in a text, by their ends.
 
-ghost use Rattle.std.specs.Prelude.{◌*◌, ◌+◌, ◌≡◌, ◌≤◌, [], if◌then◌else◌, is_some, length, ⊤};
-ghost use Rattle.cedar_scan.specs.Words.{IsAutomaton, IsBlankOf, IsCursor, item_count, overlapping};
-ghost use Rattle.cedar_scan.specs.Words.{scan_code, ScanLeft, all_left, steps_left, YieldsFirst};
+ghost use Rattle.std.specs.Prelude.{◌*◌, ◌+◌, ◌-◌, ◌≡◌, ◌≤◌, [], if◌then◌else◌, is_some, length, take, ⊤};
+ghost use Rattle.cedar_scan.specs.Words.{all_left, ending_behind, held_suffix, IsAutomaton};
+ghost use Rattle.cedar_scan.specs.Words.{IsBlankOf, IsCursor, item_count, overlapping, scan_code};
+ghost use Rattle.cedar_scan.specs.Words.{ScanLeft, steps_left, YieldsFirst};
 
 use crate::placed::Placed;
 use crate::scan::{Cursor, next_found};
@@ -53,6 +54,32 @@ impl<'a, T: Placed> Overlapping<'a, T> {
             cursor: Cursor {
                 place: 0,
                 state: 0,
+                pending: 0,
+            },
+        }
+    }
+
+    // Behind so many bytes of the text. The longest suffix of these that leads to a node has this slot.
+    pub(crate) fn behind(
+        trie: &'a T,
+        states: &'a [State],
+        text: &'a [u8],
+        place: usize,
+        state: usize,
+    ) -> Self
+        requires automaton { IsAutomaton (T.tree trie.now) (T.slot_of trie.now) states.now }
+        requires place { place ≤ length text.now }
+        requires state { state ≡ T.slot_of trie.now (held_suffix (T.tree trie.now) (take place text.now)) }
+        ensures rest { result.rest ≡ ending_behind (T.tree trie.now) place text.now }
+        ensures steps { result.steps ≤ place + 2 * (length text.now - place) }
+    {
+        Overlapping {
+            trie,
+            states,
+            text,
+            cursor: Cursor {
+                place,
+                state,
                 pending: 0,
             },
         }

@@ -1,11 +1,13 @@
-//! Times searches of a text for the keys of a dictionary, plainly and by scanners. `scan_run FOLDER PASSES` reads FOLDER/sorted.tsv, lines of
-//! a key, a tab and the key's value, and FOLDER/text.txt. For each pass of each search it prints a line `search TAB nanoseconds TAB matches
-//! TAB sum`. With 0 passes each search is made once and no clock is read: its nanoseconds are 0. `bench/scans.py` writes such folders.
+//! Times searches of a text for the keys of a dictionary, plainly and by scanners, and cuts of a text. `scan_run FOLDER PASSES [WORK]`
+//! reads FOLDER/sorted.tsv, lines of a key, a tab and what the key costs, and FOLDER/text.txt. For each pass of each search it prints a
+//! line `search TAB nanoseconds TAB matches TAB sum`. With 0 passes each search is made once and no clock is read: its nanoseconds are 0.
+//! WORK is `searches`, which is so if it isn't said, `cuts`, or `all`. `bench/searches` makes such folders and calls it.
 //!
-//! A key's value is its line's number from 0, whatever stands behind the tab. The sum is that of `(value + 1) * length + start` over all
-//! matches, by which the searches of other programs can be compared.
+//! A key's value is its line's number from 0. The sum of a search is that of `(value + 1) * length + start` over all matches, by which the
+//! searches of other programs can be compared; that of a cut is over its tokens, with 0 in place of their values.
 #![tactic(auto)]
 
+mod cuts;
 mod found;
 mod watch;
 
@@ -13,22 +15,60 @@ use anyhow::{Context, Result, bail};
 use cedar_scan::{LeftmostScanner, MatchKind, Scanner};
 use cedar_words::{leftmost_longest, matches};
 use cedarwood::Cedar;
+use cuts::all_cuts;
 use found::Found;
 use std::alloc::Global;
 use std::{env, fs};
 use watch::Clock;
 
+/// What is timed.
+#[derive(Clone, Copy)]
+struct Work {
+    searches: bool,
+    cuts: bool,
+}
+
+/// The work with a name, if there is one.
+fn work_named(name: &str) -> Option<Work> {
+    match name {
+        "searches" => Some(Work {
+            searches: true,
+            cuts: false,
+        }),
+        "cuts" => Some(Work {
+            searches: false,
+            cuts: true,
+        }),
+        "all" => Some(Work {
+            searches: true,
+            cuts: true,
+        }),
+        _ => None,
+    }
+}
+
 fn main(rt: HostRuntime) -> Result<()> {
     let words: Vec<String> = env::args(&rt)?.skip(1).collect(rt.alloc())?;
-    let [folder, passes] = words.as_slice() else {
-        bail!("usage: scan_run FOLDER PASSES");
+    let (folder, passes, name) = match words.as_slice() {
+        [folder, passes] => (folder.as_str(), passes.as_str(), "searches"),
+        [folder, passes, work] => (folder.as_str(), passes.as_str(), work.as_str()),
+        _ => bail!("usage: scan_run FOLDER PASSES [searches | cuts | all]"),
     };
-    let passes: u32 = passes.as_str().parse()?;
-    let lines = read(&rt, folder.as_str(), "sorted.tsv")?;
-    let text = read(&rt, folder.as_str(), "text.txt")?;
-    let cedar = dictionary_of(rt.alloc(), &lines)?;
+    let Some(work) = work_named(name) else {
+        bail!("there is no work {name}");
+    };
+    let passes: u32 = passes.parse()?;
+    let lines = read(&rt, folder, "sorted.tsv")?;
+    let text = read(&rt, folder, "text.txt")?;
     let clock = Clock { runs: passes > 0 };
-    all_searches(&rt, clock, passes.max(1), &cedar, &text)
+    if work.searches {
+        let cedar = dictionary_of(rt.alloc(), &lines)?;
+        all_searches(&rt, clock, passes.max(1), &cedar, &text)?;
+    }
+    if work.cuts {
+        all_cuts(&rt, clock, passes.max(1), &lines, &text)?;
+    }
+    Ok(())
 }
 
 fn read(rt: &HostRuntime, folder: &str, name: &str) -> Result<Vec<u8>> {

@@ -2,6 +2,7 @@
 use crate::calls::runs::is_made;
 use crate::lists::{Tries, ask, ask_of, run};
 use cedar_calls::{Answer, Call, ModelTables, Question, Reply, TextQuery, TextReply};
+use cedar_scan::MatchKind;
 use cedar_words::UnknownRun;
 use cedarwood::{CedarBuilder, DefaultLayout, Layout, MOST_SLOTS, ReducedLayout};
 use std::alloc::Global;
@@ -64,6 +65,17 @@ fn calls(settings: CedarBuilder) -> [Call<'static>; 15] {
         ask_of(b"abx", lattice()),
         ask(1, Question::First),
     ]
+}
+
+fn best_cuts(most: usize) -> TextQuery<'static> {
+    TextQuery::CheapestCuts {
+        model: ModelTables {
+            costs: &COSTS,
+            beyond: 8,
+            runs: &[],
+        },
+        most,
+    }
 }
 
 // Returns the answer's tokens, or none.
@@ -167,8 +179,12 @@ fn expect_answers(rt: &impl Abort, answers: &[Answer<Global>]) {
     assert!(rt; matches!(missing, Answer::Missing));
 }
 
-// Keys by their ends, all of them and those that don't overlap; a text without a byte has none.
-fn scans(settings: CedarBuilder) -> [Call<'static>; 5] {
+fn leftmost(kind: MatchKind) -> TextQuery<'static> {
+    TextQuery::Leftmost { kind }
+}
+
+// Keys by their ends, all of them and those that don't overlap, and from left to right; a text without a byte has none.
+fn scans(settings: CedarBuilder) -> [Call<'static>; 8] {
     [
         Call::Unsorted {
             settings,
@@ -176,13 +192,16 @@ fn scans(settings: CedarBuilder) -> [Call<'static>; 5] {
         },
         ask_of(b"abcd", TextQuery::Overlapping),
         ask_of(b"abcd", TextQuery::Earliest),
+        ask_of(b"abbcd", leftmost(MatchKind::LeftmostLongest)),
+        ask_of(b"abbcd", leftmost(MatchKind::LeftmostFirst)),
         ask_of(b"", TextQuery::Overlapping),
         ask_of(b"", TextQuery::Earliest),
+        ask_of(b"", leftmost(MatchKind::LeftmostFirst)),
     ]
 }
 
 fn expect_scans(rt: &impl Abort, answers: &[Answer<Global>]) {
-    let [_, all, first, none, none_first] = answers else {
+    let [_, all, first, longest, least, none, none_first, none_least] = answers else {
         panic!(rt; "other answers");
     };
     assert_eq!(rt;
@@ -190,7 +209,9 @@ fn expect_scans(rt: &impl Abort, answers: &[Answer<Global>]) {
         [(0, 1, 5), (0, 2, 6), (0, 3, 4), (1, 3, 1)].as_slice()
     );
     assert_eq!(rt; keys(first), [(0, 1, 5), (1, 3, 1)].as_slice());
-    assert!(rt; is_listed(none) && is_listed(none_first));
+    assert_eq!(rt; keys(longest), [(0, 2, 6), (2, 3, 1)].as_slice());
+    assert_eq!(rt; keys(least), [(0, 1, 5), (2, 3, 1)].as_slice());
+    assert!(rt; is_listed(none) && is_listed(none_first) && is_listed(none_least));
 }
 
 // Whether the answer has a list of keys.
@@ -199,6 +220,35 @@ fn is_listed(answer: &Answer<Global>) -> bool {
         answer,
         Answer::Replied(Reply::InText(TextReply::Keys(Ok(_))))
     )
+}
+
+// The best three cuts of "abcd", and none where none are wanted.
+fn few_cuts(settings: CedarBuilder) -> [Call<'static>; 3] {
+    [
+        Call::Unsorted {
+            settings,
+            pairs: &PAIRS,
+        },
+        ask_of(b"abcd", best_cuts(3)),
+        ask_of(b"abcd", best_cuts(0)),
+    ]
+}
+
+fn expect_few_cuts(rt: &impl Abort, answers: &[Answer<Global>]) {
+    let [_, best, none] = answers else {
+        panic!(rt; "other answers");
+    };
+    let Answer::Replied(Reply::InText(TextReply::Cuts(Ok(cuts)))) = best else {
+        panic!(rt; "no cuts");
+    };
+    let Answer::Replied(Reply::InText(TextReply::Cuts(Ok(none)))) = none else {
+        panic!(rt; "no empty list");
+    };
+    assert_eq!(rt; cuts.len(), 3);
+    assert_eq!(rt; cuts[0].as_slice(), [(0, 3, Some(4)), (3, 1, None)].as_slice());
+    assert_eq!(rt; cuts[1].as_slice(), [(0, 1, Some(5)), (1, 3, Some(1))].as_slice());
+    assert_eq!(rt; cuts[2].as_slice(), [(0, 1, None), (1, 3, Some(1))].as_slice());
+    assert!(rt; none.is_empty());
 }
 
 #[tactic(auto, using(cedarwood::proofs::DictionaryLemmas::default_limit))]
@@ -213,6 +263,9 @@ fn expect_texts<L: Layout>(
     let mut tries: Tries<L, MOST_SLOTS, Global> = Vec::new(alloc);
     let answers = run(alloc, &mut tries, &scans(settings))?;
     expect_scans(rt, &answers);
+    let mut tries: Tries<L, MOST_SLOTS, Global> = Vec::new(alloc);
+    let answers = run(alloc, &mut tries, &few_cuts(settings))?;
+    expect_few_cuts(rt, &answers);
     Ok(())
 }
 

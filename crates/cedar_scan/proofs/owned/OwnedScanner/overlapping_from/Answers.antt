@@ -1,0 +1,28 @@
+use Rattle.std.proofs.Common.{◌∙◌, ap, arith, subst, sym}
+use Rattle.cedar_scan.specs.Resumed.{ending_behind, IsHeight}
+use Rattle.cedar_scan.proofs.ResumedLemmas.{ending_start}
+use Rattle.cedar_scan.proofs.owned.OwnedScanner.overlapping_from.Goals as goal
+
+pub uncounted_state-requires-clause-automaton : goal.uncounted_state-requires-clause-automaton
+uncounted_state-requires-clause-automaton g c = c.self.invariant.0
+
+pub uncounted_state-requires-clause-height : goal.uncounted_state-requires-clause-height
+uncounted_state-requires-clause-height g c = subst (λ t. IsHeight t c.longest_len.result) (sym c.self.view_is) c.longest_len.ensures
+
+pub behind-requires-clause-automaton : goal.behind-requires-clause-automaton
+behind-requires-clause-automaton g c = c.self.invariant.0
+
+pub behind-requires-clause-place : goal.behind-requires-clause-place
+behind-requires-clause-place g c = let low = c.min-start.ensures in omega (arith, low)
+
+pub returns-clause-rest : goal.returns-clause-rest
+returns-clause-rest g c =
+    c.behind.ensures.rest
+    ∙ ap (λ t. ending_behind t c.min-start.result c.args.text.now) c.self.view_is
+    ∙ ending_start c.args.self.now c.args.text.now c.args.place c.min-start.result c.min-start.ensures
+
+pub returns-clause-steps : goal.returns-clause-steps
+returns-clause-steps g c =
+    let low = c.min-start.ensures in
+    let steps = c.behind.ensures.steps in
+    omega (arith, low, steps)

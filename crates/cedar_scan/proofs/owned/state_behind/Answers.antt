@@ -1,0 +1,55 @@
+use Rattle.std.proofs.Common.{◌≡◌, ◌+◌, ◌∷◌, ◌++◌, ◌∙◌, [], ap, arith, get_or, length, sym, take}
+use Rattle.std.proofs.Math.Seq.{take-suc}
+use Rattle.std.proofs.lemmas.List.{length-drop, take_all}
+use Rattle.cedar_scan.specs.Suffixes.{held_suffix}
+use Rattle.cedar_scan.proofs.ResumedLemmas.{held_behind, held_last_bytes, rest_of, step_behind}
+use Rattle.cedar_scan.proofs.SuffixLemmas.{held_goes_on, held_is_node}
+use Rattle.cedar_scan.proofs.owned.state_behind.Goals as goal
+
+pub loop-byte-init : goal.loop-byte-init
+loop-byte-init g c = record { stands = sym c.requires.automaton.placing.root; cost = omega arith }
+
+pub step-requires : goal.step-requires
+step-requires g c =
+    step_behind (g.T.Placed.tree c.args.trie.now) (g.T.Placed.slot_of c.args.trie.now) c.args.states.now c.requires.automaton (take c.loop-byte.byte-index c.loop-byte.last) c.loop-byte.state c.loop-byte.invariant.stands
+
+pub loop-byte-preserved : goal.loop-byte-preserved
+loop-byte-preserved g c =
+    let t = g.T.Placed.tree c.args.trie.now in
+    let slots = g.T.Placed.slot_of c.args.trie.now in
+    let bytes = c.loop-byte.last in
+    let k = c.loop-byte.byte-index in
+    let held = held_suffix t (take k bytes) in
+    let goes = c.step.ensures.goes held (held_is_node t (take k bytes)) c.loop-byte.invariant.stands in
+    let spent = c.step.ensures.cost held (held_is_node t (take k bytes)) c.loop-byte.invariant.stands in
+    let so_far = c.loop-byte.invariant.cost in
+    let next = take-suc bytes k 0 c.loop-byte-test.true in
+    let same = ap length (held_goes_on t (take k bytes) (get_or bytes k 0)) in
+    let long = ap (λ w. length (held_suffix t w)) next in
+    record {
+      stands = held_behind t slots c.args.states.now c.requires.automaton bytes k c.step.result c.loop-byte-test.true goes;
+      cost = omega (arith, spent, so_far, same, long);
+    }
+
+-- the bytes that are read
+all_read : goal.returns-clause-state
+all_read g c =
+    let t = g.T.Placed.tree c.args.trie.now in
+    let slots = g.T.Placed.slot_of c.args.trie.now in
+    let read = c.args.read.now in
+    let bytes = c.loop-byte.last in
+    let past = c.loop-byte-test.false in
+    c.loop-byte.invariant.stands
+    ∙ ap (λ w. slots (held_suffix t w)) (take_all c.loop-byte.byte-index bytes past ∙ rest_of read c.saturating_sub-first.result)
+    ∙ ap slots (held_last_bytes t c.args.height c.requires.height read c.saturating_sub-first.result c.saturating_sub-first.ensures)
+
+pub returns-clause-state : goal.returns-clause-state
+returns-clause-state g c = all_read g c
+
+pub returns-clause-cost : goal.returns-clause-cost
+returns-clause-cost g c =
+    let so_far = c.loop-byte.invariant.cost in
+    let within = c.loop-byte.index_within in
+    let first = c.saturating_sub-first.ensures in
+    let long = ap length (rest_of c.args.read.now c.saturating_sub-first.result) ∙ length-drop c.saturating_sub-first.result c.args.read.now in
+    omega (arith, so_far, within, first, long)
