@@ -11,7 +11,7 @@ _roskvidh() {
         build) options="-o --output --reduced --unordered --strict --progress -h --help" ;;
         get) options="--limit -h --help" ;;
         prefixes) options="--limit -h --help" ;;
-        complete) options="-n --most --limit -h --help" ;;
+        complete) options="-n --most --best --within --limit -h --help" ;;
         list) options="--from --prefix --limit -h --help" ;;
         show) options="--dot --limit -h --help" ;;
         cut) options="-s --sign --cheapest --unknown --progress --limit -h --help" ;;

@@ -1,5 +1,5 @@
 -- Which entries of a range are accepted, once the range has gone on.
-use Rattle.std.proofs.Common.{◌≡◌, ◌⊎◌, ℕ, ◌+◌, ◌<◌, ◌≤◌, inl, inr, Bool, true, false, cond, not, ◌&&◌, ℤ, List, [], ◌∷◌, ◌++◌, length, take, drop, Option, refl, sym, ap, ◌∙◌, subst, arith, append-nil}
+use Rattle.std.proofs.Common.{◌≡◌, ℕ, ◌<◌, ◌≤◌, inl, inr, Bool, true, false, cond, not, ◌&&◌, ℤ, List, [], ◌∷◌, ◌++◌, length, take, drop, Option, refl, sym, ap, ◌∙◌, subst, arith, append-nil}
 use Rattle.std.specs.Prelude.{filter, nat_eq}
 use Rattle.std.specs.Cmp.Lexicographic.{slice_cmp}
 use Rattle.std.specs.List.{AllByRecursion, starts_with}
@@ -27,7 +27,7 @@ same_byte x y h = elim (eqb_tells y x) [
   | inr other ↦ absurd (true≢false (sym h ∙ other.0))
 ]
 
-begins : (w front : List ℕ) → starts_with nat_eq w front ≡ true → GoesOnFrom front w
+pub begins : (w front : List ℕ) → starts_with nat_eq w front ≡ true → GoesOnFrom front w
 begins w [] h = (w, refl)
 begins [] (y ∷ ys) h = absurd (true≢false (sym h))
 begins (x ∷ xs) (y ∷ ys) h =
@@ -42,7 +42,7 @@ byte_is x = elim (eqb_tells x x) [
   | inr other ↦ absurd (other.1 refl)
 ]
 
-begins_itself : (front rest : List ℕ) → starts_with nat_eq (front ++ rest) front ≡ true
+pub begins_itself : (front rest : List ℕ) → starts_with nat_eq (front ++ rest) front ≡ true
 begins_itself [] rest = refl
 begins_itself (x ∷ xs) rest = ap (λ b. b && starts_with nat_eq (xs ++ rest) xs) (byte_is x) ∙ begins_itself xs rest
 
@@ -53,11 +53,11 @@ at_front front rest =
     ∙ ap is_ge (same_front front rest [])
     ∙ all_follow rest
 
-key_at_front : (key : List ℕ) (len : ℕ) → is_ge (slice_cmp nat_cmp key (take len key)) ≡ true
+pub key_at_front : (key : List ℕ) (len : ℕ) → is_ge (slice_cmp nat_cmp key (take len key)) ≡ true
 key_at_front key len = ap (λ w. is_ge (slice_cmp nat_cmp w (take len key))) (apart len key) ∙ at_front (take len key) (drop len key)
 
 -- nor does what doesn't come before that
-from_front : (w key front : List ℕ) → is_ge (slice_cmp nat_cmp key front) ≡ true → is_ge (slice_cmp nat_cmp w key) ≡ true → is_ge (slice_cmp nat_cmp w front) ≡ true
+pub from_front : (w key front : List ℕ) → is_ge (slice_cmp nat_cmp key front) ≡ true → is_ge (slice_cmp nat_cmp w key) ≡ true → is_ge (slice_cmp nat_cmp w front) ≡ true
 from_front w key front high at = sym (ge_is (slice_cmp nat_cmp w front)) ∙ ap not (never_before w key front high at)
 
 -- ---- past a dead end
@@ -74,7 +74,7 @@ accepted_follows accepts w front dead path at accepted =
     ]) refl
 
 -- and the first of them doesn't
-first_stays : (key : List ℕ) (len : ℕ) → IsPath key → follows_prefix (take len key) key ≡ false
+pub first_stays : (key : List ℕ) (len : ℕ) → IsPath key → follows_prefix (take len key) key ≡ false
 first_stays key len path =
     let front = take len key in
     let inside : starts_with nat_eq key front ≡ true = ap (λ w. starts_with nat_eq w front) (apart len key) ∙ begins_itself front (drop len key) in

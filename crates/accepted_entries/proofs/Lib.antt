@@ -1,1 +1,3 @@
 pub mod AcceptLemmas
+pub mod BoundLemmas
+pub mod FrontLemmas

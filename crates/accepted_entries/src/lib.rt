@@ -6,4 +6,4 @@
 mod next;
 mod reading;
 
-pub use next::next_accepted;
+pub use next::{next_accepted, next_accepted_counted};

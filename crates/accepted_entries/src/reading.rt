@@ -1,7 +1,7 @@
 //! What an automaton says of a key.
 
 ghost use Rattle.std.specs.Prelude.{◌≡◌};
-ghost use Rattle.accepted_entries.specs.Words.{SaysOf, verdict_of};
+ghost use Rattle.accepted_entries.specs.Words.{leads_to, may_after, ReadsAlong, SaysOf, verdict_of};
 
 use byte_automata::Automaton;
 
@@ -17,7 +17,8 @@ pub(crate) enum Verdict {
 
 /// Reads a key, as far as the automaton can match.
 pub(crate) fn read_key<M: Automaton>(automaton: &M, key: &[u8]) -> Verdict
-    ensures { SaysOf (M.accepts automaton.now) key.now result }
+    ensures says { SaysOf (M.accepts automaton.now) key.now result }
+    ensures way { ReadsAlong (leads_to (M.after automaton.now) (M.may_match automaton.now) (M.initial automaton.now)) (may_after (M.after automaton.now) (M.may_match automaton.now) (M.initial automaton.now)) key.now result }
 {
     let mut state = automaton.start();
     let mut len = 0;

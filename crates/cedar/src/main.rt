@@ -2,23 +2,27 @@
 #![tactic(auto)]
 
 mod explained;
-mod named;
 mod texts;
 
-use cedar_cli::{DONE, FAULT, USAGE, USAGE_LINE, run_program};
-use cedarwood::Watched;
+use cedar_cli::{DONE, FAULT, USAGE, run_program_with, tell_usage};
+use cedarwood::{MOST_SLOTS, Watched};
 use explained::Explained;
-use named::Named;
 use std::alloc::{AllocError, Global};
 use std::env;
-use std::io::{BufWriter, Stderr, Write};
+use std::io::{BufWriter, Write};
 use std::process::ExitCode;
 use texts::{HELP, VERSION};
+
+/// What the program is called, in its messages too.
+const NAME: &str = "cedar";
+
+/// What it is called if it takes files of the reduced layout without being told to.
+const REDUCED_NAME: &str = "cedar-reduced";
 
 fn main(rt: HostRuntime) -> ExitCode {
     let Ok(arguments) = env::args(&rt) else {
         let mut errors = Watched::new(rt.stderr());
-        let _ = errors.write_all(USAGE_LINE.as_bytes());
+        tell_usage(NAME, &mut errors);
         return ExitCode::from(USAGE);
     };
     let words: Vec<String> = match arguments.collect(rt.alloc()) {
@@ -35,7 +39,7 @@ fn main(rt: HostRuntime) -> ExitCode {
 fn answer(rt: &HostRuntime, texts: &[&str]) -> ExitCode {
     let (name, arguments) = match texts.split_first() {
         Some((name, arguments)) => (*name, arguments),
-        None => ("cedar", texts),
+        None => (NAME, texts),
     };
     if is_alone(arguments, "--help") {
         return print(rt, HELP);
@@ -43,7 +47,16 @@ fn answer(rt: &HostRuntime, texts: &[&str]) -> ExitCode {
     if is_alone(arguments, "--version") {
         return print(rt, VERSION);
     }
-    answer_script(rt, name.ends_with("cedar-reduced"), arguments)
+    answer_script(rt, called(name), arguments)
+}
+
+/// The name that messages begin with: the program's own, whatever path it was started by.
+fn called(path: &str) -> &'static str {
+    if path.ends_with(REDUCED_NAME) {
+        REDUCED_NAME
+    } else {
+        NAME
+    }
 }
 
 /// Whether a word is given alone, or beside `--reduced` before it.
@@ -64,28 +77,27 @@ fn print(rt: &HostRuntime, text: &str) -> ExitCode {
 }
 
 /// Runs the script. `--explain` is no option of the script's own.
-fn answer_script(rt: &HostRuntime, reduced: bool, arguments: &[&str]) -> ExitCode {
+#[tactic(auto, using(cedarwood::proofs::DictionaryLemmas::default_limit))]
+fn answer_script(rt: &HostRuntime, name: &str, arguments: &[&str]) -> ExitCode {
     let Ok(output) = BufWriter::new(rt.alloc(), rt.stdout()) else {
         return out_of_memory(rt);
     };
-    let Ok((asked, explained)) = without_explain(rt.alloc(), arguments) else {
+    let Ok((asked, is_explained)) = without_explain(rt.alloc(), arguments) else {
         return out_of_memory(rt);
     };
-    let mut reader = Watched::new(Explained::new(
-        rt.alloc(),
-        rt.stdin(),
-        messages(rt, reduced),
-        explained,
-    ));
+    let mut reader = Watched::new(rt.stdin());
     let mut writer = Watched::new(output);
-    let mut errors = Watched::new(messages(rt, reduced));
-    let status = run_program(
+    let mut errors = Watched::new(rt.stderr());
+    let mut reports = Explained::new(rt.stderr(), name, is_explained);
+    let status = run_program_with::<MOST_SLOTS, _, _, _, _, _, _>(
         rt.alloc(),
         rt,
+        name,
         &asked,
         &mut reader,
         &mut writer,
         &mut errors,
+        &mut reports,
     );
     ExitCode::from(status)
 }
@@ -105,14 +117,6 @@ fn without_explain<'a>(
         }
     }
     Ok((asked, explained))
-}
-
-/// Standard error, in the name that the program was started by.
-fn messages(rt: &HostRuntime, reduced: bool) -> Named<Stderr> {
-    Named {
-        errors: rt.stderr(),
-        reduced,
-    }
 }
 
 /// The arguments as texts.

@@ -10,3 +10,4 @@ pub mod Reports
 pub mod Runs
 pub mod SlotsInView
 pub mod Text
+pub mod Told

@@ -84,11 +84,11 @@ Stops-from_advances slots d fault old new held holds text left may h = (
 )
 
 -- the lines of a whole text
-whole : (text left : List ℕ) (finished : List (List ℕ)) → Splits text finished left → lines_of text ≡ finished ++ lines_of left
+pub whole : (text left : List ℕ) (finished : List (List ℕ)) → Splits text finished left → lines_of text ≡ finished ++ lines_of left
 whole text left finished h = ap lines_of (sym (append-nil text)) ∙ h [] ∙ ap (λ l. finished ++ lines_of l) (append-nil left)
 
 -- a last piece that isn't empty is a line
-last_line : (line : List ℕ) → HasNoNewline line → 0 < length line → lines_of line ≡ line ∷ []
+pub last_line : (line : List ℕ) → HasNoNewline line → 0 < length line → lines_of line ≡ line ∷ []
 last_line [] o h = absurd (omega arith)
 last_line (b ∷ line) o h = lines_of-last b line o
 

@@ -1,12 +1,15 @@
 -- What a line of a script says.
 use Rattle.std.specs.Prelude.{ℕ, Bool, ◌&&◌, ◌==◌, nat_eq, int_le, if◌then◌else◌, ℤ, pos}
-use Rattle.std.specs.Prelude.{negsuc, List, [], ◌∷◌, length, Option, Some, None}
-use Rattle.std.specs.Prelude.{option_map, option_and_then}
+use Rattle.std.specs.Prelude.{negsuc, List, [], ◌∷◌, length, Option, Some, None, ◌||◌, codes}
+use Rattle.std.specs.Prelude.{option_map, option_and_then, is_some}
 use Rattle.std.specs.List.{before_first, after_first, list_all}
 use Rattle.std.specs.Result.{result_ok}
 use Rattle.std.specs.Str.Parse.{without_leading_sign, signed_digits_value}
 use Rattle.hex.specs.Hex.{decode_of}
 use Rattle.text_lines.specs.Lines.{is_digit, is_filled}
+use Rattle.cedar_cli.specs.declared.command.BadLine.{BadLine}
+use Rattle.cedar_cli.specs.declared.command.BadLine.TheVariants.{Empty, NoKey, NoSign, NoSpace}
+use Rattle.cedar_cli.specs.declared.command.BadLine.TheVariants.{NotAlone, NoValue}
 use Rattle.cedar_cli.specs.declared.command.Verb.{Verb}
 use Rattle.cedar_cli.specs.declared.command.Verb.TheVariants.{Put, Erase, Exact, Segment, Prefixes}
 use Rattle.cedar_cli.specs.declared.command.Verb.TheVariants.{Predict, Entries, Figures}
@@ -62,3 +65,56 @@ order_of (c ∷ space ∷ rest) =
     else if c == 47 then with_key Segment rest
     else None
     else None
+
+-- ---- why a line is no order
+
+-- whether a byte is a sign that a space and a key have to follow: one of + - = < > /
+abbrev pub is_keyed_sign : ℕ → Bool
+is_keyed_sign c = c == 43 || c == 45 || c == 61 || c == 60 || c == 62 || c == 47
+
+-- whether a byte is a sign that has to be alone: * or #
+abbrev pub is_lone_sign : ℕ → Bool
+is_lone_sign c = c == 42 || c == 35
+
+-- what is wrong with a line that has none of the forms of lines, by its first byte
+abbrev pub form_fault : List ℕ → BadLine
+form_fault [] = Empty
+form_fault (c ∷ rest) = if is_keyed_sign c then NoSpace else if is_lone_sign c then NotAlone else NoSign
+
+-- what is wrong with a text that has to be a key, if anything is
+abbrev pub lone_key_fault : List ℕ → Option BadLine
+lone_key_fault text = if is_some (key_of text) then None else Some NoKey
+
+-- what is wrong with a text that has to be a key, a space and a value, if anything is
+abbrev pub pair_fault : List ℕ → Option BadLine
+pair_fault text =
+    if is_some (key_of (before_first is_space text))
+    then (if is_some (value_of (after_first is_space text)) then None else Some NoValue) else Some NoKey
+
+-- why a line of one byte is bad, if it is: only * and # are alone
+abbrev pub lone_fault : ℕ → Option BadLine
+lone_fault c = if c == 42 then None else if c == 35 then None else Some (form_fault (c ∷ []))
+
+-- why a line is bad, if it is: the first thing that it lacks, or that it doesn't end
+abbrev pub bad_line_of : List ℕ → Option BadLine
+bad_line_of [] = Some Empty
+bad_line_of (c ∷ []) = lone_fault c
+bad_line_of (c ∷ space ∷ rest) =
+    if space == 32 then
+    if c == 43 then pair_fault rest
+    else if c == 45 then lone_key_fault rest
+    else if c == 61 then lone_key_fault rest
+    else if c == 60 then lone_key_fault rest
+    else if c == 62 then lone_key_fault rest
+    else if c == 47 then lone_key_fault rest
+    else Some (form_fault (c ∷ space ∷ rest))
+    else Some (form_fault (c ∷ space ∷ rest))
+
+-- what has to be in a line that is bad for this reason, in words
+abbrev pub bad_line_text : BadLine → List ℕ
+bad_line_text Empty = codes "it is empty, and has to begin with one of the signs + - = < > / * #"
+bad_line_text NoSign = codes "it has to begin with one of the signs + - = < > / * #"
+bad_line_text NoSpace = codes "a space and a key have to follow the sign"
+bad_line_text NoKey = codes "a key has to follow the space: . or pairs of hexadecimal digits, to the end of the line or, behind +, to the next space"
+bad_line_text NoValue = codes "a space and a number from -2147483648 to 2147483647 have to follow the key"
+bad_line_text NotAlone = codes "the line has to end behind the sign"

@@ -10,6 +10,7 @@ pub mod Devices
 pub mod Lines
 pub mod Loads
 pub mod Options
+pub mod Reports
 pub mod Runs
 pub mod Script
 pub mod Statuses

@@ -23,10 +23,12 @@ mod command;
 mod flushes;
 mod options;
 mod program;
+mod reasons;
 mod script;
 mod verbs;
 mod write;
 
-pub use command::explain_line;
-pub use program::{DONE, FAULT, REFUSED, USAGE, USAGE_LINE, run_program, run_program_with};
-pub use script::{ScriptError, run_script};
+pub use command::BadLine;
+pub use program::{DONE, FAULT, REFUSED, USAGE, run_program, run_program_with, tell_usage};
+pub use reasons::{LineReports, NoReports};
+pub use script::{ScriptError, run_script, run_script_with_reports};

@@ -2,13 +2,15 @@
 
 ghost use Rattle.std.specs.Prelude.{◌*◌, ◌++◌, ◌<◌, ◌∷◌, ◌≡◌, ◌≤◌, [], IsSome};
 ghost use Rattle.std.specs.Prelude.{length, MatchOption, Some};
-ghost use Rattle.cedar_cli.specs.Words.{Answers, AnswersOrFails, figures_text, found_text, Grows};
+ghost use Rattle.cedar_cli.specs.Words.{Answers, AnswersOrFails, bad_line_of, Continues};
+ghost use Rattle.cedar_cli.specs.Words.{figures_text, found_text, Grows};
 ghost use Rattle.cedar_cli.specs.Words.{GrowsWithin, has_failed, held_by, IsPairFault, IsTakenBack};
 ghost use Rattle.cedar_cli.specs.Words.{MayLackMemory, number_at, order_of, put_text, WritesBytes};
 ghost use Rattle.cedar_cli.specs.Words.{WritesOrFails};
 
 use crate::answers::{write_entries, write_pairs, write_tokens};
 use crate::command::{Verb, parse_line};
+use crate::reasons::LineReports;
 use crate::script::ScriptError;
 use crate::write::{write_line, write_whole};
 use cedar_words::segment;
@@ -17,13 +19,20 @@ use itoa::Buffer;
 use std::alloc::Allocator;
 use std::io::Write;
 
-/// Does what a line says, and writes the answer. The line's key is read into `room`, which has a byte for two of the line's. A line whose
-/// answer isn't written whole changes no key and no value.
-pub(crate) fn answer_line<L: Layout, const SLOTS: usize, A: Allocator + Copy, W: Write>(
+/// Does what a line says, and writes the answer; before that it tells whether the line is bad, and why. The line's key is read into `room`,
+/// which has a byte for two of the line's. A line whose answer isn't written whole changes no key and no value.
+pub(crate) fn answer_line<
+    L: Layout,
+    const SLOTS: usize,
+    A: Allocator + Copy,
+    W: Write,
+    B: LineReports,
+>(
     trie: &mut Trie<L, SLOTS, A>,
     line: &[u8],
     room: &mut [u8],
     writer: &mut Watched<W>,
+    reports: &mut B,
 ) -> Result<(), ScriptError>
     requires room { length line.now ≤ 2 * length room.old }
 
@@ -38,10 +47,17 @@ pub(crate) fn answer_line<L: Layout, const SLOTS: usize, A: Allocator + Copy, W:
     ensures blocks { GrowsWithin (length line.now) trie.old trie.new }
     ensures max_trial { trie.new.max_trial ≡ trie.old.max_trial }
     ensures len { length room.new ≡ length room.old }
+
+    //= What is told of a line is why it is bad, or nothing if it is an order (always). [by bad_line_of]
+    ensures told { Continues (B.told reports.old) (B.told reports.new) (bad_line_of line.now ∷ []) }
 {
     match parse_line(line, room) {
-        None => write_whole(writer, b"bad line\n"),
-        Some(command) => {
+        Err(bad) => {
+            reports.tell(Some(bad));
+            write_whole(writer, b"bad line\n")
+        }
+        Ok(command) => {
+            reports.tell(None);
             let key = &room[..command.key_len];
             answer_command(trie, command.verb, key, writer)
         }

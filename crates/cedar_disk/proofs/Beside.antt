@@ -1,9 +1,11 @@
--- The path of the file that is written beside another one.
-use Rattle.std.proofs.Common.{◌≡◌, ℕ, ◌+◌, ◌<◌, ◌∙◌, List, [], ◌∷◌, ◌++◌, ap, append_assoc, arith, codes, drop, inl, inr, length, length-append, length-take, MatchOption, None, Option, refl, Some, subst, sym, take-append-drop}
+-- The path of the file that is written beside another one, and that of the folder of both.
+use Rattle.std.specs.Prelude.{◌==◌}
+use Rattle.std.proofs.Common.{◌≡◌, ℕ, ◌+◌, ◌<◌, ◌∙◌, Bool, true, false, List, [], ◌∷◌, ◌++◌, ap, append_assoc, arith, codes, drop, inl, inr, length, length-append, length-take, MatchOption, None, Option, refl, Some, subst, sym, take-append-drop}
 use Rattle.std.specs.Str.Pattern.{RFindsChar, SplitsAroundMatch}
+use Rattle.std.proofs.lemmas.Bool.{eqb-false, eqb-true}
 use Rattle.std.proofs.lemmas.Str.Pattern.{drop_at_char}
 use Rattle.arrayvec.specs.ArrayString.{ArrayString}
-use Rattle.cedar_disk.specs.Names.{HasNoSlash, KeepsFront, LiesBeside, mark_of, new_suffix}
+use Rattle.cedar_disk.specs.Names.{HasNoSlash, KeepsFront, LiesBeside, LiesIn, mark_of, new_suffix}
 
 -- what a path is cut into at its last slash
 pub split_whole : (path folder name : List ℕ) → SplitsAroundMatch (RFindsChar 47) path folder name → path ≡ folder ++ codes "/" ++ name
@@ -56,3 +58,23 @@ beside_of path folder slash name kept mark number more (Some s) whole last few m
       is = pieces;
       other = λ same. other_path (folder ++ slash) name kept end some keep (sym pieces ∙ same ∙ whole);
     } ∣₁
+
+-- ---- the folder of a path
+
+at_start : (path name folder : List ℕ) → length folder ≡ 0 → path ≡ folder ++ codes "/" ++ name → path ≡ codes "/" ++ name
+at_start path name [] none is = is
+at_start path name (byte ∷ folder) none is = absurd (omega (arith, none))
+
+module _ (path folder name : List ℕ) (cut : SplitsAroundMatch (RFindsChar 47) path folder name) (is_empty : Bool) (told : is_empty ≡ (length folder == 0)) where
+  pub before_slash : is_empty ≡ false → LiesIn path folder
+  before_slash some =
+      let apart = eqb-false (length folder) 0 (sym told ∙ some) in
+      ∣ record { name = name; last = split_last path folder name cut; is = inl (split_whole path folder name cut, omega (arith, apart)) } ∣₁
+
+  pub at_root : is_empty ≡ true → LiesIn path (codes "/")
+  at_root none =
+      let whole : path ≡ codes "/" ++ name = at_start path name folder (eqb-true (length folder) 0 (sym told ∙ none)) (split_whole path folder name cut) in
+      ∣ record { name = name; last = split_last path folder name cut; is = inr (inl (whole, refl)) } ∣₁
+
+pub without_slash : (path : List ℕ) → HasNoSlash path → LiesIn path (codes ".")
+without_slash path none = ∣ record { name = path; last = none; is = inr (inr (refl, refl)) } ∣₁

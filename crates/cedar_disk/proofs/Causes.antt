@@ -1,18 +1,24 @@
--- That a failure, or want of room, is reported only where a call has failed.
-use Rattle.std.proofs.Common.{◌≡◌, ◌<◌, ◌≤◌, ℕ, suc, List, ◌∷◌, sym, subst, arith}
-use Rattle.std.specs.Prelude.{Result, Ok, Err, OnErr, is_ok}
-use Rattle.std.proofs.lemmas.Result.{IfErr-at_err}
+-- What one call more counts.
+use Rattle.std.specs.Prelude.{Ok, Err}
+use Rattle.std.proofs.Common.{◌≡◌, suc, List, ◌∷◌, ◌∙◌, ap, arith, refl}
+use Rattle.cedar_journal.specs.declared.device.DeviceError.TheVariants.{Failed}
 use Rattle.cedar_journal.specs.Device.{HasCause}
-use Rattle.cedar_journal.specs.declared.device.DeviceError.{DeviceError}
-use Rattle.cedar_disk.specs.Calls.{Call, call_with, faults_in}
+use Rattle.cedar_journal.proofs.Causes.{caused}
+use Rattle.cedar_disk.specs.Calls.{Call, faults_in, full_in}
 
-pub caused : {T : Type 0} (r : Result T DeviceError) (a b : ℕ) → a ≤ b → OnErr r (a < b) → HasCause a b r
-caused r a b later failed = record { later = later; failed = λ is. IfErr-at_err (λ _. a < b) is failed; no_room = λ is. IfErr-at_err (λ _. a < b) is failed }
+module _ (call : Call) (old new : List Call) (is : new ≡ call ∷ old) (still : full_in (call ∷ old) ≡ full_in old) where
+  pub call_done : faults_in (call ∷ old) ≡ faults_in old → HasCause {T = Unit {0}} (faults_in old) (faults_in new) (full_in old) (full_in new) (Ok tt)
+  call_done same =
+      let faults = ap faults_in is ∙ same in
+      let full = ap full_in is ∙ still in
+      caused {T = Unit {0}} _ _ _ _ (Ok tt) (omega (arith, faults)) (omega (arith, full)) faults tt
 
-faults_after : (r : Result (Unit {0}) DeviceError) (kind at : ℕ) (bytes : List ℕ) (old : List Call) → HasCause (faults_in old) (faults_in (call_with kind at (is_ok r) bytes ∷ old)) r
-faults_after (Ok x) kind at bytes old = caused (Ok x) (faults_in old) (faults_in old) (omega arith) tt
-faults_after (Err e) kind at bytes old = caused (Err e) (faults_in old) (suc (faults_in old)) (omega arith) (omega arith)
+  pub call_failed : faults_in (call ∷ old) ≡ suc (faults_in old) → HasCause {T = Unit {0}} (faults_in old) (faults_in new) (full_in old) (full_in new) (Err Failed)
+  call_failed more =
+      let faults = ap faults_in is ∙ more in
+      let full = ap full_in is ∙ still in
+      caused _ _ _ _ (Err Failed) (omega (arith, faults)) (omega (arith, full)) tt (omega (arith, faults))
 
--- of one call
-pub call_failed : (r : Result (Unit {0}) DeviceError) (kind at : ℕ) (bytes : List ℕ) (old new : List Call) → new ≡ call_with kind at (is_ok r) bytes ∷ old → HasCause (faults_in old) (faults_in new) r
-call_failed r kind at bytes old new is = subst (λ (l : List Call). HasCause (faults_in old) (faults_in l) r) (sym is) (faults_after r kind at bytes old)
+-- no call more
+pub none_done : (calls : List Call) → HasCause {T = Unit {0}} (faults_in calls) (faults_in calls) (full_in calls) (full_in calls) (Ok tt)
+none_done calls = caused {T = Unit {0}} _ _ _ _ (Ok tt) (omega arith) (omega arith) refl tt

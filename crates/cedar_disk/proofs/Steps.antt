@@ -1,6 +1,6 @@
 -- What one call more does to what a crash may leave.
 use Rattle.std.specs.Prelude.{◌&&◌, IsTrue}
-use Rattle.std.proofs.Common.{◌≡◌, ◌⊎◌, inl, inr, ⊎_elim, ℕ, zero, suc, ◌+◌, ◌<◌, ◌≤◌, Bool, true, false, List, [], ◌∷◌, ◌++◌, length, take, drop, refl, sym, ap, subst, arith, length-append, length-take-le}
+use Rattle.std.proofs.Common.{◌≡◌, ◌⊎◌, inl, inr, ⊎_elim, ℕ, zero, suc, ◌+◌, ◌<◌, ◌≤◌, Bool, true, false, List, [], ◌∷◌, ◌++◌, length, take, drop, refl, sym, ◌∙◌, ap, subst, arith, length-append, length-take-le}
 use Rattle.std.proofs.lemmas.Bool.{and_parts, false≢true, leb-true, and_from}
 use Rattle.cedar_journal.specs.Device.{Cut, Elapses, Follows, LeavesOnly, Only, Torn}
 use Rattle.cedar_journal.proofs.Moments as moments
@@ -204,6 +204,10 @@ module _ (old : List Call) (bytes : List ℕ) where
   names_elapse new ok is =
       subst (λ (l : List Call). Elapses (length old) (length l) (LeftSince old) (LeftSince l) (MayLeave l)) (sym is) (both_elapse ok)
 
+never_and : (b : Bool) → (b && false) ≡ false
+never_and true = refl
+never_and false = refl
+
 -- one of the two, where a call has failed
 module _ (bytes : List ℕ) (old new : List Call) where
   pub placed_faults : new ≡ folder_sync_call true ∷ rename_call bytes true ∷ old → faults_in old ≤ faults_in new
@@ -226,6 +230,10 @@ module _ (bytes : List ℕ) (old new : List Call) where
 
     pub unplaced_faults : faults_in old < faults_in new
     unplaced_faults = ⊎_elim (λ lacks. one_fault (ap faults_in lacks)) (λ has. one_fault (ap faults_in has)) is
+
+    -- and which of the two it is isn't known
+    pub unplaced_lost : is_named_after new ≡ false
+    unplaced_lost = ⊎_elim (λ lacks. ap is_named_after lacks) (λ has. ap is_named_after has ∙ never_and (is_named_after old && true)) is
 
     pub unplaced_within : IsTrue (all_within old) → IsTrue (all_within new)
     unplaced_within within =

@@ -1,11 +1,13 @@
 -- Bytes that are written by one call behind another.
-use Rattle.std.specs.Prelude.{IsTrue}
-use Rattle.std.proofs.Common.{◌≡◌, ℕ, ◌+◌, ◌-◌, ◌≤◌, Bool, true, false, List, [], ◌∷◌, ◌++◌, length, take, drop, slice_range, refl, sym, ◌∙◌, ap, subst, arith, append-nil, append_assoc, length-append, length-drop, length-take-le, take-append-drop}
+use Rattle.std.specs.Prelude.{IsTrue, Ok, Err}
+use Rattle.std.proofs.Common.{◌≡◌, ℕ, suc, ◌+◌, ◌-◌, ◌≤◌, Bool, true, false, List, [], ◌∷◌, ◌++◌, length, take, drop, slice_range, refl, sym, ◌∙◌, ap, subst, arith, append-nil, append_assoc, length-append, length-drop, length-take-le, take-append-drop}
 use Rattle.std.proofs.lemmas.Bool.{le-leb, and_from}
 use Rattle.std.proofs.lemmas.List.{drop-drop, drop_all, drop_at, take_all, take_at, take_rest}
 use lib.Seq.{take-add}
-use Rattle.cedar_journal.specs.Device.{Follows, Only, Torn}
-use Rattle.cedar_disk.specs.Calls.{Call, MayLeave, is_usable_after, open_call, overlay, refused_call, seen_after, sync_call, write_call}
+use Rattle.cedar_journal.specs.declared.device.DeviceError.TheVariants.{Failed, NoRoom}
+use Rattle.cedar_journal.specs.Device.{Follows, HasCause, Only, Torn}
+use Rattle.cedar_journal.proofs.Causes.{caused}
+use Rattle.cedar_disk.specs.Calls.{Call, MayLeave, faults_in, full_call, full_in, is_usable_after, open_call, overlay, seen_after, sync_call, write_call}
 use Rattle.cedar_disk.specs.Runs.{AreWritten, AreWrittenInPart, Spoils}
 use Rattle.cedar_journal.proofs.Tears.{torn_held, torn_same, torn_then}
 use Rattle.cedar_disk.proofs.Steps.{elapses_none, elapses_on, overlaid_length, synced_only}
@@ -43,14 +45,16 @@ spoils_none at size calls = record {
   crash = λ c left. (c, left, torn_same at size c);
   time = elapses_none calls;
   faults = omega arith;
+  full = omega arith;
   within = λ within. within;
-  known = λ known. known;
+  named = refl;
 }
 
 pub are_written_none : (at size : ℕ) (calls : List Call) → AreWritten at size [] calls calls
 are_written_none at size calls = record {
   seen = sym (overlaid_none (seen_after calls) at);
   usable = λ usable. usable;
+  faultless = refl;
   spoils = spoils_none at size calls;
 }
 
@@ -71,12 +75,14 @@ module _ (at size : ℕ) (front : List ℕ) (old now : List Call) (fits : at ≤
         ap (λ (f : List ℕ). overlay f from more) so_far.seen ∙ ap (λ (k : ℕ). overlay (overlay (seen_after old) at front) k more) is
         ∙ overlaid_more (seen_after old) at front more fits;
     usable = λ usable. and_from _ _ (so_far.usable usable) refl;
+    faultless = so_far.faultless;
     spoils = record {
       crash = spoils_more from more (omega (arith, is)) (omega (arith, is)) room true;
       time = elapses_on (write_call from more true) old now so_far.spoils.time (λ c left. (c, left, torn_same from (length more) c));
       faults = so_far.spoils.faults;
+      full = so_far.spoils.full;
       within = λ within. and_from _ _ (le-leb from (length (seen_after now)) (begins from (omega (arith, is)))) (so_far.spoils.within within);
-      known = so_far.spoils.known;
+      named = so_far.spoils.named;
     };
   }
 
@@ -85,8 +91,24 @@ module _ (at size : ℕ) (front : List ℕ) (old now : List Call) (fits : at ≤
     crash = spoils_more from more low high room false;
     time = elapses_on (write_call from more false) old now so_far.spoils.time (λ c left. (c, left, torn_same from (length more) c));
     faults = omega (arith, so_far.spoils.faults);
+    full = so_far.spoils.full;
     within = λ within. and_from _ _ (le-leb from (length (seen_after now)) (begins from high)) (so_far.spoils.within within);
-    known = so_far.spoils.known;
+    named = so_far.spoils.named;
+  }
+
+-- a call that changes nothing
+module _ (more k : ℕ) (ok : Bool) where
+  abbrev idle : Call
+  idle = (suc (suc (suc (suc (suc (suc more))))), k, ok, [])
+
+  spoils_idle : (at size : ℕ) (old now : List Call) → Spoils at size old now → faults_in old ≤ faults_in (idle ∷ now) → full_in old ≤ full_in (idle ∷ now) → Spoils at size old (idle ∷ now)
+  spoils_idle at size old now so_far faults full = record {
+    crash = so_far.crash;
+    time = elapses_on idle old now so_far.time (λ c left. left);
+    faults = faults;
+    full = full;
+    within = so_far.within;
+    named = so_far.named;
   }
 
 -- ---- the loop
@@ -120,20 +142,30 @@ module _ (at done from : ℕ) (bytes : List ℕ) (old now new : List Call) (fits
       (spoils_failed at (length bytes) (take done bytes) old now fits so_far from (slice_range bytes done (length bytes)) low (omega (arith, high, front))
       (omega (arith, front, rest_length bytes done within, within)))
 
--- there was no room for the next ones
-pub wrote_no_more : (at size : ℕ) (front : List ℕ) (old now new : List Call) → AreWritten at size front old now → new ≡ refused_call ∷ now → AreWritten at size front old new
-wrote_no_more at size front old now new so_far noted =
-    subst (λ (l : List Call). AreWritten at size front old l) (sym noted) (record {
-      seen = so_far.seen;
-      usable = so_far.usable;
-      spoils = record {
-        crash = so_far.spoils.crash;
-        time = elapses_on refused_call old now so_far.spoils.time (λ c left. left);
-        faults = omega (arith, so_far.spoils.faults);
-        within = so_far.spoils.within;
-        known = so_far.spoils.known;
-      };
-    })
+module _ (at size : ℕ) (front : List ℕ) (old now new : List Call) (so_far : AreWritten at size front old now) where
+  -- there was no room for the next ones
+  pub wrote_no_more : new ≡ full_call ∷ now → AreWritten at size front old new
+  wrote_no_more noted =
+      subst (λ (l : List Call). AreWritten at size front old l) (sym noted) (record {
+        seen = so_far.seen;
+        usable = so_far.usable;
+        faultless = so_far.faultless;
+        spoils = spoils_idle 3 0 false at size old now so_far.spoils so_far.spoils.faults (omega (arith, so_far.spoils.full));
+      })
+
+  pub lacked_room : new ≡ full_call ∷ now → HasCause {T = Unit {0}} (faults_in old) (faults_in new) (full_in old) (full_in new) (Err NoRoom)
+  lacked_room noted =
+      let same : faults_in new ≡ faults_in old = ap faults_in noted ∙ so_far.faultless in
+      let more : full_in new ≡ suc (full_in now) = ap full_in noted in
+      caused _ _ _ _ (Err NoRoom) (omega (arith, same)) (omega (arith, more, so_far.spoils.full)) tt (omega (arith, more, so_far.spoils.full), same)
+
+  -- a call has failed, and didn't lack room
+  pub has_failed : faults_in new ≡ suc (faults_in now) → full_in new ≡ full_in now → HasCause {T = Unit {0}} (faults_in old) (faults_in new) (full_in old) (full_in new) (Err Failed)
+  has_failed more same =
+      caused _ _ _ _ (Err Failed) (omega (arith, more, so_far.spoils.faults)) (omega (arith, same, so_far.spoils.full)) tt (omega (arith, more, so_far.spoils.faults))
+
+pub wrote_well : (at size : ℕ) (bytes : List ℕ) (old new : List Call) → AreWritten at size bytes old new → HasCause {T = Unit {0}} (faults_in old) (faults_in new) (full_in old) (full_in new) (Ok tt)
+wrote_well at size bytes old new all = caused {T = Unit {0}} _ _ _ _ (Ok tt) all.spoils.faults all.spoils.full all.faultless tt
 
 -- what a read returns then
 pub torn_in_part : (at : ℕ) (bytes : List ℕ) (old new : List Call) → at ≤ length (seen_after old) → AreWrittenInPart at bytes old new

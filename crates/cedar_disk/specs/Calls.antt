@@ -1,7 +1,7 @@
 -- The calls on a file, and the model of a disk that they make: what a read returns, and what a crash may leave. This
 -- is all that is supposed of a real disk. Lists of calls have the newest first.
 use Rattle.std.specs.Prelude.{◌≡◌, ◌⊎◌, ◌≤◌, ◌+◌, ◌==◌, nat_le, ℕ, zero, suc, Bool, true}
-use Rattle.std.specs.Prelude.{false, ◌&&◌, if◌then◌else◌, List, [], ◌∷◌, ◌++◌, length}
+use Rattle.std.specs.Prelude.{false, ◌&&◌, ◌||◌, if◌then◌else◌, List, [], ◌∷◌, ◌++◌, length}
 use Rattle.std.specs.Prelude.{take, drop, slice_index}
 use Rattle.cedar_journal.specs.Device.{Torn, Cut}
 
@@ -48,6 +48,14 @@ took_name path ok = (7, 0, ok, path)
 -- the file was locked, or the call failed
 abbrev pub lock_call : Bool → Call
 lock_call ok = (8, 0, ok, [])
+
+-- a write that found no room: it changed nothing
+abbrev pub full_call : Call
+full_call = (9, 0, false, [])
+
+-- a write that a signal came before: it changed nothing
+abbrev pub interrupted_call : Call
+interrupted_call = (10, 0, true, [])
 
 -- the call of the numbers that it was noted by
 abbrev pub call_of : List ℕ → List ℕ → Call
@@ -143,7 +151,12 @@ abbrev pub is_locked_after : List Call → Bool
 is_locked_after [] = false
 is_locked_after (call ∷ earlier) = if call.0 == 8 && call.2 then true else is_locked_after earlier
 
--- how many of these calls have failed
+-- how many of these calls have failed, but for writes that found no room
 abbrev pub faults_in : List Call → ℕ
 faults_in [] = 0
-faults_in (call ∷ earlier) = if call.2 then faults_in earlier else suc (faults_in earlier)
+faults_in (call ∷ earlier) = if call.2 || call.0 == 9 then faults_in earlier else suc (faults_in earlier)
+
+-- how many of these calls are writes that found no room
+abbrev pub full_in : List Call → ℕ
+full_in [] = 0
+full_in (call ∷ earlier) = if call.0 == 9 then suc (full_in earlier) else full_in earlier

@@ -6,6 +6,8 @@ pub mod Laws
 pub mod Names
 pub mod NewFiles
 pub mod NotedFiles
+pub mod OpenedFiles
+pub mod Openings
 pub mod PathFiles
 pub mod Runs
 pub mod Sending

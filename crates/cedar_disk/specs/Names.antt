@@ -49,3 +49,14 @@ pub record IsBeside (path beside : List ℕ) : Type 0 where
 -- a path is beside another one (`IsBeside`), as a fact with one proof
 abbrev pub LiesBeside : List ℕ → List ℕ → Type 0
 LiesBeside path beside = ∥ IsBeside path beside ∥₁
+
+-- a path is that of the folder that the file at another path lies in: what comes before that one's last slash; or a
+-- slash alone, if nothing does; or a full stop, if that one has no slash
+pub record IsFolderOf (path folder : List ℕ) : Type 0 where
+  pub name : List ℕ
+  pub last : HasNoSlash name
+  pub is : (path ≡ folder ++ codes "/" ++ name) × (0 < length folder) ⊎ (path ≡ codes "/" ++ name) × (folder ≡ codes "/") ⊎ (path ≡ name) × (folder ≡ codes ".")
+
+-- the file at a path lies in the folder at this one (`IsFolderOf`), as a fact with one proof
+abbrev pub LiesIn : List ℕ → List ℕ → Type 0
+LiesIn path folder = ∥ IsFolderOf path folder ∥₁

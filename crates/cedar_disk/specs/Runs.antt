@@ -7,18 +7,18 @@ use Rattle.std_io.specs.declared.io.kind.ErrorKind.TheVariants.{FileTooLarge, In
 use Rattle.std_io.specs.declared.io.kind.ErrorKind.TheVariants.{QuotaExceeded, StorageFull}
 use Rattle.std_io.specs.IoError.{error_kind}
 use Rattle.cedar_journal.specs.Device.{Elapses, Follows, Torn}
-use Rattle.cedar_disk.specs.Calls.{Call, LeftSince, MayLeave, all_within, faults_in, is_named_after}
-use Rattle.cedar_disk.specs.Calls.{is_usable_after, folder_sync_call, overlay, refused_call}
-use Rattle.cedar_disk.specs.Calls.{rename_call, seen_after, write_call}
+use Rattle.cedar_disk.specs.Calls.{Call, LeftSince, MayLeave, all_within, faults_in, full_call}
+use Rattle.cedar_disk.specs.Calls.{full_in, interrupted_call, is_named_after, is_usable_after}
+use Rattle.cedar_disk.specs.Calls.{folder_sync_call, overlay, rename_call, seen_after, write_call}
 use Rattle.cedar_disk.specs.declared.wrote.Wrote.{Wrote}
 use Rattle.cedar_disk.specs.declared.wrote.Wrote.TheVariants.{Bytes, Nothing, Full, Failed}
 
 -- a write of these bytes at this offset as it is noted, by what the system took: exactly these bytes; any of them may
--- be there; or none, if it found no room
+-- be there; or none, if a signal came first or it found no room
 abbrev pub write_by_outcome : ℕ → List ℕ → Wrote → Call
 write_by_outcome at bytes (Bytes n) = write_call at (take n bytes) true
-write_by_outcome at bytes Nothing = refused_call
-write_by_outcome at bytes (Full e) = refused_call
+write_by_outcome at bytes Nothing = interrupted_call
+write_by_outcome at bytes (Full e) = full_call
 write_by_outcome at bytes (Failed e) = write_call at bytes false
 
 -- an error of this kind says that there was no room
@@ -50,14 +50,16 @@ pub record Spoils (at n : ℕ) (old new : List Call) : Type 0 where
   pub crash : Follows (Torn at n) (MayLeave old) (MayLeave new)
   pub time : TimePasses old new
   pub faults : faults_in old ≤ faults_in new
+  pub full : full_in old ≤ full_in new
   pub within : IsTrue (all_within old) → IsTrue (all_within new)
-  pub known : IsTrue (is_named_after old) → IsTrue (is_named_after new)
+  pub named : is_named_after new ≡ is_named_after old
 
--- these bytes were written at this offset, as the first of n (`Spoils`), and no call failed but such as changed
--- nothing
+-- these bytes were written at this offset, as the first of n (`Spoils`), and no call failed but writes that found no
+-- room
 pub record AreWritten (at n : ℕ) (bytes : List ℕ) (old new : List Call) : Type 0 where
   pub seen : seen_after new ≡ overlay (seen_after old) at bytes
   pub usable : IsTrue (is_usable_after old) → IsTrue (is_usable_after new)
+  pub faultless : faults_in new ≡ faults_in old
   pub spoils : Spoils at n old new
 
 -- only the first of these bytes were written at this offset, and for the next there was no room

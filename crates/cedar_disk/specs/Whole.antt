@@ -19,6 +19,10 @@ abbrev pub just_took : List Call → Bool
 just_took [] = false
 just_took (call ∷ earlier) = if call.0 == 7 then call.2 else false
 
+-- the newest call gave the file the name at this path
+abbrev pub HasJustTaken : List ℕ → List Call → Type 0
+HasJustTaken path calls = (earlier : List Call) × (calls ≡ took_name path true ∷ earlier)
+
 -- whether the newest calls gave the file the name, and then synced the folder
 abbrev pub placed_after : List Call → Bool
 placed_after [] = false

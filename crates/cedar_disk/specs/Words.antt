@@ -1,19 +1,22 @@
--- The words that the contracts of this crate cite, from one place. `Accounts`, `FileDevices`, `NewFiles`, `NotedFiles`, `PathFiles` and `SpecialFiles` name structs whose ghost fields
+-- The words that the contracts of this crate cite, from one place. `Accounts`, `FileDevices`, `NewFiles`, `NotedFiles`, `OpenedFiles`, `PathFiles` and `SpecialFiles` name structs whose ghost fields
 -- cite these words: they are imported beside it.
 pub use Rattle.cedar_disk.specs.Calls.{all_within, Call, call_of, call_with, faults_in}
-pub use Rattle.cedar_disk.specs.Calls.{folder_sync_call, is_locked_after, is_named_after}
+pub use Rattle.cedar_disk.specs.Calls.{folder_sync_call, full_in, is_locked_after, is_named_after}
 pub use Rattle.cedar_disk.specs.Calls.{is_usable_after, LeftSince, lock_call, MayLeave, open_call}
 pub use Rattle.cedar_disk.specs.Calls.{overlay, refused_call, rename_call, seen_after}
 pub use Rattle.cedar_disk.specs.Calls.{sync_call, took_name, truncate_call}
 pub use Rattle.cedar_disk.specs.Errors.{TellsKind}
 pub use Rattle.cedar_disk.specs.Laws.{counts_now, only_now}
-pub use Rattle.cedar_disk.specs.Names.{compaction_path, HasNoSlash, LiesBeside, mark_of, new_suffix}
+pub use Rattle.cedar_disk.specs.Names.{compaction_path, HasNoSlash, LiesBeside, LiesIn, mark_of}
+pub use Rattle.cedar_disk.specs.Names.{new_suffix}
+pub use Rattle.cedar_disk.specs.Openings.{opened_any, opened_as, opened_existing, opened_folder}
+pub use Rattle.cedar_disk.specs.Openings.{opened_new, opened_to_read, path_of, way_of}
 pub use Rattle.cedar_disk.specs.Runs.{AreWritten, AreWrittenInPart, TimePasses, IsUnplaced}
 pub use Rattle.cedar_disk.specs.Runs.{Spoils, TookSome, write_by_outcome}
 pub use Rattle.cedar_disk.specs.Sending.{address, found_at, IsNoFile, IsSentTo}
 pub use Rattle.cedar_disk.specs.Sending.{send_call, told_after}
 pub use Rattle.cedar_disk.specs.Whole.{IsPlaced, IsWholeBeside, IsUnplacedAt, PathLeaves}
-pub use Rattle.cedar_disk.specs.Whole.{WholeFilesAreSafe, asked_after}
+pub use Rattle.cedar_disk.specs.Whole.{HasJustTaken, WholeFilesAreSafe, asked_after}
 pub use Rattle.cedar_disk.specs.declared.system.OpenError.TheVariants.{Memory}
 pub use Rattle.cedar_journal.specs.Device.{Cut, Follows, HasCause, LeavesOnly, Only, Torn}
 pub use Rattle.std.specs.Borrow.{ftrue}

@@ -3,8 +3,9 @@
 ghost use Rattle.std.specs.Prelude.{◌≡◌, ◌<◌, ◌≤◌, ◌⊎◌, ◌∷◌, [], false, IsErrOf, IsTrue, length};
 ghost use Rattle.std.specs.Prelude.{List, OnErr, OnOk, take, true, ℕ};
 ghost use Rattle.cedar_disk.specs.Words.{all_within, compaction_path, Cut, faults_in, Follows};
-ghost use Rattle.cedar_disk.specs.Words.{TimePasses, HasCause, is_locked_after, is_named_after};
-ghost use Rattle.cedar_disk.specs.Words.{is_usable_after, LeavesOnly, LeftSince, lock_call};
+ghost use Rattle.cedar_disk.specs.Words.{full_in, TimePasses, HasCause, is_locked_after};
+ghost use Rattle.cedar_disk.specs.Words.{is_named_after, is_usable_after, LeavesOnly, LeftSince};
+ghost use Rattle.cedar_disk.specs.Words.{lock_call};
 ghost use Rattle.cedar_disk.specs.Words.{MayLeave, Only, open_call, overlay, refused_call};
 ghost use Rattle.cedar_disk.specs.Words.{seen_after, Torn};
 ghost use Rattle.cedar_disk.specs.NotedFiles.{is_beside, noted_calls};
@@ -30,6 +31,7 @@ pub(crate) struct Account<T: Read + Write + Seek + OpenFile + Drop> {
     has_lost_name: bool,
     ghost usable: { has_failed ≡ false → IsTrue (is_usable_after (noted_calls file)) },
     ghost known: { has_lost_name ≡ false → IsTrue (is_named_after (noted_calls file)) },
+    ghost lost: { has_lost_name ≡ true → is_named_after (noted_calls file) ≡ false },
     ghost clean: { is_dirty ≡ false → Only (seen_after (noted_calls file)) (MayLeave (noted_calls file)) },
     ghost within: { IsTrue (all_within (noted_calls file)) },
     ghost placed: { is_beside file ≡ false },
@@ -62,7 +64,8 @@ impl<T: Read + Write + Seek + OpenFile + Drop> Account<T> {
 
     /// Returns whether another file may take the name: no call for that has failed before.
     pub(crate) fn has_name(&self) -> bool
-        ensures { IsTrue result → IsTrue (is_named_after (calls_of self.now)) }
+        ensures known { IsTrue result → IsTrue (is_named_after (calls_of self.now)) }
+        ensures lost { result ≡ false → is_named_after (calls_of self.now) ≡ false }
     {
         !self.has_lost_name
     }
@@ -84,7 +87,7 @@ impl<T: Read + Write + Seek + OpenFile + Drop> Account<T> {
         ensures no_room { IsErrOf result DeviceError.NoRoom → Torn at (length bytes.now) (seen_after (calls_of self.old)) (seen_after (calls_of self.new)) }
         ensures crash { Follows (Torn at (length bytes.now)) (MayLeave (calls_of self.old)) (MayLeave (calls_of self.new)) }
         ensures time { TimePasses (calls_of self.old) (calls_of self.new) }
-        ensures cause { HasCause (faults_in (calls_of self.old)) (faults_in (calls_of self.new)) result }
+        ensures cause { HasCause (faults_in (calls_of self.old)) (faults_in (calls_of self.new)) (full_in (calls_of self.old)) (full_in (calls_of self.new)) result }
     {
         self.is_dirty = true;
         match write_all(&mut self.file, at, bytes) {
@@ -97,6 +100,31 @@ impl<T: Read + Write + Seek + OpenFile + Drop> Account<T> {
         }
     }
 
+    /// Writes bytes over others. If there is no room for them, the file can't be used any more.
+    pub(crate) fn write_over(&mut self, at: usize, bytes: &[u8]) -> Result<(), DeviceError>
+        requires usable { IsTrue (is_usable_after (calls_of self.old)) }
+        requires within { at ≤ length (seen_after (calls_of self.old)) }
+        ensures written { OnOk result (seen_after (calls_of self.new) ≡ overlay (seen_after (calls_of self.old)) at bytes.now) }
+        ensures crash { Follows (Torn at (length bytes.now)) (MayLeave (calls_of self.old)) (MayLeave (calls_of self.new)) }
+        ensures time { TimePasses (calls_of self.old) (calls_of self.new) }
+        ensures cause { HasCause (faults_in (calls_of self.old)) (faults_in (calls_of self.new)) (full_in (calls_of self.old)) (full_in (calls_of self.new)) result }
+        ensures roomy { IsErrOf result DeviceError.NoRoom → ⊥ }
+    {
+        match self.write(at, bytes) {
+            Ok(()) => Ok(()),
+            Err(_) => Err(self.fail()),
+        }
+    }
+
+    /// Notes that the file can't be used any more, and returns the error.
+    fn fail(&mut self) -> DeviceError
+        ensures calls { calls_of self.new ≡ refused_call ∷ calls_of self.old }
+        ensures failed { result ≡ DeviceError.Failed }
+    {
+        self.has_failed = true;
+        self.refuse()
+    }
+
     /// Cuts the file.
     pub(crate) fn cut(&mut self, len: usize) -> Result<(), DeviceError>
         requires usable { IsTrue (is_usable_after (calls_of self.old)) }
@@ -104,7 +132,8 @@ impl<T: Read + Write + Seek + OpenFile + Drop> Account<T> {
         ensures cut { OnOk result (seen_after (calls_of self.new) ≡ take len (seen_after (calls_of self.old))) }
         ensures crash { Follows (Cut len) (MayLeave (calls_of self.old)) (MayLeave (calls_of self.new)) }
         ensures time { TimePasses (calls_of self.old) (calls_of self.new) }
-        ensures cause { HasCause (faults_in (calls_of self.old)) (faults_in (calls_of self.new)) result }
+        ensures cause { HasCause (faults_in (calls_of self.old)) (faults_in (calls_of self.new)) (full_in (calls_of self.old)) (full_in (calls_of self.new)) result }
+        ensures roomy { IsErrOf result DeviceError.NoRoom → ⊥ }
     {
         self.is_dirty = true;
         match self.file.cut(len) {
@@ -123,7 +152,8 @@ impl<T: Read + Write + Seek + OpenFile + Drop> Account<T> {
         ensures seen { seen_after (calls_of self.new) ≡ seen_after (calls_of self.old) }
         ensures crash { (c : List ℕ) → MayLeave (calls_of self.new) c → MayLeave (calls_of self.old) c }
         ensures time { TimePasses (calls_of self.old) (calls_of self.new) }
-        ensures cause { HasCause (faults_in (calls_of self.old)) (faults_in (calls_of self.new)) result }
+        ensures cause { HasCause (faults_in (calls_of self.old)) (faults_in (calls_of self.new)) (full_in (calls_of self.old)) (full_in (calls_of self.new)) result }
+        ensures roomy { IsErrOf result DeviceError.NoRoom → ⊥ }
     {
         if !self.is_dirty {
             return Ok(());
@@ -169,6 +199,7 @@ impl<T: Read + Write + Seek + OpenFile + Drop> Account<T> {
         ensures any_moment { LeavesOnly length LeftSince (calls_of self.old) (calls_of self.new)
             (λ c. MayLeave (calls_of self.old) c ⊎ (c ≡ bytes.now)) }
         ensures fault { OnErr result (faults_in (calls_of self.old) < faults_in (calls_of self.new)) }
+        ensures lost { OnErr result (is_named_after (calls_of self.new) ≡ false) }
         ensures faults { faults_in (calls_of self.old) ≤ faults_in (calls_of self.new) }
     {
         let old = mem::replace(&mut self.file, fresh);

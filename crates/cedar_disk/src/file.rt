@@ -1,12 +1,14 @@
 //! A file of the operating system as a device.
 
-ghost use Rattle.std.specs.Prelude.{◌≡◌, [], length, IfOk, true};
-ghost use Rattle.cedar_disk.specs.Words.{counts_now, faults_in, ForSome, is_locked_after};
-ghost use Rattle.cedar_disk.specs.Words.{LeftSince, MayLeave, Only, only_now, seen_after};
+ghost use Rattle.std.specs.Prelude.{◌≡◌, ◌∷◌, [], false, length, IfOk, true};
+ghost use Rattle.cedar_disk.specs.Words.{counts_now, faults_in, ForSome, full_in, is_locked_after};
+ghost use Rattle.cedar_disk.specs.Words.{is_named_after, LeftSince, MayLeave, Only, only_now};
+ghost use Rattle.cedar_disk.specs.Words.{opened_any, opened_as, opened_existing, opened_new};
+ghost use Rattle.cedar_disk.specs.Words.{seen_after, way_of};
 ghost use Rattle.cedar_disk.specs.Accounts.{calls_of};
 
 use crate::noted::Place;
-use crate::system::Wanted;
+use crate::opening::Wanted;
 use crate::writes::make_file;
 use crate::{Account, LockFile, OpenError};
 use cedar_journal::{Device, DeviceError, ReplaceDevice, ReplaceError};
@@ -33,7 +35,7 @@ pub struct FileDevice<F: Files + Drop, A: Allocator> {
 }
 
 impl<F: Files + Drop, A: Allocator + Copy> FileDevice<F, A> {
-    ghost use Rattle.cedar_disk.specs.FileDevices.{device_calls};
+    ghost use Rattle.cedar_disk.specs.FileDevices.{device_calls, device_opening};
 
     /// Opens the file at `path`, or creates it, locks it, and puts it and its name on the disk. Then it is read.
     ///
@@ -50,6 +52,9 @@ impl<F: Files + Drop, A: Allocator + Copy> FileDevice<F, A> {
         ensures durable { IfOk result (λ device. Only (seen_after (device_calls device)) (MayLeave (device_calls device))) }
         //= It was locked before any other call on it. [also open_existing, create_new]
         ensures locked { IfOk result (λ device. is_locked_after (device_calls device) ≡ true) }
+        //= It was opened at the path that was given: with `open` whether it was there or not; with `open_existing` as one that was there;
+        //  and with `create_new` as one that the opening creates. [also open_existing, create_new]
+        ensures opening { IfOk result (λ device. device_opening device ≡ opened_any path.now ∷ []) }
     {
         FileDevice::open_wanted(files, alloc, path, Wanted::Any)
     }
@@ -63,6 +68,7 @@ impl<F: Files + Drop, A: Allocator + Copy> FileDevice<F, A> {
         F::File: LockFile,
         ensures durable { IfOk result (λ device. Only (seen_after (device_calls device)) (MayLeave (device_calls device))) }
         ensures locked { IfOk result (λ device. is_locked_after (device_calls device) ≡ true) }
+        ensures opening { IfOk result (λ device. device_opening device ≡ opened_existing path.now ∷ []) }
     {
         FileDevice::open_wanted(files, alloc, path, Wanted::Existing)
     }
@@ -76,6 +82,7 @@ impl<F: Files + Drop, A: Allocator + Copy> FileDevice<F, A> {
         F::File: LockFile,
         ensures durable { IfOk result (λ device. Only (seen_after (device_calls device)) (MayLeave (device_calls device))) }
         ensures locked { IfOk result (λ device. is_locked_after (device_calls device) ≡ true) }
+        ensures opening { IfOk result (λ device. device_opening device ≡ opened_new path.now ∷ []) }
         //= A file that was created is empty.
         ensures empty { IfOk result (λ device. seen_after (device_calls device) ≡ []) }
     {
@@ -98,6 +105,7 @@ impl<F: Files + Drop, A: Allocator + Copy> FileDevice<F, A> {
         F::File: LockFile,
         ensures durable { IfOk result (λ device. Only (seen_after (device_calls device)) (MayLeave (device_calls device))) }
         ensures locked { IfOk result (λ device. is_locked_after (device_calls device) ≡ true) }
+        ensures opening { IfOk result (λ device. device_opening device ≡ opened_as (way_of wanted) path.now ∷ []) }
     {
         let place = Place::find(files, alloc, path, wanted)?;
         let file = place.lock()?;
@@ -116,7 +124,7 @@ impl<F: Files + Drop, A: Allocator + Copy> Device for FileDevice<F, A> {
     ghost use Rattle.cedar_disk.specs.FileDevices.{device_calls};
 
     //= A file of the operating system is a device. The list of its calls, each noted with its result, gives what a read returns, and what a
-    //  crash may leave. [with may_leave, moment, left_since, faults]
+    //  crash may leave, and counts its failures and the writes that found no room. [with may_leave, moment, left_since, faults, full]
     ghost seen = { λ device. seen_after (device_calls device) };
 
     ghost may_leave = { λ device. MayLeave (device_calls device) };
@@ -126,6 +134,8 @@ impl<F: Files + Drop, A: Allocator + Copy> Device for FileDevice<F, A> {
     ghost left_since = { λ device. LeftSince (device_calls device) };
 
     ghost faults = { λ device. faults_in (device_calls device) };
+
+    ghost full = { λ device. full_in (device_calls device) };
 
     ghost counts_now = { λ device. counts_now (device_calls device) };
 
@@ -144,6 +154,14 @@ impl<F: Files + Drop, A: Allocator + Copy> Device for FileDevice<F, A> {
         }
         self.held = None;
         self.account.write(at, bytes)
+    }
+
+    fn write_over(&mut self, at: usize, bytes: &[u8]) -> Result<(), DeviceError> {
+        if !self.account.is_usable() {
+            return Err(self.account.refuse());
+        }
+        self.held = None;
+        self.account.write_over(at, bytes)
     }
 
     fn cut(&mut self, len: usize) -> Result<(), DeviceError> {
@@ -166,6 +184,12 @@ impl<F: Files + Drop, A: Allocator + Copy> ReplaceDevice for FileDevice<F, A>
 where
     F::File: LockFile,
 {
+    ghost use Rattle.cedar_disk.specs.FileDevices.{device_calls};
+
+    //= Which bytes a file of the operating system has isn't known once a call has failed that was to give its name to another one, or to put
+    //  that on the disk.
+    ghost is_lost = { λ device. is_named_after (device_calls device) ≡ false };
+
     fn replace(&mut self, bytes: &[u8]) -> Result<(), ReplaceError> {
         if !self.account.has_name() {
             self.account.refuse();

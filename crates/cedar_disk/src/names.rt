@@ -1,8 +1,8 @@
-//! The name of a file that is written beside another one.
+//! The name of a file that is written beside another one, and that of a file's folder.
 
 ghost use Rattle.std.specs.Prelude.{◌++◌, ◌+◌, ◌<◌, ◌≡◌, ◌≤◌, ◌⊎◌, length, MatchOption, take};
 ghost use Rattle.cedar_disk.specs.Words.{compaction_path, HasNoSlash, LiesBeside};
-ghost use Rattle.cedar_disk.specs.Words.{mark_of, new_suffix};
+ghost use Rattle.cedar_disk.specs.Words.{LiesIn, mark_of, new_suffix};
 
 use arrayvec::ArrayString;
 
@@ -50,6 +50,19 @@ pub(crate) fn compaction_beside(path: &str) -> Option<ArrayString<PATH_LEN>>
     beside.push_str(path);
     beside.push_str(COMPACTION_SUFFIX);
     Some(beside)
+}
+
+/// Returns the path of the folder that the file at a path lies in.
+pub(crate) fn folder_of(path: &str) -> &str
+    ensures { LiesIn path.now result.now }
+{
+    let Some((folder, _)) = path.rsplit_once('/') else {
+        return ".";
+    };
+    if folder.is_empty() {
+        return "/";
+    }
+    folder
 }
 
 /// What is in a name before its suffix: nothing, or the number behind a full stop.

@@ -7,24 +7,24 @@
 ghost use Rattle.std.specs.Prelude.{◌≡◌, ◌≤◌, ◌<◌, ◌^◌, ◌∷◌, [], false, IfOk, IfSome};
 ghost use Rattle.std.specs.Prelude.{is_ok, length, OnErr, OnOk, true};
 ghost use Rattle.cedar_disk.specs.NotedFiles.{is_beside, noted_calls};
+ghost use Rattle.cedar_disk.specs.OpenedFiles.{folder_calls, found_path};
 ghost use Rattle.cedar_disk.specs.Words.{call_with, compaction_path, folder_sync_call};
-ghost use Rattle.cedar_disk.specs.Words.{is_locked_after, LiesBeside, lock_call, MayLeave, Only};
+ghost use Rattle.cedar_disk.specs.Words.{HasJustTaken, is_locked_after, LiesBeside, LiesIn};
+ghost use Rattle.cedar_disk.specs.Words.{lock_call, MayLeave, Only, opened_as, path_of, way_of};
 ghost use Rattle.cedar_disk.specs.Words.{open_call, refused_call, rename_call, seen_after};
 ghost use Rattle.cedar_disk.specs.Words.{sync_call, took_name, TookSome, truncate_call};
 ghost use Rattle.cedar_disk.specs.Words.{write_by_outcome};
 
 use crate::history::History;
 use crate::names::compaction_beside;
-use crate::system::{
-    Wanted, is_file_itself, keep_owner, lock_file, open_folder, read_all, resolve,
-};
+use crate::opening::{Folder, Found, Wanted, find_file, open_folder_of};
+use crate::system::{is_file_itself, keep_owner, lock_file, read_all};
 use crate::wrote::Wrote;
 use crate::{LockFile, OpenError};
 use std::alloc::Allocator;
 use std::fs::{self, Metadata, OpenFile, OpenOptions};
 use std::io::{self, Read, Seek, SeekFrom, Write};
 use std::os::unix::fs::OpenOptionsExt;
-use std::path::PathBuf;
 use std::rt::Files;
 
 const OPENED: u64 = 0;
@@ -45,15 +45,20 @@ const TOOK_NAME: u64 = 7;
 
 const LOCKED: u64 = 8;
 
+const FOUND_NO_ROOM: u64 = 9;
+
+const INTERRUPTED: u64 = 10;
+
 /// No file is longer.
 const MAX_OFFSET: usize = (1 << 63) - 1;
 
-/// Where a file lies: its folder and its path.
+/// Where a file lies: its folder, and its path, as it was found.
 #[derive(Drop)]
 pub(crate) struct Place<F: Files + Drop, A: Allocator> {
     files: F,
-    folder: F::File,
-    path: PathBuf<A>,
+    folder: Folder<F::File>,
+    found: Found<A>,
+    ghost home: { LiesIn (found_path found) (path_of (folder_calls folder)) },
 }
 
 /// A file, with the calls on it.
@@ -72,7 +77,7 @@ pub struct PathCalls {
 }
 
 impl<F: Files + Drop, A: Allocator + Copy> Place<F, A> {
-    ghost use Rattle.cedar_disk.specs.PathFiles.{place_path};
+    ghost use Rattle.cedar_disk.specs.PathFiles.{place_opening, place_path};
 
     /// Finds the file that is wanted at `path`, or creates it. Links in the path are followed now and not later.
     pub(crate) fn find(
@@ -80,13 +85,15 @@ impl<F: Files + Drop, A: Allocator + Copy> Place<F, A> {
         alloc: A,
         path: &str,
         wanted: Wanted,
-    ) -> Result<Place<F, A>, OpenError> {
-        let path = resolve(&files, alloc, path, wanted)?;
-        let folder = open_folder(&files, path.as_str())?;
+    ) -> Result<Place<F, A>, OpenError>
+        ensures opening { IfOk result (λ place. place_opening place ≡ opened_as (way_of wanted) path.now ∷ []) }
+    {
+        let found = find_file(&files, alloc, path, wanted)?;
+        let folder = open_folder_of(&files, found.path())?;
         Ok(Place {
             files,
             folder,
-            path,
+            found,
         })
     }
 
@@ -100,7 +107,7 @@ impl<F: Files + Drop, A: Allocator + Copy> Place<F, A> {
         ensures noted { IfOk result (λ file. noted_calls file ≡ lock_call true ∷ []) }
         ensures name { IfOk result (λ file. is_beside file ≡ false) }
     {
-        let file = lock_file(&self.files, self.path.as_str())?;
+        let file = lock_file(&self.files, self.path())?;
         let mut history = History::new();
         history.note(&[LOCKED, 0, 1], &[]);
         Ok(Noted {
@@ -114,7 +121,7 @@ impl<F: Files + Drop, A: Allocator + Copy> Place<F, A> {
     pub(crate) fn clear(&self, _held: &Noted<F::File>)
         requires held { is_locked_after (noted_calls _held.now) ≡ true }
     {
-        let path = self.path.as_str();
+        let path = self.path();
         let Some(name) = compaction_beside(path) else {
             return;
         };
@@ -137,7 +144,7 @@ impl<F: Files + Drop, A: Allocator + Copy> Place<F, A> {
     {
         let mut file = held;
         file.file.sync_all()?;
-        self.folder.sync_all()?;
+        self.folder.sync()?;
         let bytes = read_all(&mut file.file, alloc)?;
         file.history.note(&[OPENED, 0, 1], &bytes);
         Ok((file, bytes))
@@ -152,7 +159,7 @@ impl<F: Files + Drop, A: Allocator + Copy> Place<F, A> {
     pub(crate) fn path(&self) -> &str
         ensures { result.now ≡ place_path self.now }
     {
-        self.path.as_str()
+        self.found.path()
     }
 }
 
@@ -272,7 +279,8 @@ impl<T: Read + Write + Seek + OpenFile + Drop> Noted<T> {
     {
         match wrote {
             Wrote::Bytes(count) => self.note(WRITTEN, at, true, &bytes[..count]),
-            Wrote::Nothing | Wrote::Full(_) => self.refuse(),
+            Wrote::Nothing => self.note(INTERRUPTED, 0, true, &[]),
+            Wrote::Full(_) => self.note(FOUND_NO_ROOM, 0, false, &[]),
             Wrote::Failed(_) => self.note(WRITTEN, at, false, bytes),
         }
     }
@@ -371,7 +379,7 @@ impl<T: Read + Write + Seek + OpenFile + Drop> Noted<T> {
         ensures name { is_beside self.new ≡ false }
     {
         let Noted { history, .. } = other;
-        let path = place.path.as_str();
+        let path = place.found.path();
         let answer = fs::rename(&place.files, name, path);
         if answer.is_err() {
             remove_made(&place.files, name, path);
@@ -389,7 +397,7 @@ impl<T: Read + Write + Seek + OpenFile + Drop> Noted<T> {
         ensures noted { noted_calls self.new ≡ folder_sync_call (is_ok result) ∷ noted_calls self.old }
         ensures name { is_beside self.new ≡ is_beside self.old }
     {
-        self.sync_folder(&place.folder)
+        self.sync_names(&place.folder)
     }
 
     /// Gives this file, which lies beside the one at a path, that one's name.
@@ -411,12 +419,26 @@ impl<T: Read + Write + Seek + OpenFile + Drop> Noted<T> {
         self.note_answer(TOOK_NAME, 0, path.as_bytes(), answer)
     }
 
-    /// Waits until the disk has the names of a folder.
-    pub(crate) fn sync_folder<D: OpenFile>(&mut self, folder: &D) -> io::Result<()>
+    /// Waits until the disk has the names of the folder of the path whose name this file has just taken.
+    pub(crate) fn sync_folder<D: OpenFile + Drop>(
+        &mut self,
+        folder: &Folder<D>,
+        _path: &str,
+    ) -> io::Result<()>
+        requires taken { HasJustTaken _path.now (noted_calls self.old) }
+        requires home { LiesIn _path.now (path_of (folder_calls folder.now)) }
         ensures noted { noted_calls self.new ≡ folder_sync_call (is_ok result) ∷ noted_calls self.old }
         ensures name { is_beside self.new ≡ is_beside self.old }
     {
-        let answer = folder.sync_all();
+        self.sync_names(folder)
+    }
+
+    // Waits until the disk has the names of a folder.
+    fn sync_names<D: OpenFile + Drop>(&mut self, folder: &Folder<D>) -> io::Result<()>
+        ensures noted { noted_calls self.new ≡ folder_sync_call (is_ok result) ∷ noted_calls self.old }
+        ensures name { is_beside self.new ≡ is_beside self.old }
+    {
+        let answer = folder.sync();
         self.note_answer(NAMED, 0, &[], answer)
     }
 

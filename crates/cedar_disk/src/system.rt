@@ -1,15 +1,16 @@
 //! How a file is found, opened and read.
 
 ghost use Rattle.std.specs.Prelude.{◌≡◌, IfOk, IfSome};
+ghost use Rattle.cedar_disk.specs.OpenedFiles.{file_to_read, OfFileAt};
 ghost use Rattle.cedar_disk.specs.Words.{Memory, TellsKind};
 
 use crate::LockFile;
+use crate::opening::{FileToRead, open_to_read};
 use std::alloc::{AllocError, Allocator};
 use std::fs;
 use std::fs::{Metadata, OpenFile, OpenOptions};
 use std::io::{self, Read};
 use std::os::unix::fs::{MetadataExt, lchown};
-use std::path::PathBuf;
 use std::rt::Files;
 
 /// Why a file wasn't opened.
@@ -41,42 +42,6 @@ impl From<io::Error> for OpenError {
             io::ErrorKind::OutOfMemory => OpenError::Memory,
             _ => OpenError::Io(error),
         }
-    }
-}
-
-/// Which file an opening takes.
-#[derive(Clone, Copy, Debug, PartialEq, Eq)]
-pub(crate) enum Wanted {
-    /// The one that is there, or a new one.
-    Any,
-    /// Only one that is there.
-    Existing,
-    /// Only a new one.
-    New,
-}
-
-/// Returns the file's path with no link in it. The file is created, if it may be and is missing.
-pub(crate) fn resolve<F: Files, A: Allocator>(
-    files: &F,
-    alloc: A,
-    path: &str,
-    wanted: Wanted,
-) -> io::Result<PathBuf<A>> {
-    OpenOptions::new()
-        .read(true)
-        .write(true)
-        .create(wanted == Wanted::Any)
-        .create_new(wanted == Wanted::New)
-        .open(files, path)?;
-    files.canonicalize(alloc, path)
-}
-
-/// Opens the folder that a file lies in, so that its names can be synced.
-pub(crate) fn open_folder<F: Files>(files: &F, path: &str) -> io::Result<F::File> {
-    match path.rsplit_once('/') {
-        Some(("", _)) => fs::open(files, "/"),
-        Some((folder, _)) => fs::open(files, folder),
-        None => fs::open(files, "."),
     }
 }
 
@@ -124,18 +89,22 @@ pub fn read_file<F: Files, A: Allocator>(
     files: &F,
     alloc: A,
     path: &str,
-) -> Result<Vec<u8, A>, OpenError> {
-    read_opened(fs::open(files, path)?, alloc)
+) -> Result<Vec<u8, A>, OpenError>
+    //= What is read of a file by its path is all that was left, where that is known, in a file that was opened at this path to be read.
+    //  [by OfFileAt]
+    ensures bytes { IfOk result (λ bytes. OfFileAt F.File.remaining path.now (λ left. IfSome left (λ all. bytes.items ≡ all))) }
+{
+    read_opened(open_to_read(files, path)?, alloc)
 }
 
 // Reads all of what was opened, if it is a file.
 fn read_opened<T: Read + OpenFile + Drop, A: Allocator>(
-    opened: T,
+    opened: FileToRead<T>,
     alloc: A,
 ) -> Result<Vec<u8, A>, OpenError>
-    ensures bytes { IfOk result (λ bytes. IfSome (T.remaining opened) (λ left. bytes.items ≡ left)) }
+    ensures bytes { IfOk result (λ bytes. IfSome (T.remaining (file_to_read opened)) (λ left. bytes.items ≡ left)) }
 {
-    let mut file = opened;
+    let mut file = opened.into_file();
     if !file.metadata()?.is_file() {
         return Err(OpenError::Io(io::ErrorKind::Unsupported.into()));
     }

@@ -2,14 +2,16 @@
 
 ghost use Rattle.std.specs.Prelude.{◌≡◌, ◌∷◌, [], false, IfErr, IfOk, IsTrue};
 ghost use Rattle.std.specs.Prelude.{length, OnOk, Some, true};
-ghost use Rattle.cedar_disk.specs.Words.{asked_after, Keeps, LiesBeside, is_usable_after, IsPlaced};
-ghost use Rattle.cedar_disk.specs.Words.{IsWholeBeside, IsUnplacedAt, open_call, seen_after};
-ghost use Rattle.cedar_disk.specs.Words.{WriteAppends, WritesAtMost};
+ghost use Rattle.cedar_disk.specs.Words.{asked_after, Keeps, LiesBeside, LiesIn, is_usable_after};
+ghost use Rattle.cedar_disk.specs.Words.{IsPlaced, IsWholeBeside, IsUnplacedAt, open_call, path_of};
+ghost use Rattle.cedar_disk.specs.Words.{seen_after, WriteAppends, WritesAtMost};
 ghost use Rattle.cedar_disk.specs.NotedFiles.{is_beside, noted_calls};
+ghost use Rattle.cedar_disk.specs.OpenedFiles.{folder_calls};
 
 use crate::names::{NAMES, PATH_LEN, name_beside};
 use crate::noted::{Noted, PathCalls, make_beside};
-use crate::system::{file_at, open_folder};
+use crate::opening::{Folder, open_folder_of};
+use crate::system::file_at;
 use crate::wrote::Wrote;
 use arrayvec::ArrayString;
 use std::fs::Metadata;
@@ -29,7 +31,7 @@ const NEW_MODE: u32 = 0o666;
 pub struct NewFile<'a, F: Files> {
     files: &'a F,
     path: &'a str,
-    folder: F::File,
+    folder: Folder<F::File>,
     name: ArrayString<PATH_LEN>,
     former: Option<Metadata>,
     file: Noted<F::File>,
@@ -40,6 +42,7 @@ pub struct NewFile<'a, F: Files> {
     ghost unasked: { asked_after (noted_calls file) ≡ false },
     ghost beside: { is_beside file ≡ true },
     ghost named: { LiesBeside path.now name.bytes },
+    ghost home: { LiesIn path.now (path_of (folder_calls folder)) },
 }
 
 /// Why a file wasn't given its place.
@@ -67,7 +70,7 @@ impl<'a, F: Files> NewFile<'a, F> {
         ensures path { IfOk result (λ new. new_path new ≡ path.now) }
     {
         let former = file_at(files, path)?;
-        let folder = open_folder(files, path)?;
+        let folder = open_folder_of(files, path)?;
         let mode = if former.is_some() { OWN_MODE } else { NEW_MODE };
         let (name, file) = make_named(files, path, mode)?;
         Ok(NewFile {
@@ -160,7 +163,7 @@ impl<'a, F: Files> NewFile<'a, F> {
                 calls: file.into_calls(),
             });
         }
-        match file.sync_folder(&folder) {
+        match file.sync_folder(&folder, path) {
             Ok(()) => Ok(file.into_calls()),
             Err(error) => Err(NotPlaced {
                 error,

@@ -1,9 +1,10 @@
 //! Bytes written by as many calls as the system takes for them.
 
-ghost use Rattle.std.specs.Prelude.{◌≡◌, ◌<◌, ◌≤◌, ◌∷◌, [], false, IfErr, IfOk, IsErrOf};
+ghost use Rattle.std.specs.Prelude.{◌≡◌, ◌≤◌, ◌∷◌, [], false, IfOk, IsErrOf};
 ghost use Rattle.std.specs.Prelude.{length, OnErr, OnOk, true};
 ghost use Rattle.cedar_disk.specs.Words.{AreWritten, AreWrittenInPart, compaction_path, faults_in};
-ghost use Rattle.cedar_disk.specs.Words.{folder_sync_call, is_locked_after, IsUnplaced, MayLeave};
+ghost use Rattle.cedar_disk.specs.Words.{folder_sync_call, full_in, HasCause, is_locked_after};
+ghost use Rattle.cedar_disk.specs.Words.{IsUnplaced, MayLeave};
 ghost use Rattle.cedar_disk.specs.Words.{Only, open_call, rename_call, seen_after, Spoils};
 ghost use Rattle.cedar_disk.specs.NotedFiles.{is_beside, noted_calls};
 ghost use Rattle.cedar_disk.specs.PathFiles.{place_path};
@@ -34,7 +35,7 @@ pub(crate) fn write_all<T: Read + Write + Seek + OpenFile + Drop>(
     ensures written { OnOk result (AreWritten at (length bytes.now) bytes.now (noted_calls file.old) (noted_calls file.new)) }
     ensures spoils { Spoils at (length bytes.now) (noted_calls file.old) (noted_calls file.new) }
     ensures no_room { IsErrOf result DeviceError.NoRoom → AreWrittenInPart at bytes.now (noted_calls file.old) (noted_calls file.new) }
-    ensures faults { OnErr result (faults_in (noted_calls file.old) < faults_in (noted_calls file.new)) }
+    ensures cause { HasCause (faults_in (noted_calls file.old)) (faults_in (noted_calls file.new)) (full_in (noted_calls file.old)) (full_in (noted_calls file.new)) result }
     ensures name { is_beside file.new ≡ is_beside file.old }
 {
     let mut done = 0;
@@ -44,6 +45,7 @@ pub(crate) fn write_all<T: Read + Write + Seek + OpenFile + Drop>(
             Wrote::Bytes(count) => done += count,
             Wrote::Nothing => {
                 if tries == 0 {
+                    file.refuse();
                     return Err(DeviceError::Failed);
                 }
                 tries -= 1;

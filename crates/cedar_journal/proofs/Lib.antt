@@ -1,4 +1,5 @@
 pub mod Accepted
+pub mod Causes
 pub mod Crash
 pub mod Found
 pub mod Framed

@@ -1,8 +1,8 @@
 -- What the calls of a device do to its file, and what a crash may do between two syncs.
 use Rattle.std.specs.Prelude.{◌<◌, ◌≡◌, ◌⊎◌, ℕ, ◌+◌, ◌≤◌, max, min, List, ◌++◌, length}
-use Rattle.std.specs.Prelude.{take, drop, Result, IsErrOf}
+use Rattle.std.specs.Prelude.{take, drop, Result, IsErrOf, OnOk}
 use Rattle.cedar_journal.specs.declared.device.DeviceError.{DeviceError}
-use Rattle.cedar_journal.specs.declared.device.DeviceError.TheVariants.{Failed, NoRoom}
+use Rattle.cedar_journal.specs.declared.device.DeviceError.TheVariants.{Failed, Memory, NoRoom}
 
 -- a file is what another one was, with these bytes at this offset
 abbrev pub Holds : List ℕ → ℕ → List ℕ → List ℕ → Type 0
@@ -48,8 +48,25 @@ pub record LeavesOnly {D : Type 0} (moment : D → ℕ) (left_since : D → ℕ 
   -- what a crash since an earlier moment t might have left, it might have left by then, or P holds of it
   pub before : (t : ℕ) (c : List ℕ) → t ≤ moment old → left_since new t c → left_since old t c ⊎ P c
 
--- `Failed` is reported only if the disk has failed since, and `NoRoom` only if a write has found no room
-pub record HasCause {T : Type 0} (before now : ℕ) (result : Result T DeviceError) : Type 0 where
+-- a write has found no room since, and nothing has failed
+abbrev pub FoundNoRoom : {D : Type 0} → (D → ℕ) → (D → ℕ) → D → D → Type 0
+FoundNoRoom faults full old new = (full old < full new) × (faults new ≡ faults old)
+
+-- what is counted in a call: its error, and nothing if it succeeds. Want of room is counted as such, from `full` to
+-- `fuller`, and each other error as a failure, from `before` to `now`
+pub record HasCause {T : Type 0} (before now full fuller : ℕ) (result : Result T DeviceError) : Type 0 where
   pub later : before ≤ now
+  pub no_less : full ≤ fuller
+  pub done : OnOk result (now ≡ before)
   pub failed : IsErrOf result Failed → before < now
+  pub memory : IsErrOf result Memory → before < now
+  pub no_room : IsErrOf result NoRoom → (full < fuller) × (now ≡ before)
+
+-- what is counted in a read, from `before` to `now`: its error, but for lack of memory for the bytes, which is no
+-- failure of the device
+pub record HasReadCause {T : Type 0} (before now : ℕ) (result : Result T DeviceError) : Type 0 where
+  pub later : before ≤ now
+  pub done : OnOk result (now ≡ before)
+  pub failed : IsErrOf result Failed → before < now
+  pub memory : IsErrOf result Memory → now ≡ before
   pub no_room : IsErrOf result NoRoom → before < now

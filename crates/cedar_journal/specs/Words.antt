@@ -1,6 +1,6 @@
 -- The words that the contracts of this crate cite, from one place.
 pub use Rattle.cedar_journal.specs.Device.{Cut, Elapses, Follows, HasCause, HasFront, Holds}
-pub use Rattle.cedar_journal.specs.Device.{LeavesOnly, Only, Torn}
+pub use Rattle.cedar_journal.specs.Device.{HasReadCause, FoundNoRoom, LeavesOnly, Only, Torn}
 pub use Rattle.cedar_journal.specs.Files.{with_payload, ends_closed, extent_end, file_reading}
 pub use Rattle.cedar_journal.specs.Files.{extent_format}
 pub use Rattle.cedar_journal.specs.Files.{format_of, HasExtent, HasRecords, is_at_rest, is_begun}

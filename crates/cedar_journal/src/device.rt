@@ -1,7 +1,7 @@
 //! A file as the journal sees it: what a read returns, and what a crash may leave.
 
 ghost use Rattle.std.specs.Prelude.{◌≡◌, ◌≤◌, IfOk, IsErrOf, length, List, OnOk, take, ℕ};
-ghost use Rattle.cedar_journal.specs.Words.{Cut, Elapses, Follows, HasCause, Holds};
+ghost use Rattle.cedar_journal.specs.Words.{Cut, Elapses, Follows, HasCause, HasReadCause, Holds};
 ghost use Rattle.cedar_journal.specs.Words.{Memory, Only, Torn};
 
 use std::alloc::{AllocError, AllocFailed, Allocator};
@@ -52,23 +52,29 @@ pub trait Device {
     /// What a crash at some moment from that one on might have left, during a call or between two.
     ghost left_since: { Self → ℕ → List ℕ → Type 0 };
 
-    /// How often the disk has failed, or a write has found no room.
+    /// How often a call has failed: each that returned an error, but for a write that found no room, and a read that lacked memory.
     ghost faults: { Self → ℕ };
+
+    /// How often a write has found no room.
+    ghost full: { Self → ℕ };
 
     /// Returns all the bytes.
     ///
     /// # Errors
-    /// `Memory` if an allocation failed, `Failed` if the disk failed.
+    /// `Memory` if an allocation for the bytes failed, `Failed` if the disk failed.
     fn read<A: Allocator>(&mut self, alloc: A) -> Result<Vec<u8, A>, DeviceError>
         //= The trait of devices: what each call does to what a read returns and to what a crash may leave; that a write which found no
-        //  room leaves the bytes outside of its range; and that `Failed` is returned only if the disk has failed, and `NoRoom` only if a
-        //  write has found no room. [with seen, crash, time, cause; also write_at.written, write_at.no_room, write_at.crash, write_at.time,
-        //  write_at.cause, cut.cut, cut.crash, cut.time, cut.cause, sync.durable, sync.seen, sync.crash, sync.time, sync.cause]
+        //  room leaves the bytes outside of its range; and that each error is counted: `NoRoom` as a write that found no room, and any
+        //  other one as a failure, but for a read's lack of memory. `write_over`, `cut` and `sync` never return `NoRoom`. [with seen, crash,
+        //  time, cause, room; also write_at.written, write_at.no_room, write_at.crash, write_at.time, write_at.cause, write_over.written, write_over.crash,
+        //  write_over.time, write_over.cause, write_over.roomy, cut.cut, cut.crash, cut.time, cut.cause, cut.roomy, sync.durable,
+        //  sync.seen, sync.crash, sync.time, sync.cause, sync.roomy]
         ensures bytes { IfOk result (λ bytes. bytes.items ≡ seen self.old) }
         ensures seen { seen self.new ≡ seen self.old }
         ensures crash { (c : List ℕ) → may_leave self.new c → may_leave self.old c }
         ensures time { Elapses (moment self.old) (moment self.new) (left_since self.old) (left_since self.new) (may_leave self.new) }
-        ensures cause { HasCause (faults self.old) (faults self.new) result };
+        ensures cause { HasReadCause (faults self.old) (faults self.new) result }
+        ensures room { full self.new ≡ full self.old };
 
     /// Writes over what is there from the byte `at` on, and past the end. Until a sync, a crash may leave any bytes in the range, and past
     /// the end of what it would have left before.
@@ -82,7 +88,19 @@ pub trait Device {
         ensures no_room { IsErrOf result DeviceError.NoRoom → Torn at (length bytes.now) (seen self.old) (seen self.new) }
         ensures crash { Follows (Torn at (length bytes.now)) (may_leave self.old) (may_leave self.new) }
         ensures time { Elapses (moment self.old) (moment self.new) (left_since self.old) (left_since self.new) (may_leave self.new) }
-        ensures cause { HasCause (faults self.old) (faults self.new) result };
+        ensures cause { HasCause (faults self.old) (faults self.new) (full self.old) (full self.new) result };
+
+    /// `write_at`, over bytes that are there: so a write that finds no room is a failure.
+    ///
+    /// # Errors
+    /// `Memory` if an allocation failed, `Failed` if the disk failed, or had no room.
+    fn write_over(&mut self, at: usize, bytes: &[u8]) -> Result<(), DeviceError>
+        requires { at ≤ length (seen self.old) }
+        ensures written { OnOk result (Holds (seen self.old) at bytes.now (seen self.new)) }
+        ensures crash { Follows (Torn at (length bytes.now)) (may_leave self.old) (may_leave self.new) }
+        ensures time { Elapses (moment self.old) (moment self.new) (left_since self.old) (left_since self.new) (may_leave self.new) }
+        ensures cause { HasCause (faults self.old) (faults self.new) (full self.old) (full self.new) result }
+        ensures roomy { IsErrOf result DeviceError.NoRoom → ⊥ };
 
     /// Cuts the file to its first `len` bytes. Until a sync, a crash may leave any length in between. What it would have left of fewer
     /// bytes, since a write past the end wasn't synced, it may still leave.
@@ -94,7 +112,8 @@ pub trait Device {
         ensures cut { OnOk result (seen self.new ≡ take len (seen self.old)) }
         ensures crash { Follows (Cut len) (may_leave self.old) (may_leave self.new) }
         ensures time { Elapses (moment self.old) (moment self.new) (left_since self.old) (left_since self.new) (may_leave self.new) }
-        ensures cause { HasCause (faults self.old) (faults self.new) result };
+        ensures cause { HasCause (faults self.old) (faults self.new) (full self.old) (full self.new) result }
+        ensures roomy { IsErrOf result DeviceError.NoRoom → ⊥ };
 
     /// Puts all writes on the disk. After it, a crash leaves what a read returns.
     ///
@@ -105,7 +124,8 @@ pub trait Device {
         ensures seen { seen self.new ≡ seen self.old }
         ensures crash { (c : List ℕ) → may_leave self.new c → may_leave self.old c }
         ensures time { Elapses (moment self.old) (moment self.new) (left_since self.old) (left_since self.new) (may_leave self.new) }
-        ensures cause { HasCause (faults self.old) (faults self.new) result };
+        ensures cause { HasCause (faults self.old) (faults self.new) (full self.old) (full self.new) result }
+        ensures roomy { IsErrOf result DeviceError.NoRoom → ⊥ };
 
     /// This moment is one of those since an earlier one.
     ghost counts_now: { (file : Self) (t : ℕ) (c : List ℕ) → t ≤ moment file → may_leave file c → left_since file t c };

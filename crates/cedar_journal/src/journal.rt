@@ -6,7 +6,7 @@
 ghost use Rattle.std.specs.Prelude.{◌+◌, ◌<◌, ◌^◌, ◌≡◌, ◌≤◌, IfErr, IfOk, IsErrOf, IsOkAnd};
 ghost use Rattle.std.specs.Prelude.{length, OnErr, OnOk, Some, true};
 ghost use Rattle.cedar_journal.specs.Words.{with_payload, Device, HasExtent, IfKept, image_bytes};
-ghost use Rattle.cedar_journal.specs.Words.{extent_end, extent_format, is_at_rest};
+ghost use Rattle.cedar_journal.specs.Words.{extent_end, extent_format, FoundNoRoom, is_at_rest};
 ghost use Rattle.cedar_journal.specs.Words.{IsBeforeOrAfter, IsSettled};
 ghost use Rattle.cedar_journal.specs.Words.{IsStaged, LeavesOnly, Only, overhead, payload_of};
 ghost use Rattle.cedar_journal.specs.Words.{file_payloads, payloads_of, StandsForEither};
@@ -72,8 +72,11 @@ impl<D: Device> Journal<D> {
         ensures any_moment_err { IfErr result (λ e. LeavesOnly D.moment D.left_since device e.1
             (λ c. file_payloads c ≡ file_payloads (D.seen device))) }
 
-        //= An opening returns `Failed` only if the disk has failed. [also open_read]
+        //= An opening returns `NoRoom` only if a write has found no room and nothing has failed, and any other error only if a call of the
+        //  device has failed. [with memory, no_room; also open_read]
         ensures failed { IfErr result (λ e. e.0 ≡ DeviceError.Failed → D.faults device < D.faults e.1) }
+        ensures memory { IfErr result (λ e. e.0 ≡ DeviceError.Memory → D.faults device < D.faults e.1) }
+        ensures no_room { IfErr result (λ e. e.0 ≡ DeviceError.NoRoom → FoundNoRoom D.faults D.full device e.1) }
 
         //= Its records end where the file's did, and are of the file's version. A new file is of version 2. [with format; also open_read]
         ensures end { IfOk result (λ journal. journal.end ≡ extent_end extent) }
@@ -110,6 +113,8 @@ impl<D: Device> Journal<D> {
         ensures any_moment_err { IfErr result (λ e. LeavesOnly D.moment D.left_since device e.1
             (λ c. file_payloads c ≡ file_payloads (D.seen device))) }
         ensures failed { IfErr result (λ e. e.0 ≡ DeviceError.Failed → D.faults device < D.faults e.1) }
+        ensures memory { IfErr result (λ e. e.0 ≡ DeviceError.Memory → D.faults device < D.faults e.1) }
+        ensures no_room { IfErr result (λ e. e.0 ≡ DeviceError.NoRoom → FoundNoRoom D.faults D.full device e.1) }
         ensures end { IfOk result (λ journal. journal.end ≡ extent_end extent) }
         ensures format { IfOk result (λ journal. journal.format ≡ extent_format extent) }
 
@@ -151,17 +156,17 @@ impl<D: Device> Journal<D> {
             (λ c. file_payloads c ≡ file_payloads (D.seen self.old.device)) }
 
         //= If the device had no room for a record, the file is at rest and on the disk, and represents the same payloads. `NoRoom` is
-        //  returned only if a write found no room. [with same_left, wanting]
+        //  returned only if a write found no room, and nothing failed. [with same_left, wanting]
         ensures no_room { IsErrOf result JournalError.NoRoom → IsSettled D.seen D.may_leave self.new.device self.new.format self.new.end }
         ensures same_left { IsErrOf result JournalError.NoRoom → file_payloads (D.seen self.new.device) ≡ file_payloads (D.seen self.old.device) }
-        ensures wanting { IsErrOf result JournalError.NoRoom → D.faults self.old.device < D.faults self.new.device }
+        ensures wanting { IsErrOf result JournalError.NoRoom → FoundNoRoom D.faults D.full self.old.device self.new.device }
 
-        //= Otherwise staging fails exactly if the records end after 2^60, and then nothing is written, or if the device fails; `Failed` is
-        //  returned only if the disk has failed. [with far, untouched, failed, faults]
+        //= Otherwise staging fails exactly if the records end after 2^60, and then nothing is written, or if the device fails: an error of
+        //  the device is returned only if a call of it has failed. [with far, untouched, failed, faults]
         ensures full { IsErrOf result JournalError.Full → 2 ^ 60 ≤ self.old.end }
         ensures far { 2 ^ 60 ≤ self.old.end → IsErrOf result JournalError.Full }
         ensures untouched { IsErrOf result JournalError.Full → self.new ≡ self.old }
-        ensures failed { IsErrOf result (JournalError.Device DeviceError.Failed) → D.faults self.old.device < D.faults self.new.device }
+        ensures failed { (d : DeviceError) → IsErrOf result (JournalError.Device d) → D.faults self.old.device < D.faults self.new.device }
         ensures faults { D.faults self.old.device ≤ D.faults self.new.device }
     {
         if self.end >= MAX_END {
@@ -183,7 +188,7 @@ impl<D: Device> Journal<D> {
     /// Opens the gate of the record that was staged. On `Ok` it is acknowledged: from then on each crash leaves a file that has it.
     ///
     /// # Errors
-    /// The device's, also `NoRoom`. The record may or may not count: open the file again.
+    /// The device's. The record may or may not count: open the file again.
     pub fn commit<A: Allocator>(&mut self, frame: &Frame<A>) -> Result<(), DeviceError>
         requires { IsStaged D.seen D.may_leave self.old.device self.old.format self.old.end (payload_of frame.now) }
 
@@ -201,11 +206,11 @@ impl<D: Device> Journal<D> {
         ensures end { OnErr result (self.new.end ≡ self.old.end) }
         ensures format { self.new.format ≡ self.old.format }
 
-        //= An acknowledgement returns `Failed` only if the disk has failed. [with faults]
-        ensures failed { IsErrOf result DeviceError.Failed → D.faults self.old.device < D.faults self.new.device }
+        //= An acknowledgement fails only if a call of the device has failed. [with faults]
+        ensures failed { OnErr result (D.faults self.old.device < D.faults self.new.device) }
         ensures faults { D.faults self.old.device ≤ D.faults self.new.device }
     {
-        self.device.write_at(self.end, &[open_gate(self.format)])?;
+        self.device.write_over(self.end, &[open_gate(self.format)])?;
         self.device.sync()?;
         self.end += frame.len(self.format);
         Ok(())
@@ -230,22 +235,22 @@ impl<D: Device> Journal<D> {
             (IsBeforeOrAfter (file_payloads (D.seen self.old.device)) (payload_of frame.now)) }
 
         //= If the device had no room for the record, it isn't appended: the file is at rest and on the disk, and represents the payloads
-        //  from before; a crash leaves these. `NoRoom` is returned only if a write found no room. [with same_left, kept, wanting, end,
-        //  format]
+        //  from before; a crash leaves these. `NoRoom` is returned only if a write found no room, and nothing failed. [with same_left, kept,
+        //  wanting, end, format]
         ensures no_room { IsErrOf result JournalError.NoRoom → IsSettled D.seen D.may_leave self.new.device self.new.format self.new.end }
         ensures same_left { IsErrOf result JournalError.NoRoom → file_payloads (D.seen self.new.device) ≡ file_payloads (D.seen self.old.device) }
         ensures kept { IsErrOf result JournalError.NoRoom → LeavesOnly D.moment D.left_since self.old.device self.new.device
             (λ c. file_payloads c ≡ file_payloads (D.seen self.old.device)) }
-        ensures wanting { IsErrOf result JournalError.NoRoom → D.faults self.old.device < D.faults self.new.device }
+        ensures wanting { IsErrOf result JournalError.NoRoom → FoundNoRoom D.faults D.full self.old.device self.new.device }
         ensures end { OnErr result (self.new.end ≡ self.old.end) }
         ensures format { self.new.format ≡ self.old.format }
 
-        //= Otherwise appending fails exactly if the records end after 2^60, and then nothing is written, or if the device fails; `Failed` is
-        //  returned only if the disk has failed. [with far, untouched, failed, faults]
+        //= Otherwise appending fails exactly if the records end after 2^60, and then nothing is written, or if the device fails: an error of
+        //  the device is returned only if a call of it has failed. [with far, untouched, failed, faults]
         ensures full { IsErrOf result JournalError.Full → 2 ^ 60 ≤ self.old.end }
         ensures far { 2 ^ 60 ≤ self.old.end → IsErrOf result JournalError.Full }
         ensures untouched { IsErrOf result JournalError.Full → self.new ≡ self.old }
-        ensures failed { IsErrOf result (JournalError.Device DeviceError.Failed) → D.faults self.old.device < D.faults self.new.device }
+        ensures failed { (d : DeviceError) → IsErrOf result (JournalError.Device d) → D.faults self.old.device < D.faults self.new.device }
         ensures faults { D.faults self.old.device ≤ D.faults self.new.device }
     {
         self.stage(frame)?;
@@ -281,9 +286,9 @@ impl<D: ReplaceDevice> Journal<D> {
         ensures kept_end { OnErr result (self.new.end ≡ self.old.end) }
         ensures kept_format { OnErr result (self.new.format ≡ self.old.format) }
 
-        //= The call reports that the disk failed only if it did. [with kept_failed, faults]
-        ensures failed { IsErrOf result ReplaceError.Failed → D.faults self.old.device < D.faults self.new.device }
-        ensures kept_failed { IsErrOf result (ReplaceError.Kept DeviceError.Failed) → D.faults self.old.device < D.faults self.new.device }
+        //= The call fails only if the device does. It returns `Failed` only if it isn't known which bytes the device has. [with lost, faults]
+        ensures failed { OnErr result (D.faults self.old.device < D.faults self.new.device) }
+        ensures lost { IsErrOf result ReplaceError.Failed → D.is_lost self.new.device }
         ensures faults { D.faults self.old.device ≤ D.faults self.new.device }
     {
         self.device.replace(image.bytes())?;

@@ -12,6 +12,7 @@ mod memory;
 mod records;
 mod repair;
 mod replace;
+mod tally;
 
 pub use device::{Device, DeviceError};
 pub use format::Format;

@@ -1,8 +1,10 @@
 //! A file in memory. Each call is done at once, so a crash leaves what is there. It keeps each past content.
 
 ghost use Rattle.std.specs.Prelude.{◌++◌, ◌∷◌, ◌≡◌, ◌≤◌, ◌⊎◌, [], drop, IfOk, length, OnErr, OnOk};
+ghost use Rattle.std.specs.Prelude.{take};
 ghost use Rattle.cedar_journal.specs.Words.{HadBeen, Holds, inl, memory_bytes, only_bytes};
 
+use crate::tally::Tally;
 use crate::{Device, DeviceError, ReplaceDevice, ReplaceError};
 use std::alloc::{AllocError, Allocator};
 
@@ -12,6 +14,8 @@ pub struct Memory<A: Allocator> {
     alloc: A,
     bytes: Vec<u8, A>,
     past: Vec<Vec<u8, A>, A>,
+    // How often it has failed.
+    failures: Tally,
 }
 
 impl<A: Allocator + Copy> Memory<A> {
@@ -24,6 +28,7 @@ impl<A: Allocator + Copy> Memory<A> {
             alloc,
             bytes,
             past: Vec::new(alloc),
+            failures: Tally::new(),
         }
     }
 
@@ -53,6 +58,57 @@ fn replace<A: Allocator + Copy>(
     Ok(())
 }
 
+// Writes bytes over others from the byte `at` on, and past the end, and keeps what was there.
+fn write<A: Allocator + Copy>(
+    alloc: A,
+    file: &mut Vec<u8, A>,
+    past: &mut Vec<Vec<u8, A>, A>,
+    at: usize,
+    bytes: &[u8],
+) -> Result<(), AllocError>
+    requires { at ≤ length file.old.items }
+    ensures ok { OnOk result (Holds file.old.items at bytes.now file.new.items) }
+    ensures err { OnErr result (file.new.items ≡ file.old.items) }
+    ensures past { OnOk result ((v : _) × (v.items ≡ file.old.items) × (past.new.items ≡ past.old.items ++ v ∷ [])) }
+    ensures past_err { OnErr result (past.new.items ≡ past.old.items) }
+{
+    let next = overwritten(alloc, file, at, bytes)?;
+    replace(alloc, file, past, next)
+}
+
+// Cuts bytes to the first `len`, and keeps what was there.
+fn cut<A: Allocator + Copy>(
+    alloc: A,
+    file: &mut Vec<u8, A>,
+    past: &mut Vec<Vec<u8, A>, A>,
+    len: usize,
+) -> Result<(), AllocError>
+    requires { len ≤ length file.old.items }
+    ensures ok { OnOk result (file.new.items ≡ take len file.old.items) }
+    ensures err { OnErr result (file.new.items ≡ file.old.items) }
+    ensures past { OnOk result ((v : _) × (v.items ≡ file.old.items) × (past.new.items ≡ past.old.items ++ v ∷ [])) }
+    ensures past_err { OnErr result (past.new.items ≡ past.old.items) }
+{
+    let next = file[..len].to_vec(alloc)?;
+    replace(alloc, file, past, next)
+}
+
+// Replaces bytes by a copy of others, and keeps what was there.
+fn copy_over<A: Allocator + Copy>(
+    alloc: A,
+    file: &mut Vec<u8, A>,
+    past: &mut Vec<Vec<u8, A>, A>,
+    bytes: &[u8],
+) -> Result<(), AllocError>
+    ensures ok { OnOk result (file.new.items ≡ bytes.now) }
+    ensures err { OnErr result (file.new.items ≡ file.old.items) }
+    ensures past { OnOk result ((v : _) × (v.items ≡ file.old.items) × (past.new.items ≡ past.old.items ++ v ∷ [])) }
+    ensures past_err { OnErr result (past.new.items ≡ past.old.items) }
+{
+    let next = bytes.to_vec(alloc)?;
+    replace(alloc, file, past, next)
+}
+
 // The bytes with others written over them from the byte `at` on, and past the end.
 fn overwritten<A: Allocator>(
     alloc: A,
@@ -80,7 +136,9 @@ impl<A: Allocator + Copy> Device for Memory<A> {
 
     ghost left_since = { λ m t c. (c ≡ m.bytes.items) ⊎ HadBeen (drop t m.past.items) c };
 
-    ghost faults = { λ m. 0 };
+    ghost faults = { λ m. m.failures.number };
+
+    ghost full = { λ m. 0 };
 
     ghost counts_now = { λ m t c le now. inl now };
 
@@ -91,13 +149,33 @@ impl<A: Allocator + Copy> Device for Memory<A> {
     }
 
     fn write_at(&mut self, at: usize, bytes: &[u8]) -> Result<(), DeviceError> {
-        let next = overwritten(self.alloc, &self.bytes, at, bytes)?;
-        Ok(replace(self.alloc, &mut self.bytes, &mut self.past, next)?)
+        match write(self.alloc, &mut self.bytes, &mut self.past, at, bytes) {
+            Ok(()) => Ok(()),
+            Err(_) => {
+                self.failures.raise();
+                Err(DeviceError::Memory)
+            }
+        }
+    }
+
+    fn write_over(&mut self, at: usize, bytes: &[u8]) -> Result<(), DeviceError> {
+        match write(self.alloc, &mut self.bytes, &mut self.past, at, bytes) {
+            Ok(()) => Ok(()),
+            Err(_) => {
+                self.failures.raise();
+                Err(DeviceError::Memory)
+            }
+        }
     }
 
     fn cut(&mut self, len: usize) -> Result<(), DeviceError> {
-        let next = self.bytes[..len].to_vec(self.alloc)?;
-        Ok(replace(self.alloc, &mut self.bytes, &mut self.past, next)?)
+        match cut(self.alloc, &mut self.bytes, &mut self.past, len) {
+            Ok(()) => Ok(()),
+            Err(_) => {
+                self.failures.raise();
+                Err(DeviceError::Memory)
+            }
+        }
     }
 
     fn sync(&mut self) -> Result<(), DeviceError> {
@@ -106,8 +184,16 @@ impl<A: Allocator + Copy> Device for Memory<A> {
 }
 
 impl<A: Allocator + Copy> ReplaceDevice for Memory<A> {
+    //= Which bytes a file in memory has is always known.
+    ghost is_lost = { λ m. ⊥ };
+
     fn replace(&mut self, bytes: &[u8]) -> Result<(), ReplaceError> {
-        let next = bytes.to_vec(self.alloc)?;
-        Ok(replace(self.alloc, &mut self.bytes, &mut self.past, next)?)
+        match copy_over(self.alloc, &mut self.bytes, &mut self.past, bytes) {
+            Ok(()) => Ok(()),
+            Err(_) => {
+                self.failures.raise();
+                Err(ReplaceError::Kept(DeviceError::Memory))
+            }
+        }
     }
 }

@@ -1,10 +1,10 @@
 //! Calls that make a file that a crash may have left ready for the next record. A crash may cut off each of these calls too.
 
 ghost use Rattle.std.specs.Prelude.{◌<◌, ◌∷◌, ◌≡◌, ◌≤◌, [], IfOk, IsErrOf, length};
-ghost use Rattle.std.specs.Prelude.{List, OnOk, Some, take, ℕ};
+ghost use Rattle.std.specs.Prelude.{List, OnErr, OnOk, Some, take, ℕ};
 ghost use Rattle.cedar_journal.specs.Words.{extent_end, extent_format, file_payloads, HasExtent};
 ghost use Rattle.cedar_journal.specs.Words.{HasFront, HasRecords, IsNewFile, IsSettled};
-ghost use Rattle.cedar_journal.specs.Words.{LeavesOnly, Only};
+ghost use Rattle.cedar_journal.specs.Words.{FoundNoRoom, LeavesOnly, Only};
 
 use crate::records::{HEADER_FRAME, HEADER_LEN};
 use crate::{Device, DeviceError, Extent, Format};
@@ -23,6 +23,8 @@ pub(crate) fn make_ready<D: Device>(
     ensures any_moment { LeavesOnly D.moment D.left_since device.old device.new
         (λ c. file_payloads c ≡ file_payloads (D.seen device.old)) }
     ensures failed { IsErrOf result DeviceError.Failed → D.faults device.old < D.faults device.new }
+    ensures memory { IsErrOf result DeviceError.Memory → D.faults device.old < D.faults device.new }
+    ensures no_room { IsErrOf result DeviceError.NoRoom → FoundNoRoom D.faults D.full device.old device.new }
 {
     match extent {
         Extent::New => {
@@ -46,6 +48,8 @@ fn close_behind<D: Device>(device: &mut D, format: Format, end: usize) -> Result
     ensures any_moment { LeavesOnly D.moment D.left_since device.old device.new
         (λ c. file_payloads c ≡ file_payloads (D.seen device.old)) }
     ensures failed { IsErrOf result DeviceError.Failed → D.faults device.old < D.faults device.new }
+    ensures memory { IsErrOf result DeviceError.Memory → D.faults device.old < D.faults device.new }
+    ensures no_room { IsErrOf result DeviceError.NoRoom → FoundNoRoom D.faults D.full device.old device.new }
 {
     device.cut(end)?;
     // The cut has to be on the disk first: behind a gate that is torn open, what was there would count.
@@ -62,8 +66,10 @@ pub(crate) fn cut_off<D: Device>(device: &mut D, len: usize) -> Result<(), Devic
     ensures cut { OnOk result (D.seen device.new ≡ take len (D.seen device.old)) }
     ensures durable { OnOk result (Only (D.seen device.new) (D.may_leave device.new)) }
     ensures any_moment { LeavesOnly D.moment D.left_since device.old device.new (HasFront len (D.seen device.old)) }
-    ensures failed { IsErrOf result DeviceError.Failed → D.faults device.old < D.faults device.new }
+    ensures failed { OnErr result (D.faults device.old < D.faults device.new) }
+    ensures done { OnOk result (D.faults device.new ≡ D.faults device.old) }
     ensures faults { D.faults device.old ≤ D.faults device.new }
+    ensures full { D.full device.old ≤ D.full device.new }
 {
     device.cut(len)?;
     device.sync()?;
@@ -78,7 +84,11 @@ fn clear<D: Device>(device: &mut D) -> Result<(), DeviceError>
     ensures durable { OnOk result (Only (D.seen device.new) (D.may_leave device.new)) }
     ensures any_moment { LeavesOnly D.moment D.left_since device.old device.new (λ c. file_payloads c ≡ Some []) }
     ensures failed { IsErrOf result DeviceError.Failed → D.faults device.old < D.faults device.new }
+    ensures memory { IsErrOf result DeviceError.Memory → D.faults device.old < D.faults device.new }
+    ensures no_room { IsErrOf result DeviceError.NoRoom → FoundNoRoom D.faults D.full device.old device.new }
+    ensures done { OnOk result (D.faults device.new ≡ D.faults device.old) }
     ensures faults { D.faults device.old ≤ D.faults device.new }
+    ensures full { D.full device.old ≤ D.full device.new }
 {
     device.cut(0)?;
     device.sync()?;
@@ -95,6 +105,8 @@ fn write_header<D: Device>(device: &mut D) -> Result<(), DeviceError>
     ensures none { OnOk result (file_payloads (D.seen device.new) ≡ Some []) }
     ensures any_moment { LeavesOnly D.moment D.left_since device.old device.new (λ c. file_payloads c ≡ Some []) }
     ensures failed { IsErrOf result DeviceError.Failed → D.faults device.old < D.faults device.new }
+    ensures memory { IsErrOf result DeviceError.Memory → D.faults device.old < D.faults device.new }
+    ensures no_room { IsErrOf result DeviceError.NoRoom → FoundNoRoom D.faults D.full device.old device.new }
 {
     device.write_at(1, &HEADER_FRAME)?;
     device.sync()?;

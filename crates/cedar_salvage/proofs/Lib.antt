@@ -2,3 +2,4 @@ pub mod Changes
 pub mod Finding
 pub mod Keeping
 pub mod Looking
+pub mod Restoring

@@ -1,2 +1,3 @@
+pub mod Restoring
 pub mod Whole
 pub mod Words

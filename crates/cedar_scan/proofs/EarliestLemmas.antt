@@ -1,5 +1,5 @@
 -- The key that ends first.
-use Rattle.std.proofs.Common.{◌≡◌, ℕ, ◌+◌, ◌-◌, ◌*◌, ◌<◌, ◌≤◌, ℤ, List, [], ◌∷◌, ◌++◌, add-one, cond, drop, get_or, length, take, Option, Some, None, is_some, option_map, refl, sym, ap, subst, ◌∙◌, arith}
+use Rattle.std.proofs.Common.{◌≡◌, ℕ, ◌+◌, ◌-◌, ◌*◌, ◌<◌, ◌≤◌, ℤ, List, [], ◌∷◌, ◌++◌, add-one, cond, drop, get_or, length, take, is_some, option_map, refl, sym, ap, ◌∙◌, arith}
 use Rattle.std.specs.List.{cons_option}
 use Rattle.std.proofs.Math.Seq.{drop-cons, take-suc}
 use Rattle.std.proofs.lemmas.List.{drop_all}
@@ -9,8 +9,8 @@ use Rattle.cedar_scan.specs.declared.scan.FoundKey.{FoundKey}
 use Rattle.cedar_scan.specs.declared.state.State.{State}
 use Rattle.cedar_scan.specs.Automata.{IsAutomaton, state_at}
 use Rattle.cedar_scan.specs.Earliest.{earliest_from, EndsFirst, first_key}
-use Rattle.cedar_scan.specs.Scans.{ReadsByte, IsCursor, pending_key, read_of, steps_left, TakesFound}
-use Rattle.cedar_scan.specs.Suffixes.{key_suffix, keys_ending, Occurrence, occurrence_ending}
+use Rattle.cedar_scan.specs.Scans.{ReadsByte, IsCursor, pending_key, TakesFound}
+use Rattle.cedar_scan.specs.Suffixes.{keys_ending, occurrence_ending}
 use Rattle.cedar_scan.proofs.ScanLemmas.{begins, empty_key}
 use Rattle.cedar_scan.proofs.SuffixLemmas.{keys_of_key_suffix}
 

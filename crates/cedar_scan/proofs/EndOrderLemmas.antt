@@ -1,5 +1,5 @@
 -- That what a scan finds is in the order of the ends.
-use Rattle.std.proofs.Common.{◌≡◌, ◌⊎◌, inl, inr, ℕ, ◌+◌, ◌-◌, ◌<◌, ◌≤◌, ℤ, List, [], ◌∷◌, ◌++◌, length, length-append, map, Option, Some, None, option_map, arith}
+use Rattle.std.proofs.Common.{◌≡◌, ◌⊎◌, inl, inr, ℕ, ◌+◌, ◌-◌, ◌<◌, ◌≤◌, ℤ, List, [], ◌∷◌, ◌++◌, length, length-append, map, Some, None, option_map, arith}
 use Rattle.std.specs.List.{cons_option}
 use Rattle.cedar_tree.specs.Tree.{number_at, Tree}
 use Rattle.cedar_scan.specs.Laws.{AreByEnd, IsBeforeFirst}

@@ -1,13 +1,12 @@
 -- What the states are once each node has its place.
-use Rattle.std.proofs.Common.{◌≡◌, ◌⊎◌, inl, inr, ℕ, ◌+◌, ◌^◌, ◌<◌, ◌≤◌, Bool, true, false, cond, ◌&&◌, ◌==◌, ltb, ℤ, List, [], ◌∷◌, ◌++◌, get_or, length, length-append, Option, Some, None, refl, sym, ap, subst, ◌∙◌, arith, eq-eqb}
+use Rattle.std.proofs.Common.{◌≡◌, ◌⊎◌, inl, inr, ℕ, ◌+◌, ◌<◌, true, false, cond, ◌&&◌, ◌==◌, ltb, ℤ, List, [], ◌∷◌, ◌++◌, get_or, length, length-append, Some, None, refl, sym, ap, subst, ◌∙◌, arith, eq-eqb}
 use Rattle.std.specs.Prelude.{bit_xor, pos, unwrap_or}
 use Rattle.std.proofs.lemmas.Bool.{and_from, and_parts, eqb-true, lt-ltb, ltb-true, true≢false}
-use Rattle.std.proofs.lemmas.Bool.Decides.{eqb_tells, leb_tells}
-use Rattle.std.proofs.lemmas.List.{get_or_past}
+use Rattle.std.proofs.lemmas.Bool.Decides.{eqb_tells}
 use Rattle.cedar_tree.specs.Tree.{number_at, Tree}
 use Rattle.cedar_scan.specs.declared.state.PlacedNode.{PlacedNode}
 use Rattle.cedar_scan.specs.declared.state.State.{State}
-use Rattle.cedar_scan.specs.Automata.{AreLaid, AreNodes, blank, child_in, IsChildSlot, IsGoto, IsLaid, IsListedNode, IsPlacing, state_at, with_base, with_node}
+use Rattle.cedar_scan.specs.Automata.{AreLaid, AreNodes, child_in, IsChildSlot, IsGoto, IsLaid, IsListedNode, IsPlacing, state_at, with_base, with_node}
 use Rattle.cedar_scan.specs.Suffixes.{is_node}
 use Rattle.cedar_scan.proofs.ListLemmas.{field_kept, same_front, same_last, snoc, snoc_not_empty, still_inside, written_elsewhere, written_here, xor_again, xor_one}
 use Rattle.cedar_scan.proofs.SuffixLemmas.{node_front, number_is_node}

@@ -1,11 +1,16 @@
 pub mod EarliestLemmas
 pub mod EndOrderLemmas
+pub mod FallLemmas
+pub mod FirstNodesLemmas
+pub mod KeywordLemmas
 pub mod LayoutLemmas
+pub mod LeftmostLemmas
 pub mod LinkLemmas
 pub mod ListLemmas
 pub mod NodesLemmas
 pub mod OccurrenceLemmas
 pub mod PlainLemmas
+pub mod PreferredLemmas
 pub mod ScanLemmas
 pub mod StepLemmas
 pub mod StreamLemmas

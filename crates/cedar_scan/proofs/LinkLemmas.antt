@@ -1,6 +1,6 @@
 -- How nodes get their links.
-use Rattle.std.proofs.Common.{◌≡◌, ◌⊎◌, inl, inr, ℕ, ◌+◌, ◌^◌, ◌<◌, ◌≤◌, Bool, true, false, cond, ◌&&◌, ◌==◌, ltb, ℤ, List, [], ◌∷◌, ◌++◌, get_or, length, length-append, Option, Some, None, is_some, refl, sym, ap, subst, ◌∙◌, arith}
-use Rattle.std.specs.Prelude.{bit_xor, pos}
+use Rattle.std.proofs.Common.{◌≡◌, inl, inr, ℕ, ◌+◌, ◌^◌, ◌<◌, ◌≤◌, true, false, cond, ◌&&◌, ◌==◌, ltb, ℤ, List, [], ◌∷◌, ◌++◌, get_or, length, length-append, Some, None, is_some, refl, sym, ap, subst, ◌∙◌, arith}
+use Rattle.std.specs.Prelude.{bit_xor}
 use Rattle.std.specs.List.Sorted.{IsPermutation}
 use Rattle.std.proofs.lemmas.Bool.{false≢true, true≢false}
 use Rattle.std.proofs.lemmas.Bool.Decides.{eqb_tells, leb_tells}
@@ -9,7 +9,7 @@ use Rattle.std.proofs.lemmas.List.Sorted.{All-permutation, Contains-permutation}
 use Rattle.cedar_tree.specs.Tree.{number_at, Tree}
 use Rattle.cedar_scan.specs.declared.state.PlacedNode.{PlacedNode}
 use Rattle.cedar_scan.specs.declared.state.State.{State}
-use Rattle.cedar_scan.specs.Automata.{AreByDepth, AreLaid, AreLinked, AreLinkedFirst, AreNodes, AreSlotsWithin, CanLink, child_in, FailsTo, IsAutomaton, IsGoto, IsLinked, IsListedNode, IsPlacing, IsStepFrom, GetsLinks, state_at, GoesToSuffix, with_links, with_node}
+use Rattle.cedar_scan.specs.Automata.{AreByDepth, AreLaid, AreLinkedFirst, AreNodes, AreSlotsWithin, CanLink, child_in, FailsTo, IsAutomaton, IsGoto, IsLinked, IsListedNode, IsPlacing, IsStepFrom, GetsLinks, state_at, GoesToSuffix, with_links, with_node}
 use Rattle.cedar_scan.specs.Suffixes.{failure, held_suffix, is_node, key_suffix}
 use Rattle.cedar_scan.proofs.LayoutLemmas.{laid_goto, laid_more}
 use Rattle.cedar_scan.proofs.ListLemmas.{field_kept, same_front, snoc, still_inside, written_elsewhere, written_here}

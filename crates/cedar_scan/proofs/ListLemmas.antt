@@ -1,10 +1,10 @@
 -- Lists that end with one more element, fields of states that are written, and exclusive or.
-use Rattle.std.proofs.Common.{◌≡◌, ℕ, ◌+◌, ◌<◌, ◌≤◌, List, [], ◌∷◌, ◌++◌, get_or, length, length-append, take, refl, sym, ap, subst, ◌∙◌, arith, inl, inr}
+use Rattle.std.proofs.Common.{◌≡◌, ℕ, ◌<◌, List, [], ◌∷◌, ◌++◌, get_or, length, length-append, take, refl, sym, ap, ◌∙◌, arith, inl, inr}
 use Rattle.std.specs.Prelude.{bit_xor, pos, slice_set}
 use Rattle.std.specs.Int.Bits.{xor_self, xor_zero_l, xor_zero_r}
 use lib.Bits.{xor_assoc}
 use Rattle.std.proofs.lemmas.Bool.Decides.{eqb_tells}
-use Rattle.std.proofs.lemmas.List.{append_cancel_left, get_or-set_other, get_or-set_same, get_or_past, length-set, take-append-le, take_all}
+use Rattle.std.proofs.lemmas.List.{append_cancel_left, get_or-set_other, get_or-set_same, length-set, take-append-le, take_all}
 use Rattle.cedar_scan.specs.declared.state.State.{State}
 use Rattle.cedar_scan.specs.Automata.{state_at}
 

@@ -1,5 +1,5 @@
 -- How a scan goes on, and what it gives.
-use Rattle.std.proofs.Common.{◌≡◌, ℕ, suc, ◌+◌, ◌-◌, ◌*◌, ◌^◌, ◌<◌, ◌≤◌, Bool, true, false, cond, ℤ, List, [], ◌∷◌, ◌++◌, add-one, append_assoc, drop, get_or, length, length-append, map, take, Option, Some, None, is_some, refl, sym, ap, subst, ◌∙◌, arith}
+use Rattle.std.proofs.Common.{◌≡◌, ℕ, suc, ◌+◌, ◌-◌, ◌^◌, ◌<◌, ◌≤◌, true, false, cond, ℤ, List, [], ◌∷◌, ◌++◌, add-one, append_assoc, drop, get_or, length, length-append, map, take, Some, None, is_some, refl, sym, ap, subst, ◌∙◌, arith}
 use Rattle.std.proofs.Math.Seq.{drop-cons, drop-length, take-suc}
 use Rattle.std.proofs.lemmas.List.{append-nil, drop-drop, length-drop, length-take}
 use Rattle.cedar_tree.specs.Tree.{number_at, Tree}
@@ -8,8 +8,8 @@ use Rattle.cedar_scan.specs.declared.scan.Cursor.{Cursor}
 use Rattle.cedar_scan.specs.declared.scan.FoundKey.{FoundKey}
 use Rattle.cedar_scan.specs.Automata.{IsAutomaton, IsStepFrom, state_at, GoesToSuffix, StepsWithin}
 use Rattle.cedar_scan.specs.Scans.{ReadsByte, CostsStep, GivesFound, IsCursor, IsScanned, last_of, pending_key, read_of, all_left, TakesFound}
-use Rattle.cedar_scan.specs.Suffixes.{failure, held_suffix, is_node, key_suffix, keys_ending, Occurrence, occurrence_ending, all_ending}
-use Rattle.cedar_scan.proofs.SuffixLemmas.{held_goes_on, held_is_node, key_of_held, key_of_key, key_of_other, key_suffix_held, key_suffix_is_node, key_suffix_shorter, keys_of_held, keys_of_key, keys_of_key_suffix}
+use Rattle.cedar_scan.specs.Suffixes.{failure, held_suffix, is_node, key_suffix, keys_ending, occurrence_ending, all_ending}
+use Rattle.cedar_scan.proofs.SuffixLemmas.{held_goes_on, held_is_node, key_of_held, key_of_key, key_suffix_held, key_suffix_is_node, key_suffix_shorter, keys_of_key, keys_of_key_suffix}
 
 -- ---- the last bytes of a text
 

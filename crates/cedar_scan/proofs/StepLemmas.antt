@@ -1,9 +1,8 @@
 -- What a step leads to, and what it costs.
-use Rattle.std.proofs.Common.{◌≡◌, ℕ, suc, ◌+◌, ◌-◌, ◌<◌, ◌≤◌, Bool, true, false, cond, List, [], ◌∷◌, ◌++◌, length, length-append, Option, Some, None, refl, sym, ap, subst, ◌∙◌, arith}
-use Rattle.std.proofs.lemmas.Bool.{true≢false}
+use Rattle.std.proofs.Common.{◌≡◌, ℕ, ◌+◌, ◌<◌, ◌≤◌, true, false, cond, List, [], ◌∷◌, ◌++◌, length, length-append, Some, None, refl, sym, ap, subst, ◌∙◌, arith}
 use Rattle.cedar_tree.specs.Tree.{Tree}
 use Rattle.cedar_scan.specs.declared.state.State.{State}
-use Rattle.cedar_scan.specs.Automata.{child_in, IsGoto, IsLinked, IsPlacing, IsStepFrom, state_at}
+use Rattle.cedar_scan.specs.Automata.{child_in, IsLinked, IsStepFrom, state_at}
 use Rattle.cedar_scan.specs.Suffixes.{failure, held_suffix, is_node}
 use Rattle.cedar_scan.proofs.SuffixLemmas.{held_by_failure, held_is_node, held_of_node, held_of_other, held_shorter}
 

@@ -1,5 +1,5 @@
 -- A scan over pieces of a text.
-use Rattle.std.proofs.Common.{◌≡◌, ℕ, zero, suc, ◌+◌, ◌-◌, ◌*◌, ◌<◌, ◌≤◌, Bool, true, false, cond, ◌==◌, ◌&&◌, ltb, ℤ, List, [], ◌∷◌, ◌++◌, append_assoc, drop, inl, inr, length, length-append, map, min, take, Option, Some, None, is_some, refl, sym, ap, subst, ◌∙◌, arith}
+use Rattle.std.proofs.Common.{◌≡◌, ℕ, zero, suc, ◌+◌, ◌-◌, ◌≤◌, Bool, true, false, cond, ◌==◌, ◌&&◌, ltb, ℤ, List, [], ◌∷◌, ◌++◌, append_assoc, drop, inl, inr, length, length-append, map, min, take, Option, Some, None, is_some, refl, sym, ap, subst, ◌∙◌, arith}
 use Rattle.std.specs.Prelude.{bit_xor}
 use Rattle.std.proofs.lemmas.Bool.{and_parts, eqb-true, true≢false}
 use Rattle.std.proofs.lemmas.Bool.Decides.{leb_tells}
@@ -10,8 +10,8 @@ use Rattle.cedar_tree.specs.Walks.{forwards}
 use Rattle.cedar_scan.specs.declared.scan.Cursor.{Cursor}
 use Rattle.cedar_scan.specs.declared.scan.FoundKey.{FoundKey}
 use Rattle.cedar_scan.specs.declared.state.State.{State}
-use Rattle.cedar_scan.specs.Automata.{child_in, IsAutomaton, state_at}
-use Rattle.cedar_scan.specs.Scans.{CostsNext, GivesFound, GivesNext, IsCursor, IsScanned, last_of, pending_key, read_of, all_left, steps_left}
+use Rattle.cedar_scan.specs.Automata.{IsAutomaton, state_at}
+use Rattle.cedar_scan.specs.Scans.{CostsNext, GivesFound, GivesNext, IsCursor, IsScanned, last_of, pending_key, read_of, all_left}
 use Rattle.cedar_scan.specs.Streams.{CostsInPiece, EndsPiece, GivesInPiece, IsStream, left_in, path_in, path_up, StreamAt}
 use Rattle.cedar_scan.specs.Suffixes.{held_suffix, is_node, key_suffix, keys_ending, Occurrence, occurrence_ending, all_ending}
 use Rattle.cedar_scan.proofs.ListLemmas.{snoc, xor_back}

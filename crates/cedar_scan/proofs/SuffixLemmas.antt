@@ -1,8 +1,8 @@
 -- What a node's suffixes are, and how they go on by one byte.
-use Rattle.std.proofs.Common.{◌≡◌, ℕ, ◌+◌, ◌-◌, ◌<◌, ◌≤◌, Bool, true, false, cond, ◌&&◌, ℤ, List, [], ◌∷◌, ◌++◌, length, map, Option, Some, None, option_map, is_some, refl, sym, ap, ◌∙◌, arith}
+use Rattle.std.proofs.Common.{◌≡◌, ℕ, ◌+◌, ◌≤◌, true, false, cond, ◌&&◌, ℤ, List, [], ◌∷◌, ◌++◌, length, map, Some, None, option_map, is_some, refl, sym, ap, ◌∙◌, arith}
 use Rattle.std.specs.List.{cons_option}
-use Rattle.std.proofs.lemmas.Bool.{true≢false, false≢true}
-use Rattle.cedar_tree.specs.Tree.{Tree, Forest, none, child, empty_tree, has_label, subtree, number_at}
+use Rattle.std.proofs.lemmas.Bool.{true≢false}
+use Rattle.cedar_tree.specs.Tree.{Tree, has_label, subtree, number_at}
 use Rattle.cedar_tree.proofs.TreeLemmas.{number_at-empty, subtree_absent}
 use Rattle.cedar_scan.specs.Suffixes.{failure, held_suffix, is_node, key_suffix, keys_ending, Occurrence, occurrence_ending, all_ending}
 

@@ -1,5 +1,5 @@
 -- Keys in a text that don't overlap, by their ends.
-use Rattle.std.specs.Prelude.{◌≡◌, ℕ, ◌+◌, ◌-◌, ◌*◌, ◌<◌, ◌≤◌, if◌then◌else◌, ℤ, List, [], ◌∷◌, ◌++◌, length, drop}
+use Rattle.std.specs.Prelude.{◌≡◌, ℕ, ◌+◌, ◌-◌, ◌*◌, ◌≤◌, if◌then◌else◌, ℤ, List, [], ◌∷◌, ◌++◌, length, drop}
 use Rattle.std.specs.Prelude.{Option, None, Some, option_map, is_some, MatchOption}
 use Rattle.std.specs.List.{cons_option}
 use Rattle.cedar_tree.specs.Tree.{Tree}

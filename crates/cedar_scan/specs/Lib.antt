@@ -1,7 +1,12 @@
 pub mod Automata
 pub mod Earliest
+pub mod Falls
+pub mod Keywords
 pub mod Laws
+pub mod Leftmost
 pub mod Plain
+pub mod Preferred
+pub mod Scanners
 pub mod Scans
 pub mod Streams
 pub mod Suffixes

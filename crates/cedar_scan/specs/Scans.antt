@@ -1,6 +1,6 @@
 -- Where a scan over a piece of a text is, and what it has still to give.
 use Rattle.std.specs.Prelude.{◌≡◌, ℕ, ◌+◌, ◌-◌, ◌*◌, ◌<◌, ◌≤◌, true, List, [], ◌∷◌, ◌++◌, length}
-use Rattle.std.specs.Prelude.{drop, map, take, Option, Some, None, MatchOption, is_some}
+use Rattle.std.specs.Prelude.{drop, map, take, Option, MatchOption, is_some}
 use Rattle.std.specs.Prelude.{if◌then◌else◌}
 use Rattle.cedar_tree.specs.Tree.{Tree}
 use Rattle.cedar_scan.specs.Automata.{state_at}

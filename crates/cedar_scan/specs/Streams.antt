@@ -1,5 +1,5 @@
 -- A text that comes in pieces.
-use Rattle.std.specs.Prelude.{◌≡◌, ℕ, zero, suc, ◌+◌, ◌-◌, ◌*◌, ◌<◌, ◌≤◌, ℤ, List, [], ◌∷◌, ◌++◌, length, bit_xor, drop, map}
+use Rattle.std.specs.Prelude.{◌≡◌, ℕ, zero, suc, ◌+◌, ◌-◌, ◌*◌, ◌≤◌, ℤ, List, [], ◌∷◌, ◌++◌, length, bit_xor, drop, map}
 use Rattle.std.specs.Prelude.{if◌then◌else◌, is_some, Option, MatchOption, true}
 use Rattle.std.specs.Coded.{Coded, code_by, coded×, coded_ℕ, coded_ℤ, coded_list}
 use Rattle.std.proofs.Common.{refl}
@@ -8,7 +8,7 @@ use Rattle.cedar_tree.specs.Tree.{Tree}
 use Rattle.cedar_tree.specs.Walks.{forwards}
 use Rattle.cedar_scan.specs.Automata.{IsAutomaton, state_at}
 use Rattle.cedar_scan.specs.Scans.{last_of}
-use Rattle.cedar_scan.specs.Suffixes.{held_suffix, is_node, key_suffix, keys_ending, Occurrence}
+use Rattle.cedar_scan.specs.Suffixes.{held_suffix, is_node, key_suffix, Occurrence}
 use Rattle.cedar_scan.specs.Suffixes.{occurrence_ending, all_ending}
 use Rattle.cedar_scan.specs.declared.state.State.{State}
 

@@ -1,6 +1,6 @@
 -- Suffixes of a text that lead to nodes of a tree, and those that are keys.
-use Rattle.std.specs.Prelude.{◌≡◌, ℕ, ◌+◌, ◌-◌, Bool, true, ◌&&◌, if◌then◌else◌, ℤ, List, []}
-use Rattle.std.specs.Prelude.{◌∷◌, ◌++◌, length, map, Option, None, Some, option_map, is_some}
+use Rattle.std.specs.Prelude.{ℕ, ◌+◌, ◌-◌, Bool, true, ◌&&◌, if◌then◌else◌, ℤ, List, []}
+use Rattle.std.specs.Prelude.{◌∷◌, ◌++◌, length, map, option_map, is_some}
 use Rattle.std.specs.List.{cons_option}
 use Rattle.cedar_tree.specs.Tree.{has_label, number_at, subtree, Tree}
 

@@ -4,8 +4,16 @@ pub use Rattle.cedar_scan.specs.Automata.{blank, CanLink, child_in, FailsTo, IsA
 pub use Rattle.cedar_scan.specs.Automata.{IsGoto, IsLinked, IsPlacing, IsStepFrom, GetsLinks, state_at}
 pub use Rattle.cedar_scan.specs.Automata.{GoesToSuffix, StepsWithin, with_node}
 pub use Rattle.cedar_scan.specs.Earliest.{CostsFirst, earliest, earliest_from, GivesEarliest}
+pub use Rattle.cedar_scan.specs.Falls.{AddsFall, AddsPopped, AreFalls, CanFall, FallsTo, pops_of}
+pub use Rattle.cedar_scan.specs.Keywords.{CantGoOn, IsKeywordAutomaton, IsKeywordCursor}
+pub use Rattle.cedar_scan.specs.Keywords.{keyword_code, keywords_left, KeywordsLeft}
+pub use Rattle.cedar_scan.specs.Keywords.{ScansOn, ScansOnOrEnds, tests_left}
 pub use Rattle.cedar_scan.specs.Laws.{AreByEnd, IsLongestHeld, PiecesJoin}
+pub use Rattle.cedar_scan.specs.Leftmost.{popped_at}
 pub use Rattle.cedar_scan.specs.Plain.{all_beginning, OccursIn}
+pub use Rattle.cedar_scan.specs.Preferred.{first_tree, FirstIsLongestLeft, if_less, leftmost}
+pub use Rattle.cedar_scan.specs.Preferred.{keys_for, least_in, lesser, LongestAreKeywords}
+pub use Rattle.cedar_scan.specs.Scanners.{LeftmostKeys, leftmost_code}
 pub use Rattle.cedar_scan.specs.Scans.{ReadsByte, CostsNext, CostsStep, GivesNext, IsCursor}
 pub use Rattle.cedar_scan.specs.Scans.{all_left, steps_left, TakesFound}
 pub use Rattle.cedar_scan.specs.Streams.{CostsInPiece, IsStream, NextInPiece, path_in, stream_code}
@@ -14,6 +22,7 @@ pub use Rattle.cedar_scan.specs.Suffixes.{failure, held_suffix, is_node, key_suf
 pub use Rattle.cedar_scan.specs.Suffixes.{overlapping, Occurrence, all_ending}
 pub use Rattle.cedar_scan.specs.Tables.{slot_in}
 pub use Rattle.cedar_scan.specs.Walks.{scan_code, ScanLeft}
+pub use Rattle.cedar_words.specs.Spots.{keywords_in}
 pub use Rattle.cedarwood.specs.Words.{IsBlankOf, IsWellFormed, Tree, tree_of}
 pub use Rattle.std.specs.Iterator.{item_count, YieldsFirst}
 pub use Rattle.std.specs.List.Sorted.{IsPermutation}

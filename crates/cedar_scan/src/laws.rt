@@ -1,8 +1,9 @@
 //! Laws of what a scanner finds.
 
 ghost use Rattle.std.specs.Prelude.{◌↔◌, Contains, List, ℕ};
-ghost use Rattle.cedar_scan.specs.Words.{AreByEnd, held_suffix, OccursIn, IsLongestHeld};
-ghost use Rattle.cedar_scan.specs.Words.{IsPermutation, overlapping, PiecesJoin, Occurrence, all_beginning, Tree};
+ghost use Rattle.cedar_scan.specs.Words.{AreByEnd, FirstIsLongestLeft, held_suffix, IsLongestHeld};
+ghost use Rattle.cedar_scan.specs.Words.{IsPermutation, LongestAreKeywords, OccursIn, overlapping};
+ghost use Rattle.cedar_scan.specs.Words.{PiecesJoin, Occurrence, all_beginning, Tree};
 
 /// A scan stands for the longest suffix of what it has read that leads to a node.
 pub fn held_suffixes_are_longest()
@@ -27,4 +28,14 @@ pub fn overlapping_are_all_keys()
 pub fn pieces_join()
     //= What is found in two pieces of a text, the second one from the suffix of the first on, is what is found in both together.
     ensures { (tree : Tree) (first : List ℕ) (second : List ℕ) → PiecesJoin tree first second }
+{}
+
+/// The leftmost matches of the longest keys are the keywords of `leftmost_longest` of `cedar_words`, and the scanner finds those of either
+/// kind by the keys alone that can count at some position.
+pub fn leftmost_are_plain()
+    //= The leftmost matches of the longest keys are the keywords that `leftmost_longest` finds.
+    ensures longest { (tree : Tree) (text : List ℕ) → LongestAreKeywords tree text }
+
+    //= Of the keys that begin at a position the one that counts is the longest of those that can count at all.
+    ensures preferred { (tree : Tree) (text : List ℕ) → FirstIsLongestLeft tree text }
 {}

@@ -1,15 +1,20 @@
 //! A text searched for the keys of a dictionary in linear time.
 //!
 //! In the examples `rt` is the program's runtime, `cedar` a new dictionary, `scanner` the scanner of one with the keys `he`, `she` and `hers`
-//! and the values 1, 2 and 3 if it isn't made there, and `ticks` a count.
+//! and the values 1, 2 and 3 if it isn't made there, `longest` one for its longest leftmost matches, and `ticks` a count.
 #![tactic(auto)]
 
 mod build;
 mod earliest;
+mod falls;
+mod kind;
 mod laws;
+mod leftmost;
+mod leftmost_scanner;
 mod nodes;
 mod overlapping;
 mod placed;
+mod preferred;
 mod scan;
 mod scanner;
 mod state;
@@ -17,9 +22,15 @@ mod step;
 mod stream;
 
 pub use earliest::Earliest;
-pub use laws::{held_suffixes_are_longest, overlapping_are_all_keys, pieces_join};
+pub use kind::MatchKind;
+pub use laws::{
+    held_suffixes_are_longest, leftmost_are_plain, overlapping_are_all_keys, pieces_join,
+};
+pub use leftmost::Leftmost;
+pub use leftmost_scanner::LeftmostScanner;
 pub use overlapping::Overlapping;
 pub use placed::Placed;
+pub use preferred::PreferredKeys;
 pub use scanner::Scanner;
 pub use state::PlacedNode;
 pub use stream::Stream;

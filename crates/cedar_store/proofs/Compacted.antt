@@ -5,7 +5,6 @@ use Rattle.std.proofs.lemmas.Bool.{false≢true}
 use Rattle.std.proofs.lemmas.Bool.Decides.{nat_tests}
 use Rattle.std.specs.List.{AllByRecursion}
 use Rattle.cedar_journal.specs.declared.device.DeviceError.{DeviceError}
-use Rattle.cedar_journal.specs.declared.device.DeviceError.TheVariants as device
 use Rattle.cedar_journal.specs.declared.replace.ReplaceError.{ReplaceError}
 use Rattle.cedar_journal.specs.declared.replace.ReplaceError.TheVariants as replace
 use Rattle.cedar_journal.specs.declared.format.Format.{Format}
@@ -122,11 +121,11 @@ pub handed_over : {X E : Type 0} (r : Result X E) (e : E) (P : E → Type 0) →
 handed_over (Ok x) e P is holds = tt
 handed_over (Err x) e P is holds = subst P (sym is) holds
 
-pub before_cause : (before now : ℕ) (e : CompactError) → IsBeforeReplacing e → CompactCause before now e
-before_cause before now error.Memory cause = cause
-before_cause before now error.TooLong cause = cause
-before_cause before now (error.Kept e) cause = absurd cause
-before_cause before now error.Failed cause = absurd cause
+pub before_cause : (before now : ℕ) (lost : Type 0) (e : CompactError) → IsBeforeReplacing e → CompactCause before now lost e
+before_cause before now lost error.Memory cause = cause
+before_cause before now lost error.TooLong cause = cause
+before_cause before now lost (error.Kept e) cause = absurd cause
+before_cause before now lost error.Failed cause = absurd cause
 
 pub before_leaves : (e : CompactError) (fails keeps stays : Type 0) → IsBeforeReplacing e → stays → LeavesFile e fails keeps stays
 before_leaves error.Memory fails keeps stays cause holds = holds
@@ -134,10 +133,10 @@ before_leaves error.TooLong fails keeps stays cause holds = holds
 before_leaves (error.Kept e) fails keeps stays cause holds = absurd cause
 before_leaves error.Failed fails keeps stays cause holds = absurd cause
 
-pub replaced_cause : (before now : ℕ) (e : ReplaceError) (r : Result (Unit {0}) ReplaceError) → r ≡ Err e → (IsErrOf r replace.Failed → before < now)
-    → (IsErrOf r (replace.Kept device.Failed) → before < now) → CompactCause before now (replace_error e)
-replaced_cause before now replace.Failed r is failed kept = failed is
-replaced_cause before now (replace.Kept d) r is failed kept = λ same. kept (is ∙ ap (λ x. Err (replace.Kept x)) same)
+pub replaced_cause : (before now : ℕ) (lost : Type 0) (e : ReplaceError) (r : Result (Unit {0}) ReplaceError) → r ≡ Err e → OnErr r (before < now)
+    → (IsErrOf r replace.Failed → lost) → CompactCause before now lost (replace_error e)
+replaced_cause before now lost replace.Failed r is failed unknown = (subst (λ q. OnErr q (before < now)) is failed, unknown is)
+replaced_cause before now lost (replace.Kept d) r is failed unknown = subst (λ q. OnErr q (before < now)) is failed
 
 pub replaced_leaves : (e : ReplaceError) (r : Result (Unit {0}) ReplaceError) (fails keeps stays : Type 0) → r ≡ Err e → (IsErrOf r replace.Failed → fails) → IfKept r keeps
     → LeavesFile (replace_error e) fails keeps stays

@@ -17,17 +17,17 @@ refused_cause changes end error.Corrupt cause = cause
 refused_cause changes end (error.Device e) cause = cause
 refused_cause changes end error.Failed cause = cause
 
-pub batch_cause : (failed : Bool) (changes : List Change) (end before now : ℕ) (e : DurableError) → PrepareCause changes end e → BatchCause failed changes end before now e
-batch_cause failed changes end before now (error.RefusedAt index e) cause = cause
-batch_cause failed changes end before now (error.Refused e) cause = cause
-batch_cause failed changes end before now error.TooLong cause = cause
-batch_cause failed changes end before now error.Full cause = cause
-batch_cause failed changes end before now error.NoRoom cause = absurd cause
-batch_cause failed changes end before now error.Foreign cause = cause
-batch_cause failed changes end before now (error.Damaged place) cause = cause
-batch_cause failed changes end before now error.Corrupt cause = cause
-batch_cause failed changes end before now (error.Device e) cause = absurd cause
-batch_cause failed changes end before now error.Failed cause = absurd cause
+pub batch_cause : (failed : Bool) (changes : List Change) (end : ℕ) (broke lacked : Type 0) (e : DurableError) → PrepareCause changes end e → BatchCause failed changes end broke lacked e
+batch_cause failed changes end broke lacked (error.RefusedAt index e) cause = cause
+batch_cause failed changes end broke lacked (error.Refused e) cause = cause
+batch_cause failed changes end broke lacked error.TooLong cause = cause
+batch_cause failed changes end broke lacked error.Full cause = cause
+batch_cause failed changes end broke lacked error.NoRoom cause = absurd cause
+batch_cause failed changes end broke lacked error.Foreign cause = cause
+batch_cause failed changes end broke lacked (error.Damaged place) cause = cause
+batch_cause failed changes end broke lacked error.Corrupt cause = cause
+batch_cause failed changes end broke lacked (error.Device e) cause = absurd cause
+batch_cause failed changes end broke lacked error.Failed cause = absurd cause
 
 -- what isn't prepared wasn't refused by the device
 pub stays_prepared : (changes : List Change) (end : ℕ) (e : DurableError) (fails lacks stays : Type 0) → PrepareCause changes end e → stays → Leaves e fails lacks stays

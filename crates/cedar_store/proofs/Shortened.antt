@@ -1,5 +1,5 @@
 -- What a change has done about the length of its file.
-use Rattle.std.proofs.Common.{◌≡◌, ◌≤◌, ◌∙◌, inl, inr, ⊎_elim, ℕ, List, ap, sym, arith}
+use Rattle.std.proofs.Common.{◌≡◌, ◌<◌, ◌≤◌, ◌∙◌, inl, inr, ⊎_elim, ℕ, List, ap, sym, arith}
 use Rattle.cedarwood.specs.Queries.{walk}
 use Rattle.cedarwood.specs.State.{State}
 use Rattle.cedar_store.specs.declared.compaction.CompactError.{CompactError}
@@ -13,7 +13,7 @@ use Rattle.cedar_store.specs.Shortening.{IsKeptLong, IsLookedAfter, IsLookedAt, 
 kept_since : (before between now : ℕ) (e : CompactError) → before ≤ between → KeptCause between now e → KeptCause before now e
 kept_since before between now error.Memory later cause = cause
 kept_since before between now error.TooLong later cause = cause
-kept_since before between now (error.Kept d) later cause = λ same. let more = cause same in omega (arith, later, more)
+kept_since before between now (error.Kept d) later cause = let more : between < now = cause in omega (arith, later, more)
 kept_since before between now error.Failed later cause = absurd cause
 
 -- no new file was made in memory

@@ -1,7 +1,8 @@
 -- What an error of a store says.
-use Rattle.std.specs.Prelude.{◌≡◌, ◌⊎◌, ℕ, ◌<◌, ◌≤◌, Bool, true, List, length}
+use Rattle.std.specs.Prelude.{◌≡◌, ◌⊎◌, ℕ, ℤ, ◌<◌, ◌≤◌, Bool, true, List, length}
 use Rattle.std.specs.Prelude.{Option, None, Some, IsSome}
-use Rattle.cedar_journal.specs.declared.device.DeviceError.TheVariants.{Failed}
+use Rattle.cedar_journal.specs.declared.device.DeviceError.{DeviceError}
+use Rattle.cedar_journal.specs.declared.device.DeviceError.TheVariants as device
 use Rattle.cedar_journal.specs.Files.{file_payloads, file_reading}
 use Rattle.cedar_journal.specs.Formats.{damaged}
 use Rattle.cedarwood.specs.State.{State}
@@ -29,17 +30,23 @@ LoadCause file error.Corrupt = IsCorrupt file
 LoadCause file (error.Refused e) = IsSome (file_payloads file) × IsShortage e
 LoadCause file _ = ⊥
 
+-- what a device's error says: `lacks` if it is want of room, and `fails` if it is another one
+abbrev pub IsTold : Type 0 → Type 0 → DeviceError → Type 0
+IsTold fails lacks device.NoRoom = lacks
+IsTold fails lacks device.Memory = fails
+IsTold fails lacks device.Failed = fails
+
 -- why a device wasn't opened: as of its file's bytes (`LoadCause`); or there was no memory for these; or the device
--- failed. `before` and `now` are how often it has failed
-abbrev pub OpenCause : List ℕ → ℕ → ℕ → DurableError → Type 0
-OpenCause file before now (error.Device e) = e ≡ Failed → before < now
-OpenCause file before now (error.Refused e) = (e ≡ cedar.Memory) ⊎ (IsSome (file_payloads file) × IsShortage e)
-OpenCause file before now e = LoadCause file e
+-- failed, or had no room (`IsTold`)
+abbrev pub OpenCause : List ℕ → Type 0 → Type 0 → DurableError → Type 0
+OpenCause file fails lacks (error.Device e) = IsTold fails lacks e
+OpenCause file fails lacks (error.Refused e) = (e ≡ cedar.Memory) ⊎ (IsSome (file_payloads file) × IsShortage e)
+OpenCause file fails lacks e = LoadCause file e
 
 -- why a file wasn't read: there was no memory for its bytes; or the disk failed, which is reported as `Failed`
 -- whatever the device returned
 abbrev pub ReadCause : ℕ → ℕ → DurableError → Type 0
-ReadCause before now (error.Device e) = (e ≡ Failed) × (before < now)
+ReadCause before now (error.Device e) = (e ≡ device.Failed) × (before < now)
 ReadCause before now (error.Refused e) = e ≡ cedar.Memory
 ReadCause before now _ = ⊥
 
@@ -64,31 +71,38 @@ PayloadCause n _ = ⊥
 
 -- the error is the device's, which failed. `before` and `now` are how often it has failed
 abbrev pub IsOfDevice : ℕ → ℕ → DurableError → Type 0
-IsOfDevice before now (error.Device e) = e ≡ Failed → before < now
+IsOfDevice before now (error.Device e) = before < now
 IsOfDevice before now _ = ⊥
 
--- why a record wasn't written: the device failed, and so has the store; or there was no room, and the store goes on.
--- `was` and `failed` are whether the store has failed before and now
-abbrev pub IsUnwritten : ℕ → ℕ → Bool → Bool → DurableError → Type 0
-IsUnwritten before now was failed (error.Device e) = (e ≡ Failed → before < now) × (failed ≡ true)
-IsUnwritten before now was failed error.NoRoom = (before < now) × (failed ≡ was)
-IsUnwritten before now was failed _ = ⊥
+-- why a record wasn't written: the device failed (`fails`), and so has the store; or there was no room (`lacks`), and
+-- the store goes on. `was` and `failed` are whether the store has failed before and now
+abbrev pub IsUnwritten : Type 0 → Type 0 → Bool → Bool → DurableError → Type 0
+IsUnwritten fails lacks was failed (error.Device e) = fails × (failed ≡ true)
+IsUnwritten fails lacks was failed error.NoRoom = lacks × (failed ≡ was)
+IsUnwritten fails lacks was failed _ = ⊥
+
+-- memory was wanting, or, for a key that holds nothing, slots
+abbrev pub IsWanting : Option ℤ → CedarError → Type 0
+IsWanting held cedar.Memory = Unit {0}
+IsWanting held cedar.SlotLimit = held ≡ None
+IsWanting held _ = ⊥
 
 -- why a put wasn't made: the store has failed before; the pair has a fault; memory or slots were wanting; no record
--- was made (`FrameCause`); there was no room for it; or the device failed
-abbrev pub ChangeCause : Bool → Option CedarError → ℕ → ℕ → ℕ → ℕ → DurableError → Type 0
-ChangeCause failed fault end n before now error.Failed = failed ≡ true
-ChangeCause failed fault end n before now (error.Refused e) = (fault ≡ Some e) ⊎ IsShortage e
-ChangeCause failed fault end n before now (error.Device e) = e ≡ Failed → before < now
-ChangeCause failed fault end n before now error.NoRoom = before < now
-ChangeCause failed fault end n before now e = FrameCause end n e
+-- was made (`FrameCause`); there was no room for it (`lacks`); or the device failed (`fails`). `held` is what the key
+-- held
+abbrev pub ChangeCause : Bool → Option CedarError → Option ℤ → ℕ → ℕ → Type 0 → Type 0 → DurableError → Type 0
+ChangeCause failed fault held end n fails lacks error.Failed = failed ≡ true
+ChangeCause failed fault held end n fails lacks (error.Refused e) = (fault ≡ Some e) ⊎ IsWanting held e
+ChangeCause failed fault held end n fails lacks (error.Device e) = fails
+ChangeCause failed fault held end n fails lacks error.NoRoom = lacks
+ChangeCause failed fault held end n fails lacks e = FrameCause end n e
 
 -- why an erasure wasn't made: as of a put, but that no pair has a fault and no slots are wanted
-abbrev pub EraseCause : Bool → ℕ → ℕ → ℕ → ℕ → DurableError → Type 0
-EraseCause failed end n before now error.Failed = failed ≡ true
-EraseCause failed end n before now (error.Device e) = e ≡ Failed → before < now
-EraseCause failed end n before now error.NoRoom = before < now
-EraseCause failed end n before now e = FrameCause end n e
+abbrev pub EraseCause : Bool → ℕ → ℕ → Type 0 → Type 0 → DurableError → Type 0
+EraseCause failed end n fails lacks error.Failed = failed ≡ true
+EraseCause failed end n fails lacks (error.Device e) = fails
+EraseCause failed end n fails lacks error.NoRoom = lacks
+EraseCause failed end n fails lacks e = FrameCause end n e
 
 -- which of some changes was refused, and why: its pair has that fault, or memory or slots were wanting
 abbrev pub IsRefusedAt : List Change → DurableError → Type 0
@@ -101,12 +115,12 @@ PrepareCause changes end (error.RefusedAt index e) = IsRefusedAt changes (error.
 PrepareCause changes end e = FrameCause end (batch_length changes) e
 
 -- why a batch wasn't made: the store has failed before; or it wasn't prepared (`PrepareCause`); or there was no room
--- for its record; or the device failed
-abbrev pub BatchCause : Bool → List Change → ℕ → ℕ → ℕ → DurableError → Type 0
-BatchCause failed changes end before now error.Failed = failed ≡ true
-BatchCause failed changes end before now (error.Device e) = e ≡ Failed → before < now
-BatchCause failed changes end before now error.NoRoom = before < now
-BatchCause failed changes end before now e = PrepareCause changes end e
+-- for its record (`lacks`); or the device failed (`fails`)
+abbrev pub BatchCause : Bool → List Change → ℕ → Type 0 → Type 0 → DurableError → Type 0
+BatchCause failed changes end fails lacks error.Failed = failed ≡ true
+BatchCause failed changes end fails lacks (error.Device e) = fails
+BatchCause failed changes end fails lacks error.NoRoom = lacks
+BatchCause failed changes end fails lacks e = PrepareCause changes end e
 
 -- what an error leaves: `fails` if it is the device's, `lacks` if it is want of room, and `stays` if it is another
 -- one

@@ -1,7 +1,6 @@
 -- When a file is compacted, what it has then, and why it wasn't.
 use Rattle.std.specs.Prelude.{◌≡◌, ◌<◌, ℕ, ◌+◌, ◌-◌, ◌*◌, max, nat_lt, ℤ, Bool, false}
 use Rattle.std.specs.Prelude.{List, [], ◌∷◌, ◌++◌, length, Some}
-use Rattle.cedar_journal.specs.declared.device.DeviceError.TheVariants as device
 use Rattle.cedar_journal.specs.declared.frame.FrameError.{FrameError}
 use Rattle.cedar_journal.specs.declared.frame.FrameError.TheVariants as frame
 use Rattle.cedar_journal.specs.declared.replace.ReplaceError.{ReplaceError}
@@ -54,12 +53,12 @@ IsBeforeReplacing Memory = Unit {0}
 IsBeforeReplacing TooLong = Unit {0}
 IsBeforeReplacing _ = ⊥
 
--- why a file wasn't compacted: no file was made in memory; or the device kept the old one, or failed. `before` and
--- `now` are how often it has failed
-abbrev pub CompactCause : ℕ → ℕ → CompactError → Type 0
-CompactCause before now (Kept e) = e ≡ device.Failed → before < now
-CompactCause before now Failed = before < now
-CompactCause before now e = IsBeforeReplacing e
+-- why a file wasn't compacted: no file was made in memory; or the device failed, and kept the old one, or it isn't
+-- known which one is there (`lost`). `before` and `now` are how often the device has failed
+abbrev pub CompactCause : ℕ → ℕ → Type 0 → CompactError → Type 0
+CompactCause before now lost (Kept e) = before < now
+CompactCause before now lost Failed = (before < now) × lost
+CompactCause before now lost e = IsBeforeReplacing e
 
 -- what an error of a compaction leaves: `fails` if it isn't known which file is there, `keeps` if the device kept the
 -- old one, and `stays` if it wasn't asked

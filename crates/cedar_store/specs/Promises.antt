@@ -1,6 +1,6 @@
 -- What each change of a store promises: of the store before it and after it.
-use Rattle.std.specs.Prelude.{◌≡◌, ◌⊎◌, ℕ, true, false, List, Option, Some}
-use Rattle.cedar_journal.specs.Device.{LeavesOnly}
+use Rattle.std.specs.Prelude.{◌≡◌, ◌⊎◌, ◌<◌, ℕ, ℤ, true, false, List, Option, Some}
+use Rattle.cedar_journal.specs.Device.{FoundNoRoom, LeavesOnly}
 use Rattle.cedar_journal.specs.Journal.{IsSettled}
 use Rattle.cedarwood.specs.State.{State}
 use Rattle.cedarwood.specs.declared.error.CedarError.{CedarError}
@@ -62,22 +62,32 @@ LeavesStore state old new after e =
     ((new.failed ≡ false) × (new.journal.end ≡ old.journal.end) × (state new.words ≡ state old.words))
     ((new.failed ≡ old.failed) × (new.journal ≡ old.journal) × (state new.words ≡ state old.words))
 
--- why a value wasn't put whose pair has this fault, or none, and whose payload has n bytes (`ChangeCause`)
-abbrev pub IsChangeCause : {T A D : Type 0} → (D → ℕ) → Store T A D → Store T A D → Option CedarError → ℕ → DurableError → Type 0
-IsChangeCause faults old new fault n e = ChangeCause old.failed fault old.journal.end n (faults old.journal.device) (faults new.journal.device) e
+-- a call of the store's device has failed
+abbrev pub DeviceFails : {T A D : Type 0} → (D → ℕ) → Store T A D → Store T A D → Type 0
+DeviceFails faults old new = faults old.journal.device < faults new.journal.device
+
+-- a write of the store's device has found no room, and no call of it has failed
+abbrev pub DeviceIsFull : {T A D : Type 0} → (D → ℕ) → (D → ℕ) → Store T A D → Store T A D → Type 0
+DeviceIsFull faults full old new = FoundNoRoom faults full old.journal.device new.journal.device
+
+-- why a value wasn't put whose pair has this fault, or none, whose key held this, or nothing, and whose payload has n
+-- bytes (`ChangeCause`)
+abbrev pub IsChangeCause : {T A D : Type 0} → (D → ℕ) → (D → ℕ) → Store T A D → Store T A D → Option CedarError → Option ℤ → ℕ → DurableError → Type 0
+IsChangeCause faults full old new fault held n e =
+    ChangeCause old.failed fault held old.journal.end n (DeviceFails faults old new) (DeviceIsFull faults full old new) e
 
 -- why a key wasn't erased whose payload has n bytes (`EraseCause`)
-abbrev pub IsEraseCause : {T A D : Type 0} → (D → ℕ) → Store T A D → Store T A D → ℕ → DurableError → Type 0
-IsEraseCause faults old new n e = EraseCause old.failed old.journal.end n (faults old.journal.device) (faults new.journal.device) e
+abbrev pub IsEraseCause : {T A D : Type 0} → (D → ℕ) → (D → ℕ) → Store T A D → Store T A D → ℕ → DurableError → Type 0
+IsEraseCause faults full old new n e = EraseCause old.failed old.journal.end n (DeviceFails faults old new) (DeviceIsFull faults full old new) e
 
 -- why a batch of these changes wasn't made (`BatchCause`)
-abbrev pub IsBatchCause : {T A D : Type 0} → (D → ℕ) → Store T A D → Store T A D → List Change → DurableError → Type 0
-IsBatchCause faults old new changes e = BatchCause old.failed changes old.journal.end (faults old.journal.device) (faults new.journal.device) e
+abbrev pub IsBatchCause : {T A D : Type 0} → (D → ℕ) → (D → ℕ) → Store T A D → Store T A D → List Change → DurableError → Type 0
+IsBatchCause faults full old new changes e = BatchCause old.failed changes old.journal.end (DeviceFails faults old new) (DeviceIsFull faults full old new) e
 
 -- a record wasn't written: the device failed, and so has the store; or there was no room for it, and the store goes
 -- on
-abbrev pub LeavesUnwritten : {T A D : Type 0} → (D → ℕ) → Store T A D → Store T A D → DurableError → Type 0
-LeavesUnwritten faults old new e = IsUnwritten (faults old.journal.device) (faults new.journal.device) old.failed new.failed e
+abbrev pub LeavesUnwritten : {T A D : Type 0} → (D → ℕ) → (D → ℕ) → Store T A D → Store T A D → DurableError → Type 0
+LeavesUnwritten faults full old new e = IsUnwritten (DeviceFails faults old new) (DeviceIsFull faults full old new) old.failed new.failed e
 
 -- what want of room leaves: dictionary and end as they were, and a file that represents the same, at rest and on the
 -- disk

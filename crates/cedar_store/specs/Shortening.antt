@@ -35,7 +35,7 @@ IsShortened seen state old new =
 -- why a file is the old one: no new one was made in memory, or the device kept the old one
 abbrev pub KeptCause : ℕ → ℕ → CompactError → Type 0
 KeptCause before now Failed = ⊥
-KeptCause before now e = CompactCause before now e
+KeptCause before now e = CompactCause before now ⊥ e
 
 -- the file was kept as it was, and `last_compaction` has the reason
 abbrev pub IsKeptLong : {T A D : Type 0} → (D → ℕ) → Store T A D → Store T A D → Type 0
@@ -66,12 +66,12 @@ end_behind store n = store.journal.end + (overhead store.journal.format + n)
 abbrev pub IsLookedAfter : {T A D : Type 0} → (D → List ℕ) → (D → ℕ) → (T → State) → ℕ → Store T A D → Store T A D → Type 0
 IsLookedAfter seen faults state end old new = IsNotDue old new ⊎ IsLookedAt seen faults state end old new
 
--- the device failed in a compaction, which `last_compaction` reports
-abbrev pub IsFailureTold : {T A D : Type 0} → Store T A D → Type 0
-IsFailureTold new = (new.base ≡ new.journal.end) × (new.last_compaction ≡ Some (Err Failed))
+-- the device failed in a compaction, so that it isn't known which file is there, and `last_compaction` reports that
+abbrev pub IsFailureTold : {T A D : Type 0} → (D → Type 0) → Store T A D → Type 0
+IsFailureTold is_lost new = (new.base ≡ new.journal.end) × (new.last_compaction ≡ Some (Err Failed)) × is_lost new.journal.device
 
 -- what a change that wasn't acknowledged, with this error, has done about the length of its file: nothing; or the
 -- device failed, and `last_compaction` reports that (`IsFailureTold`)
-abbrev pub IsLookedAfterError : {T A D : Type 0} → (D → ℕ) → Store T A D → Store T A D → DurableError → Type 0
-IsLookedAfterError faults old new e =
-    IsUnlooked old new ⊎ (IsOfDevice (faults old.journal.device) (faults new.journal.device) e × IsFailureTold new)
+abbrev pub IsLookedAfterError : {T A D : Type 0} → (D → ℕ) → (D → Type 0) → Store T A D → Store T A D → DurableError → Type 0
+IsLookedAfterError faults is_lost old new e =
+    IsUnlooked old new ⊎ (IsOfDevice (faults old.journal.device) (faults new.journal.device) e × IsFailureTold is_lost new)

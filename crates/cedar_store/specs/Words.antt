@@ -1,5 +1,5 @@
 -- The words that the clauses of this crate cite, from one place.
-pub use Rattle.cedar_journal.specs.Device.{LeavesOnly, Only}
+pub use Rattle.cedar_journal.specs.Device.{FoundNoRoom, LeavesOnly, Only}
 pub use Rattle.cedar_journal.specs.Files.{HasExtent, with_payload, ends_closed}
 pub use Rattle.cedar_journal.specs.Files.{format_of, file_payloads}
 pub use Rattle.cedar_journal.specs.Formats.{AreUndamaged, overhead, payloads_read, records_read}

@@ -59,10 +59,9 @@ impl<T: Words, A: Allocator + Copy, D: ReplaceDevice> Store<T, A, D> {
         ensures any_moment { self.old.failed ≡ false → CrashLeavesState D.moment D.left_since T.state self.old self.new }
         ensures any_moment_failed { CrashLeavesStateOrOld D.moment D.left_since D.may_leave T.state self.old self.new }
 
-        //= A compaction fails only for lack of memory, if the record of an entry would be too long, or if the device kept the file or
-        //  failed. It returns `Failed`, its own or of a device that kept the file, only if the disk has failed or a write has found no
-        //  room.
-        ensures cause { IfErr result (λ e. CompactCause (D.faults self.old.journal.device) (D.faults self.new.journal.device) e) }
+        //= A compaction fails only for lack of memory, if the record of an entry would be too long, or if a call of the device has failed:
+        //  that has kept the file, or, if `Failed` is returned, it isn't known which file is there.
+        ensures cause { IfErr result (λ e. CompactCause (D.faults self.old.journal.device) (D.faults self.new.journal.device) (D.is_lost self.new.journal.device) e) }
 
         //= After `Failed` the store has failed. After `Kept` the file is as it was, byte for byte, and so is what a crash may leave. After
         //  any other error nothing was asked of the device. After these the store has failed only if it had before.
@@ -109,7 +108,7 @@ impl<T: Words, A: Allocator + Copy, D: ReplaceDevice> Store<T, A, D> {
         ensures rule { self.new.compaction ≡ self.old.compaction }
         ensures any_moment { self.old.failed ≡ false → CrashLeavesState D.moment D.left_since T.state self.old self.new }
         ensures any_moment_failed { CrashLeavesStateOrOld D.moment D.left_since D.may_leave T.state self.old self.new }
-        ensures cause { IfErr result (λ e. CompactCause (D.faults self.old.journal.device) (D.faults self.new.journal.device) e) }
+        ensures cause { IfErr result (λ e. CompactCause (D.faults self.old.journal.device) (D.faults self.new.journal.device) (D.is_lost self.new.journal.device) e) }
         ensures err { IfErr result (λ e. LeavesFile e (self.new.failed ≡ true) (KeepsFile D.seen D.may_leave self.old self.new)
             ((self.new.failed ≡ self.old.failed) × (self.new.journal ≡ self.old.journal))) }
     {
@@ -140,8 +139,8 @@ impl<T: Words, A: Allocator + Copy, D: ReplaceDevice> Store<T, A, D> {
         ensures recorded { OnOk result ((file_payloads (D.seen self.new.journal.device) ≡ with_payload (payload_of frame.now) (file_payloads (D.seen self.old.journal.device)))
             ⊎ IsShortened D.seen T.state self.old self.new) }
         ensures looked_after { OnOk result (IsLookedAfter D.seen D.faults T.state (end_behind self.old (length (payload_of frame.now))) self.old self.new) }
-        ensures told { IfErr result (IsLookedAfterError D.faults self.old self.new) }
-        ensures err { IfErr result (LeavesUnwritten D.faults self.old self.new) }
+        ensures told { IfErr result (IsLookedAfterError D.faults D.is_lost self.old self.new) }
+        ensures err { IfErr result (LeavesUnwritten D.faults D.full self.old self.new) }
         ensures left { IfErr result (λ e. Leaves e (T.state self.new.words ≡ all_erased_late (T.state self.old.words) (changes_told changes.now))
             (LostRoom D.seen D.may_leave self.old self.new) ⊥) }
         ensures counted { KeepsCount D.seen self.old self.new }
@@ -176,7 +175,7 @@ impl<T: Words, A: Allocator + Copy, D: ReplaceDevice> Store<T, A, D> {
         ensures due { OnOk result (is_beyond self.new.compaction self.new.base self.new.journal.end ≡ false) }
         ensures recorded { OnOk result ((D.seen self.new.journal.device ≡ D.seen self.old.journal.device) ⊎ IsShortened D.seen T.state self.old self.new) }
         ensures looked_after { OnOk result (IsLookedAfter D.seen D.faults T.state self.old.journal.end self.old self.new) }
-        ensures told { OnErr result (IsFailureTold self.new) }
+        ensures told { OnErr result (IsFailureTold D.is_lost self.new) }
         ensures err { IfErr result (FailsByDevice D.faults self.old self.new) }
         ensures words { self.new.words ≡ self.old.words }
         ensures counted { KeepsCount D.seen self.old self.new }
@@ -211,7 +210,7 @@ impl<T: Words, A: Allocator + Copy, D: ReplaceDevice> Store<T, A, D> {
         ensures done { OnOk result ((self.new.failed ≡ false) × (self.new.base ≡ self.new.journal.end)) }
         ensures recorded { OnOk result ((D.seen self.new.journal.device ≡ D.seen self.old.journal.device) ⊎ IsShortened D.seen T.state self.old self.new) }
         ensures looked_at { OnOk result (IsSeenTo D.seen D.faults T.state self.old.journal.end self.old self.new) }
-        ensures told { OnErr result (IsFailureTold self.new) }
+        ensures told { OnErr result (IsFailureTold D.is_lost self.new) }
         ensures err { IfErr result (FailsByDevice D.faults self.old self.new) }
         ensures words { self.new.words ≡ self.old.words }
         ensures counted { KeepsCount D.seen self.old self.new }
@@ -253,8 +252,8 @@ impl<T: Words, A: Allocator + Copy, D: ReplaceDevice> Store<T, A, D> {
         ensures kept { IfKept result (KeepsFile D.seen D.may_leave self.old self.new) }
         ensures err_end { OnErr result ((self.new.base ≡ self.old.base) × (self.new.journal.end ≡ self.old.journal.end)) }
         ensures untold { self.new.last_compaction ≡ self.old.last_compaction }
-        ensures failed { IsErrOf result ReplaceError.Failed → (self.new.failed ≡ true) × (D.faults self.old.journal.device < D.faults self.new.journal.device) }
-        ensures kept_failed { IsErrOf result (ReplaceError.Kept DeviceError.Failed) → D.faults self.old.journal.device < D.faults self.new.journal.device }
+        ensures failed { OnErr result (D.faults self.old.journal.device < D.faults self.new.journal.device) }
+        ensures lost { IsErrOf result ReplaceError.Failed → (self.new.failed ≡ true) × D.is_lost self.new.journal.device }
         ensures words { self.new.words ≡ self.old.words }
         ensures counted { KeepsCount D.seen self.old self.new }
         ensures rule { self.new.compaction ≡ self.old.compaction }

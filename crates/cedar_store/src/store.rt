@@ -9,7 +9,8 @@ ghost use Rattle.cedar_store.specs.Words.{ends_closed, after_erase, fault, forma
 ghost use Rattle.cedar_store.specs.Words.{first_refused, number_at, payload_of, file_payloads};
 ghost use Rattle.cedar_store.specs.Words.{state_of, after_put, AllByRecursion, HasExtent};
 ghost use Rattle.cedar_store.specs.Words.{IsBeforeOrAfter, IsBeforeWrites, IsCorrupt, IsFaultless};
-ghost use Rattle.cedar_store.specs.Words.{IsRecordedIn, IsSettled, LeavesOnly, Only, OpenCause};
+ghost use Rattle.cedar_store.specs.Words.{IsRecordedIn, IsSettled, FoundNoRoom, LeavesOnly, Only};
+ghost use Rattle.cedar_store.specs.Words.{OpenCause};
 ghost use Rattle.cedar_store.specs.Words.{put_at, ReadCause, CrashLeavesEither, HasState};
 ghost use Rattle.cedar_store.specs.Words.{IsBatchCause, IsChangeCause, IsCounted, IsEraseCause};
 ghost use Rattle.cedar_store.specs.Words.{IsLookedAfter, IsLookedAfterError, IsReadyStore};
@@ -63,8 +64,10 @@ fn read_words<T: Made<A>, A: Allocator + Copy, D: Device>(
     ensures seen { D.seen device.new ≡ D.seen device.old }
     ensures durable { Only (D.seen device.new) (D.may_leave device.new) }
     ensures any_moment { LeavesOnly D.moment D.left_since device.old device.new (λ c. c ≡ D.seen device.old) }
-    ensures cause { IfErr result (λ error. OpenCause (D.seen device.old) (D.faults device.old) (D.faults device.new) error) }
-    ensures faults { D.faults device.old ≤ D.faults device.new }
+    ensures cause { IfErr result (λ error. OpenCause (D.seen device.old) (D.faults device.old < D.faults device.new) (FoundNoRoom D.faults D.full device.old device.new) error) }
+    ensures unfailed { IfErr result (λ error. IsBeforeWrites error → D.faults device.new ≡ D.faults device.old) }
+    ensures done { OnOk result (D.faults device.new ≡ D.faults device.old) }
+    ensures room { D.full device.new ≡ D.full device.old }
 {
     let bytes = read_file(alloc, device)?;
     let (words, extent) = words_of(alloc, &bytes)?;
@@ -79,7 +82,9 @@ fn read_file<A: Allocator, D: Device>(alloc: A, device: &mut D) -> Result<Vec<u8
     ensures durable { Only (D.seen device.new) (D.may_leave device.new) }
     ensures any_moment { LeavesOnly D.moment D.left_since device.old device.new (λ c. c ≡ D.seen device.old) }
     ensures cause { IfErr result (λ error. ReadCause (D.faults device.old) (D.faults device.new) error) }
-    ensures faults { D.faults device.old ≤ D.faults device.new }
+    ensures unfailed { IfErr result (λ error. IsBeforeWrites error → D.faults device.new ≡ D.faults device.old) }
+    ensures done { OnOk result (D.faults device.new ≡ D.faults device.old) }
+    ensures room { D.full device.new ≡ D.full device.old }
 {
     match device.read(alloc) {
         Ok(bytes) => Ok(bytes),
@@ -129,9 +134,11 @@ impl<T: Made<A>, A: Allocator + Copy, D: Device> Store<T, A, D> {
             (λ c. state_of c ≡ state_of (D.seen device))) }
 
         //= A file is refused as foreign only if it is of another kind, as damaged if a record is damaged, at the position of the first such
-        //  one, as corrupt if one of its records is no change, and otherwise only for lack of memory or slots, or by the device, whose
-        //  `Failed` is returned only if the disk has failed or a write has found no room.
-        ensures cause { IfErr result (λ e. OpenCause (D.seen device) (D.faults device) (D.faults e.1) e.0) }
+        //  one, as corrupt if one of its records is no change, and otherwise only for lack of memory or slots, or by the device: its
+        //  `NoRoom` is returned only if a write has found no room, and any other error of it only if a call of it has failed. If that is
+        //  not what is returned, no call of the device has failed. [with unfailed]
+        ensures cause { IfErr result (λ e. OpenCause (D.seen device) (D.faults device < D.faults e.1) (FoundNoRoom D.faults D.full device e.1) e.0) }
+        ensures unfailed { IfErr result (λ e. IsBeforeWrites e.0 → D.faults e.1 ≡ D.faults device) }
 
         //= A file that is refused for any other reason than the device stays byte for byte as it was, whenever a crash comes. [with seen]
         ensures untouched { IfErr result (λ e. IsBeforeWrites e.0 → LeavesOnly D.moment D.left_since device e.1 (λ c. c ≡ D.seen device)) }
@@ -283,9 +290,9 @@ impl<T: Words, A: Allocator + Copy, D: ReplaceDevice> Store<T, A, D> {
         //  reason. [by IsLookedAfter; also insert, update_bytes, update, erase_bytes, erase, apply_batch]
         ensures looked_after { OnOk result (IsLookedAfter D.seen D.faults T.state (end_behind self.old (length key.now + 5)) self.old self.new) }
 
-        //= A change that fails has looked at nothing and reports no compaction, unless it fails by the device: then it may report one in
-        //  which that failed. [by IsLookedAfterError; also insert, update_bytes, update, erase_bytes, erase, apply_batch]
-        ensures told { IfErr result (IsLookedAfterError D.faults self.old self.new) }
+        //= A change that fails has looked at nothing and reports no compaction, unless it fails by the device: then it may report one after
+        //  which it isn't known which file is there. [by IsLookedAfterError; also insert, update_bytes, update, erase_bytes, erase, apply_batch]
+        ensures told { IfErr result (IsLookedAfterError D.faults D.is_lost self.old self.new) }
 
         //= The count of a store stays that of its file's records, in each change and each compaction, as long as the store hasn't failed.
         //  [also insert, update_bytes, update, erase_bytes, erase, apply_batch, compact]
@@ -294,10 +301,10 @@ impl<T: Words, A: Allocator + Copy, D: ReplaceDevice> Store<T, A, D> {
         //= A pair that has a fault is refused with its first one, if the store hasn't failed. [also insert, update_bytes, update]
         ensures faulty { self.old.failed ≡ false → IfSome (fault key.now value) (λ e. result ≡ Err (DurableError.Refused e)) }
 
-        //= Otherwise it fails only if the store has failed before, for lack of memory or slots, if the record is too long or the records
-        //  end too far back, or by the device. It returns `NoRoom`, and `Failed` of the device, only if the disk has failed or a write has
-        //  found no room. [also insert, update_bytes, update]
-        ensures cause { IfErr result (IsChangeCause D.faults self.old self.new (fault key.now value) (length key.now + 5)) }
+        //= Otherwise it fails only if the store has failed before, for lack of memory, for lack of slots of a key that isn't held, if the
+        //  record is too long or the records end too far back, or by the device. It returns `NoRoom` only if a write has found no room and
+        //  no call of the device has failed, and an error of the device only if one has. [also insert, update_bytes, update]
+        ensures cause { IfErr result (IsChangeCause D.faults D.full self.old self.new (fault key.now value) (number_at (T.state self.old.words).tree key.now) (length key.now + 5)) }
 
         //= After an error of the device the store has failed. After `NoRoom` it hasn't: the dictionary is as it was, and so is where the
         //  records end; the file represents it, on the disk. After any other, the dictionary, the file and the store are as they were.
@@ -342,9 +349,9 @@ impl<T: Words, A: Allocator + Copy, D: ReplaceDevice> Store<T, A, D> {
         ensures counted { KeepsCount D.seen self.old self.new }
         ensures recorded { OnOk result (IsRecordedIn D.seen T.state self.old self.new (put_at key.now value ∷ [])) }
         ensures looked_after { OnOk result (IsLookedAfter D.seen D.faults T.state (end_behind self.old (length key.now + 5)) self.old self.new) }
-        ensures told { IfErr result (IsLookedAfterError D.faults self.old self.new) }
+        ensures told { IfErr result (IsLookedAfterError D.faults D.is_lost self.old self.new) }
         ensures faulty { self.old.failed ≡ false → IfSome (fault key.now value) (λ e. result ≡ Err (DurableError.Refused e)) }
-        ensures cause { IfErr result (IsChangeCause D.faults self.old self.new (fault key.now value) (length key.now + 5)) }
+        ensures cause { IfErr result (IsChangeCause D.faults D.full self.old self.new (fault key.now value) (number_at (T.state self.old.words).tree key.now) (length key.now + 5)) }
         ensures err { IfErr result (LeavesStore T.state self.old self.new (after_put (T.state self.old.words) key.now value)) }
     {
         self.insert_bytes(key.as_bytes(), value)
@@ -365,9 +372,9 @@ impl<T: Words, A: Allocator + Copy, D: ReplaceDevice> Store<T, A, D> {
         ensures counted { KeepsCount D.seen self.old self.new }
         ensures recorded { OnOk result (IsRecordedIn D.seen T.state self.old self.new (put_at key.now value ∷ [])) }
         ensures looked_after { OnOk result (IsLookedAfter D.seen D.faults T.state (end_behind self.old (length key.now + 5)) self.old self.new) }
-        ensures told { IfErr result (IsLookedAfterError D.faults self.old self.new) }
+        ensures told { IfErr result (IsLookedAfterError D.faults D.is_lost self.old self.new) }
         ensures faulty { self.old.failed ≡ false → IfSome (fault key.now value) (λ e. result ≡ Err (DurableError.Refused e)) }
-        ensures cause { IfErr result (IsChangeCause D.faults self.old self.new (fault key.now value) (length key.now + 5)) }
+        ensures cause { IfErr result (IsChangeCause D.faults D.full self.old self.new (fault key.now value) (number_at (T.state self.old.words).tree key.now) (length key.now + 5)) }
         ensures err { IfErr result (LeavesStore T.state self.old self.new (after_put (T.state self.old.words) key.now value)) }
     {
         match self.insert_bytes(key, value) {
@@ -391,9 +398,9 @@ impl<T: Words, A: Allocator + Copy, D: ReplaceDevice> Store<T, A, D> {
         ensures counted { KeepsCount D.seen self.old self.new }
         ensures recorded { OnOk result (IsRecordedIn D.seen T.state self.old self.new (put_at key.now value ∷ [])) }
         ensures looked_after { OnOk result (IsLookedAfter D.seen D.faults T.state (end_behind self.old (length key.now + 5)) self.old self.new) }
-        ensures told { IfErr result (IsLookedAfterError D.faults self.old self.new) }
+        ensures told { IfErr result (IsLookedAfterError D.faults D.is_lost self.old self.new) }
         ensures faulty { self.old.failed ≡ false → IfSome (fault key.now value) (λ e. result ≡ Err (DurableError.Refused e)) }
-        ensures cause { IfErr result (IsChangeCause D.faults self.old self.new (fault key.now value) (length key.now + 5)) }
+        ensures cause { IfErr result (IsChangeCause D.faults D.full self.old self.new (fault key.now value) (number_at (T.state self.old.words).tree key.now) (length key.now + 5)) }
         ensures err { IfErr result (LeavesStore T.state self.old self.new (after_put (T.state self.old.words) key.now value)) }
     {
         self.update_bytes(key.as_bytes(), value)
@@ -428,12 +435,12 @@ impl<T: Words, A: Allocator + Copy, D: ReplaceDevice> Store<T, A, D> {
         ensures counted { KeepsCount D.seen self.old self.new }
         ensures recorded { IfOk result (λ held. held ≡ true → IsRecordedIn D.seen T.state self.old self.new (erase_at key.now ∷ [])) }
         ensures looked_after { IfOk result (λ held. held ≡ true → IsLookedAfter D.seen D.faults T.state (end_behind self.old (length key.now + 1)) self.old self.new) }
-        ensures told { IfErr result (IsLookedAfterError D.faults self.old self.new) }
+        ensures told { IfErr result (IsLookedAfterError D.faults D.is_lost self.old self.new) }
 
         //= An erasure fails only if the store has failed before, for lack of memory, if the record is too long or the records end too far
-        //  back, or by the device. It returns `NoRoom`, and `Failed` of the device, only if the disk has failed or a write has found no
-        //  room. [also erase]
-        ensures cause { IfErr result (IsEraseCause D.faults self.old self.new (length key.now + 1)) }
+        //  back, or by the device. It returns `NoRoom` only if a write has found no room and no call of the device has failed, and an error
+        //  of the device only if one has. [also erase]
+        ensures cause { IfErr result (IsEraseCause D.faults D.full self.old self.new (length key.now + 1)) }
 
         //= After an error of the device the store has failed. After `NoRoom` it hasn't: the dictionary is as it was, and the file
         //  represents it. After any other, the dictionary, the file and the store are as they were. [also erase]
@@ -467,8 +474,8 @@ impl<T: Words, A: Allocator + Copy, D: ReplaceDevice> Store<T, A, D> {
         ensures counted { KeepsCount D.seen self.old self.new }
         ensures recorded { IfOk result (λ held. held ≡ true → IsRecordedIn D.seen T.state self.old self.new (erase_at key.now ∷ [])) }
         ensures looked_after { IfOk result (λ held. held ≡ true → IsLookedAfter D.seen D.faults T.state (end_behind self.old (length key.now + 1)) self.old self.new) }
-        ensures told { IfErr result (IsLookedAfterError D.faults self.old self.new) }
-        ensures cause { IfErr result (IsEraseCause D.faults self.old self.new (length key.now + 1)) }
+        ensures told { IfErr result (IsLookedAfterError D.faults D.is_lost self.old self.new) }
+        ensures cause { IfErr result (IsEraseCause D.faults D.full self.old self.new (length key.now + 1)) }
         ensures err { IfErr result (LeavesStore T.state self.old self.new (after_erase (T.state self.old.words) key.now)) }
     {
         self.erase_bytes(key.as_bytes())
@@ -506,17 +513,17 @@ impl<T: Words, A: Allocator + Copy, D: ReplaceDevice> Store<T, A, D> {
         ensures counted { KeepsCount D.seen self.old self.new }
         ensures recorded { OnOk result ((changes.now ≡ [] → ⊥) → IsRecordedIn D.seen T.state self.old self.new (changes_told changes.now)) }
         ensures looked_after { OnOk result ((changes.now ≡ [] → ⊥) → IsLookedAfter D.seen D.faults T.state (end_behind self.old (batch_length (changes_told changes.now))) self.old self.new) }
-        ensures told { IfErr result (IsLookedAfterError D.faults self.old self.new) }
+        ensures told { IfErr result (IsLookedAfterError D.faults D.is_lost self.old self.new) }
 
         //= A batch in which a pair has a fault is refused with the first such pair's index and fault, whatever memory there is, if the
         //  store hasn't failed.
         ensures first { self.old.failed ≡ false → IfSome (first_refused 0 (changes_told changes.now)) (λ e. result ≡ Err e) }
 
         //= A batch in which one pair has a fault is refused. Otherwise it fails only if the store has failed before, for lack of memory or
-        //  slots, if the record is too long or the records end too far back, or by the device. It returns `NoRoom`, and `Failed` of the
-        //  device, only if the disk has failed or a write has found no room. [with cause]
+        //  slots, if the record is too long or the records end too far back, or by the device. It returns `NoRoom` only if a write has found
+        //  no room and no call of the device has failed, and an error of the device only if one has. [with cause]
         ensures faulty { IsOk result → AllByRecursion IsFaultless (changes_told changes.now) }
-        ensures cause { IfErr result (IsBatchCause D.faults self.old self.new (changes_told changes.now)) }
+        ensures cause { IfErr result (IsBatchCause D.faults D.full self.old self.new (changes_told changes.now)) }
 
         //= After an error of the device the store has failed and the dictionary has all of a batch. After `NoRoom` it hasn't: the
         //  dictionary is as it was, and the file represents it. After any other, the dictionary, the file and the store are as they were.
@@ -553,7 +560,7 @@ impl<T: Words, A: Allocator + Copy, D: ReplaceDevice> Store<T, A, D> {
         ensures no_room { IsErrOf result DurableError.NoRoom → IsSettled D.seen D.may_leave self.new.journal.device self.new.journal.format self.new.journal.end }
         ensures same_left { IsErrOf result DurableError.NoRoom → file_payloads (D.seen self.new.journal.device) ≡ file_payloads (D.seen self.old.journal.device) }
         ensures end { OnErr result (self.new.journal.end ≡ self.old.journal.end) }
-        ensures err { IfErr result (LeavesUnwritten D.faults self.old self.new) }
+        ensures err { IfErr result (LeavesUnwritten D.faults D.full self.old self.new) }
         ensures words { self.new.words ≡ self.old.words }
         ensures unlooked { IsUnlooked self.old self.new }
         ensures rule { self.new.compaction ≡ self.old.compaction }

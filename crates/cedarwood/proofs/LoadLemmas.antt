@@ -1,10 +1,13 @@
 -- What was saved is loaded again, and what was loaded is saved again.
-use Rattle.std.proofs.Common.{◌≡◌, ◌⊎◌, ◌∙◌, ℕ, ◌≤◌, Bool, List, [], Option, Some, None, Result, Ok, Err, IfErr, ap, inl, inr, refl, sym, subst}
-use Rattle.std.specs.Prelude.{◌==◌, if◌then◌else◌, IfOk, MatchOption}
+use Rattle.std.proofs.Common.{◌≡◌, ◌⊎◌, ◌∙◌, ℕ, ◌≤◌, Bool, List, [], ◌∷◌, Option, Some, None, Result, Ok, Err, IfErr, ap, inl, inr, refl, sym, subst}
+use Rattle.std.specs.Prelude.{◌==◌, if◌then◌else◌, IfOk, IsErrAnd, MatchOption}
 use Rattle.std.specs.Io.KnownBytes.{prepend_known}
 use Rattle.std.specs.Io.Buffered.{reader_buffer, reader_capacity, reader_inner, reader_remaining}
 use Rattle.std.specs.declared.io.buffered.BufReader.{BufReader}
 use Rattle.std.specs.Result.{IsOkAnd}
+use Rattle.cedar_disk.specs.OpenedFiles.{file_to_read, read_calls}
+use Rattle.cedar_disk.specs.Openings.{opened_to_read}
+use Rattle.cedar_disk.specs.declared.opening.FileToRead.{FileToRead}
 use Rattle.cedar_model.specs.Table.Layouts.{LayoutKind, layout_byte}
 use Rattle.cedar_model.specs.Table.TableFields.{Fields}
 use Rattle.cedar_model.specs.Meaning.WellFormed.{IsWellFormed}
@@ -12,13 +15,13 @@ use Rattle.cedar_format.specs.declared.error.CedarPersistenceError.{CedarPersist
 use Rattle.cedar_format.specs.declared.error.CedarPersistenceError.TheVariants as errors
 use Rattle.cedar_format.specs.declared.header.Header.{Header}
 use Rattle.cedar_format.specs.Format.{header_answer, need, Passes}
-use Rattle.cedar_format.specs.Reading.{LacksNoMore}
+use Rattle.cedar_format.specs.Reading.{IsIo, LacksNoMore}
 use Rattle.cedar_format.specs.Refusal.{Refusal, refusal}
 use Rattle.cedar_format.specs.Tables.{header_of, table_bytes, IsTableFile}
 use Rattle.cedar_format.proofs.OneTable.{formed_is_listed, one_table}
 use Rattle.cedar_format.proofs.Passing.{tables_pass}
 use Rattle.cedarwood.specs.Dictionary.{Dictionary}
-use Rattle.cedarwood.specs.Loading.{IsDecided, LacksByPath, LacksMemory, LoadAnswers, LoadsBy, LoadsOpened}
+use Rattle.cedarwood.specs.Loading.{IsDecided, LacksByPath, LacksMemory, LoadAnswers, LoadsBy, LoadsFrom, LoadsOpened}
 
 abbrev table_in : Dictionary → Fields
 table_in d = d.table
@@ -87,6 +90,18 @@ file_left remaining reader buffered file same inner empty full =
 pub loads_opened : (kind : LayoutKind) (slots limit : ℕ) (before left after : Option (List ℕ)) (failed : Bool) (result : Result Dictionary CedarPersistenceError) → before ≡ left
     → LoadsBy table_in kind slots limit before after failed result → LoadsOpened table_in kind slots limit left result
 loads_opened kind slots limit before left after failed result same loads = inr (after, failed, subst (λ o. LoadsBy table_in kind slots limit o after failed result) same loads)
+
+-- a load by path is one of the file that was opened
+pub loads_from : {T : Type 0} (kind : LayoutKind) (slots limit : ℕ) (remaining : T → Option (List ℕ)) (path : List ℕ) (opened : FileToRead T) (file : T) (result : Result Dictionary CedarPersistenceError)
+    → read_calls opened ≡ opened_to_read path ∷ [] → file ≡ file_to_read opened → LoadsOpened table_in kind slots limit (remaining file) result → LoadsFrom table_in kind slots limit remaining path result
+loads_from kind slots limit remaining path opened file result noted same loads =
+    inr (opened, noted, subst (λ f. LoadsOpened table_in kind slots limit (remaining f) result) same loads)
+
+-- and of none, if the system hasn't opened it
+pub unopened : {T : Type 0} (kind : LayoutKind) (slots limit : ℕ) (remaining : T → Option (List ℕ)) (path : List ℕ) (result : Result Dictionary CedarPersistenceError) (gives : CedarPersistenceError)
+    → IsErrAnd result (λ e. e ≡ gives) → IsIo gives → LoadsFrom table_in kind slots limit remaining path result
+unopened kind slots limit remaining path (Ok d) gives told io = absurd told
+unopened kind slots limit remaining path (Err e) gives told io = inl (subst IsIo (sym told) io)
 
 pub opened_formed : (kind : LayoutKind) (slots limit : ℕ) (left : Option (List ℕ)) (result : Result Dictionary CedarPersistenceError) → LoadsOpened table_in kind slots limit left result
     → IfOk result (λ d. IsWellFormed slots d.table)

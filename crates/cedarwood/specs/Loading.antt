@@ -6,7 +6,8 @@ use Rattle.cedar_model.specs.Table.TableFields.{Fields}
 use Rattle.cedar_format.specs.declared.error.CedarPersistenceError.{CedarPersistenceError}
 use Rattle.cedar_format.specs.declared.error.CedarPersistenceError.TheVariants.{AllocationFailed}
 use Rattle.cedar_format.specs.Format.{need, Passes}
-use Rattle.cedar_format.specs.Reading.{LacksNoMore}
+use Rattle.cedar_format.specs.Reading.{IsIo, LacksNoMore}
+use Rattle.cedar_disk.specs.OpenedFiles.{OfFileAt}
 use Rattle.cedar_format.specs.Tables.{header_of, table_bytes, IsTableFile}
 use Rattle.cedarwood.specs.Dictionary.{Dictionary}
 pub use Rattle.cedar_file.specs.Loading.{IsDecided, LacksMemory, LoadAnswers, LoadsBy}
@@ -22,6 +23,11 @@ abbrev pub LoadsOpened : {X : Type 0} → (X → Fields) → LayoutKind → ℕ 
 LoadsOpened table kind slots limit before result =
     IsErrAnd result (λ e. e ≡ AllocationFailed 8192)
     ⊎ ((after : Option (List ℕ)) × (failed : Bool) × LoadsBy table kind slots limit before after failed result)
+
+-- what a load by path promises: the system hasn't opened the file, or a file was opened at this path, and the load does
+-- with what was left in it what it promises of an open file (`LoadsOpened`)
+abbrev pub LoadsFrom : {T X : Type 0} → (X → Fields) → LayoutKind → ℕ → ℕ → (T → Option (List ℕ)) → List ℕ → Result X CedarPersistenceError → Type 0
+LoadsFrom table kind slots limit remaining path result = IsErrAnd result IsIo ⊎ OfFileAt remaining path (λ left. LoadsOpened table kind slots limit left result)
 
 -- a load of a table's own file in any version, under a limit of at least its need, gives that table again, or a list found no room
 abbrev pub OwnFilesLoad : Type 0

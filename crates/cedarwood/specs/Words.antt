@@ -49,7 +49,7 @@ pub use Rattle.cedarwood.specs.Erasures.{IsErasedUnder, MarksCutUnder}
 pub use Rattle.cedarwood.specs.Fault.{fault, IsInRange, IsShortage, key_fault, value_fault}
 pub use Rattle.cedarwood.specs.Limits.{default_load_limit, IsLimit, most_slots}
 pub use Rattle.cedarwood.specs.Loading.{LacksByPath, LoadAnswers, LoadedFilesSaveAgain}
-pub use Rattle.cedarwood.specs.Loading.{LoadsOpened, OwnFilesLoad}
+pub use Rattle.cedarwood.specs.Loading.{LoadsFrom, LoadsOpened, OwnFilesLoad}
 pub use Rattle.cedarwood.specs.Making.{default_settings, IsEmpty, IsNew, IsRenewed}
 pub use Rattle.cedarwood.specs.Making.{IsSorted, IsSortedBuild}
 pub use Rattle.cedarwood.specs.Memory.{CedarFitsInMemory, ReducedFitsInMemory}

@@ -150,10 +150,11 @@ pub fn save_at_path<L: Layout, const SLOTS: usize, A: Allocator + Copy, F: Files
     files: &F,
 ) -> Result<(), CedarPersistenceError> {
     if minor == 0 {
-        trie.save_v1_0_to_path(files, "a.cedar")
+        trie.save_v1_0_to_path(files, "a.cedar")?;
     } else {
-        trie.save_to_path(files, "a.cedar")
+        trie.save_to_path(files, "a.cedar")?;
     }
+    Ok(())
 }
 
 /// Loads a dictionary from a path.

@@ -1,7 +1,7 @@
 //! The program: its statuses, and what it writes to its errors' writer.
 ghost use Rattle.cedarwood.specs.Words.{IsSlotLimit};
 
-use cedar_cli::{DONE, FAULT, REFUSED, USAGE, run_program, run_program_with};
+use cedar_cli::{DONE, FAULT, NoReports, REFUSED, USAGE, run_program, run_program_with};
 use cedarwood::{MOST_SLOTS, Watched};
 use std::alloc::{AllocError, Global};
 use std::process::Abort;
@@ -64,7 +64,16 @@ fn call<const SLOTS: usize>(
 ) -> u8
     requires { IsSlotLimit SLOTS }
 {
-    run_program_with::<SLOTS, _, _, _, _, _>(refusing, rt, arguments, reader, writer, errors)
+    run_program_with::<SLOTS, _, _, _, _, _, _>(
+        refusing,
+        rt,
+        "cedar",
+        arguments,
+        reader,
+        writer,
+        errors,
+        &mut NoReports,
+    )
 }
 
 // Runs the program on the script, with these bytes for what it writes and reports.

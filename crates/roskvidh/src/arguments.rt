@@ -2,6 +2,7 @@
 
 use crate::commands::{COMMANDS, Said, arguments_of, said_of};
 use crate::shapes::{Argument, Form, Kind, Shape, shape_of};
+use clap::builder::ValueParser;
 use clap::{Arg, ArgAction, Command, value_parser};
 use std::alloc::{AllocError, Global};
 
@@ -82,6 +83,8 @@ fn with_value<'a>(arg: Arg<'a>, kind: Kind) -> Result<Arg<'a>, AllocError> {
         Kind::TextOr(text, letter) => Ok(arg.short(letter).default_value(text)),
         Kind::Required(letter) => Ok(arg.short(letter).required(true)),
         Kind::Count(letter) => Ok(arg.short(letter).value_parser(value_parser!(u64))),
+        Kind::CountWithout(other) => arg.value_parser(value_parser!(u64)).conflicts_with(other),
+        Kind::OneOf(texts) => Ok(arg.value_parser(ValueParser::Names(texts))),
         Kind::CostWith(other) => arg.value_parser(value_parser!(u32)).requires_arg(other),
         Kind::Size => Ok(arg.value_parser(value_parser!(usize))),
     }

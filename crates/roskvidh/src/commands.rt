@@ -141,13 +141,22 @@ const PREFIXES_TAKES: [Argument; 3] = [Argument::File, Argument::Text, Argument:
 const COMPLETE: Said = Said {
     name: "complete",
     about: "List the words that begin with a prefix",
-    notes: "Example:\n  roskvidh complete words.cedar ne -n 5",
+    notes: COMPLETE_NOTES,
 };
 
-const COMPLETE_TAKES: [Argument; 4] = [
+const COMPLETE_NOTES: &str = "\
+Words with the same number come in the order of bytes where --best puts them in order.
+
+Example:
+  roskvidh complete words.cedar ne -n 5
+  roskvidh complete words.cedar ne --best 10 --within 1";
+
+const COMPLETE_TAKES: [Argument; 6] = [
     Argument::File,
     Argument::Prefix,
     Argument::Most,
+    Argument::Best,
+    Argument::Within,
     Argument::Limit,
 ];
 

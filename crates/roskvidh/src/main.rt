@@ -6,6 +6,7 @@ mod build;
 mod changes;
 mod chart;
 mod commands;
+mod completions;
 mod dictionary;
 mod differences;
 mod durable;

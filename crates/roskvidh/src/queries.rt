@@ -1,6 +1,7 @@
 //! Queries of a dictionary alone.
 
 use crate::chart::write_chart;
+use crate::completions::complete;
 use crate::dictionary::{Kind, SLOTS};
 use crate::fault::Fault;
 use crate::request::{Dictionary, Query};
@@ -26,7 +27,7 @@ pub(crate) fn answer<'m, L: Layout, W: Write>(
     match query {
         Query::Get(words) => get(trie, words, &mut word, writer),
         Query::Prefixes(_) => prefixes(trie, &word, writer),
-        Query::Complete(_, most) => complete(alloc, trie, &word, most, writer),
+        Query::Complete(completions) => complete(alloc, trie, &word, completions, writer),
         Query::Check => true_if_done(check(trie, dictionary, kind, writer)),
         Query::Stats(chart) => true_if_done(stats(alloc, trie, chart, writer)),
         Query::Show(_, is_drawing) => show(alloc, trie, &word, is_drawing, writer),
@@ -39,10 +40,10 @@ pub(crate) fn answer<'m, L: Layout, W: Write>(
 fn text_of<'m>(query: Query<'m>) -> &'m str {
     match query {
         Query::Prefixes(text)
-        | Query::Complete(text, _)
         | Query::Show(text, _)
         | Query::ListUnder(text)
         | Query::ListFrom(text) => text,
+        Query::Complete(completions) => completions.prefix,
         Query::Get(_) | Query::Check | Query::Stats(_) | Query::List => "",
     }
 }
@@ -54,18 +55,6 @@ fn prefixes<'m, L: Layout, W: Write>(
     writer: &mut Watched<W>,
 ) -> Result<bool, Fault<'m>> {
     Ok(write_fronts(writer, trie, text)?)
-}
-
-/// Lists the words that begin with a prefix, so many at most, and returns whether there is one.
-fn complete<'m, L: Layout, W: Write>(
-    alloc: Global,
-    trie: &Trie<L, SLOTS, Global>,
-    prefix: &[u8],
-    most: Option<u64>,
-    writer: &mut Watched<W>,
-) -> Result<bool, Fault<'m>> {
-    let count = list_under(alloc, trie, prefix, most.unwrap_or(u64::MAX), writer)?;
-    Ok(0 < count)
 }
 
 /// Lists the words that begin with a prefix.
@@ -207,7 +196,7 @@ fn get<'m, L: Layout, W: Write>(
 }
 
 /// Lists the entries whose words begin with a prefix, so many at most, and returns how many these are.
-fn list_under<'m, L: Layout, W: Write>(
+pub(crate) fn list_under<'m, L: Layout, W: Write>(
     alloc: Global,
     trie: &Trie<L, SLOTS, Global>,
     prefix: &[u8],

@@ -107,8 +107,7 @@ pub(crate) struct Dictionary<'m> {
 pub(crate) enum Query<'m> {
     Get(&'m [&'m str]),
     Prefixes(&'m str),
-    /// The words that begin so, so many at most if a limit is given.
-    Complete(&'m str, Option<u64>),
+    Complete(Completions<'m>),
     /// Whether the file is well-formed, and of what kind it is.
     Check,
     /// The figures, and whether a bar for each length of word is wanted.
@@ -118,6 +117,25 @@ pub(crate) enum Query<'m> {
     ListUnder(&'m str),
     /// The words that begin so as a tree in text, or as a drawing.
     Show(&'m str, bool),
+}
+
+/// What completes a prefix.
+#[derive(Clone, Copy)]
+pub(crate) struct Completions<'m> {
+    pub prefix: &'m str,
+    /// How many are listed at most; all if there is no such number.
+    pub most: Option<u64>,
+    /// How many of those with the highest numbers are listed in place of all.
+    pub best: Option<u64>,
+    /// How many edits a beginning of a word may be away from the prefix.
+    pub within: Option<Edits>,
+}
+
+/// How many characters are put in, taken out or changed at most.
+#[derive(Clone, Copy)]
+pub(crate) enum Edits {
+    One,
+    Two,
 }
 
 /// A query of a dictionary and a text.
@@ -205,8 +223,20 @@ fn change_named<'m, 'a>(name: &str, asked: &'m ArgMatches<'a>) -> Option<Request
 }
 
 fn complete_of<'m, 'a>(asked: &'m ArgMatches<'a>) -> Option<Query<'m>> {
-    let prefix = asked.get_str("prefix")?;
-    Some(Query::Complete(prefix, asked.get_one("most")))
+    Some(Query::Complete(Completions {
+        prefix: asked.get_str("prefix")?,
+        most: asked.get_one("most"),
+        best: asked.get_one("best"),
+        within: edits_of(asked),
+    }))
+}
+
+fn edits_of<'m, 'a>(asked: &'m ArgMatches<'a>) -> Option<Edits> {
+    match asked.get_str("within")? {
+        "1" => Some(Edits::One),
+        "2" => Some(Edits::Two),
+        _ => None,
+    }
 }
 
 fn diff_of<'m, 'a>(asked: &'m ArgMatches<'a>) -> Option<Request<'m>> {

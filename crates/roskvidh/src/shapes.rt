@@ -15,6 +15,8 @@ pub(crate) enum Argument {
     Text,
     Prefix,
     Most,
+    Best,
+    Within,
     From,
     ListedPrefix,
     ShownPrefix,
@@ -75,6 +77,10 @@ pub(crate) enum Kind {
     Required(char),
     /// A count, and a letter for the option's name.
     Count(char),
+    /// A count, whose option excludes another one.
+    CountWithout(&'static str),
+    /// One of these texts.
+    OneOf(&'static [&'static str]),
     /// A cost, whose option needs another one.
     CostWith(&'static str),
     /// A size in memory.
@@ -96,6 +102,8 @@ pub(crate) fn shape_of(argument: Argument) -> Shape {
         Argument::Text => TEXT,
         Argument::Prefix => PREFIX,
         Argument::Most => MOST,
+        Argument::Best => BEST,
+        Argument::Within => WITHIN,
         Argument::From => FROM,
         Argument::ListedPrefix => LISTED_PREFIX,
         Argument::ShownPrefix => SHOWN_PREFIX,
@@ -196,6 +204,22 @@ const MOST: Shape = Shape {
     form: Form::Value("N", Kind::Count('n')),
     help: "List so many at most",
 };
+
+const BEST: Shape = Shape {
+    id: "best",
+    form: Form::Value("N", Kind::CountWithout("most")),
+    help: "List so many at most, those with the highest numbers, and these first",
+};
+
+/// How many edits the prefix may be away.
+const WITHIN: Shape = Shape {
+    id: "within",
+    form: Form::Value("EDITS", Kind::OneOf(EDITS)),
+    help: "List also words that begin with a text so many edits from PREFIX: a character put in, taken out or changed",
+};
+
+/// So many edits may be forgiven.
+const EDITS: &[&str] = &["1", "2"];
 
 const FROM: Shape = Shape {
     id: "from",

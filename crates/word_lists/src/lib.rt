@@ -31,4 +31,5 @@ pub use read::read_word;
 pub use scan::{write_keywords, write_matches};
 pub use shown::{write_drawing, write_tree};
 pub use sorted::sorted_list;
+pub use word::write_entry;
 pub use write::ListError;

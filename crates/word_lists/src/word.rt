@@ -13,12 +13,17 @@ use cedarwood::Watched;
 use itoa::{Buffer, write_digits};
 use std::io::Write;
 
-/// Writes the line of a word and its number.
-pub(crate) fn write_entry<W: Write>(
+/// Writes the line of a word and its number. It allocates nothing.
+///
+/// # Errors
+/// `Write` if the writer failed. Then a beginning of the line is written, and not all.
+pub fn write_entry<W: Write>(
     writer: &mut Watched<W>,
     word: &[u8],
     number: i32,
 ) -> Result<(), ListError>
+    //= The line of an entry is a word, a tab, its number and byte 10. A call that returns `Ok` wrote all of it, and one that fails a
+    //  beginning of it, and not all. [by WritesBytes, entry_line]
     ensures { WritesBytes W.contents ListError.Write writer.old writer.new (entry_line (word.now, number)) result }
 {
     if finds_room(word) {

@@ -3,16 +3,16 @@
 ghost use Rattle.std.specs.Prelude.{◌≡◌};
 ghost use Rattle.cedarwood.specs.Words.{default_load_limit, FailsToWrite, IfErr, IfOk, IsLimit};
 ghost use Rattle.cedarwood.specs.Words.{IsSavedAt, IsTableFile, IsUnsavedAt, IsWellFormed};
-ghost use Rattle.cedarwood.specs.Words.{LacksByPath, layout_byte, LoadsOpened, no_search_limit};
-ghost use Rattle.cedarwood.specs.Words.{OnOk, PassesAgain, table_bytes};
+ghost use Rattle.cedarwood.specs.Words.{LacksByPath, layout_byte, LoadsFrom, LoadsOpened};
+ghost use Rattle.cedarwood.specs.Words.{no_search_limit, OnOk, PassesAgain, table_bytes};
 
 use crate::persistence::replace::no_room;
 use crate::{
     CedarPersistenceError, DEFAULT_LOAD_MEMORY_LIMIT, Layout, SaveFailed, Saved, Trie, Watched,
 };
+use cedar_disk::open_to_read;
 use cedar_format::{FULL_MINOR, MINOR};
 use std::alloc::Allocator;
-use std::fs::File;
 use std::io::{BufReader, Read};
 use std::rt::Files;
 
@@ -30,6 +30,8 @@ impl<L: Layout, const SLOTS: usize, A: Allocator + Copy> Trie<L, SLOTS, A> {
     /// If `path` leads to something other than a file, such as a pipe or a device, that is written to as it is. A link is replaced by the
     /// file, which has the mode of what the link leads to.
     ///
+    /// It returns what it did, so that proofs about a caller can go by the calls that were made.
+    ///
     /// ```
     /// cedar.save_to_path(files, "words.cedar")?;
     /// ```
@@ -37,22 +39,29 @@ impl<L: Layout, const SLOTS: usize, A: Allocator + Copy> Trie<L, SLOTS, A> {
     /// # Errors
     /// `Io` if a call on a file failed, if the new one's path would have more than 4095 bytes, or if all its hundred names are taken;
     /// `AllocationFailed` with 8192 if there is no memory for the buffer, which is allocated once the new file is made.
-    pub fn save_to_path<F: Files>(&self, files: &F, path: &str) -> Result<(), CedarPersistenceError>
+    pub fn save_to_path<F: Files>(
+        &self,
+        files: &F,
+        path: &str,
+    ) -> Result<Saved, CedarPersistenceError>
+        //= A save to a path that succeeds has given the name there to a new file of exactly the table's bytes, once they were on the disk,
+        //  and has then put the name on the disk. Or what is there isn't a file, and took exactly these bytes. [also
+        //  save_v1_0_to_path, save_to_path_noted, save_v1_0_to_path_noted; by IsSavedAt]
+        ensures saved { IfOk result (IsSavedAt path.now (table_bytes 1 self.now.table)) }
+
         //= A save to a path fails only with `Io`, or with `AllocationFailed` of the 8192 bytes of its buffer. [also
         //  save_v1_0_to_path, save_to_path_noted, save_v1_0_to_path_noted; by FailsToWrite]
         ensures err { IfErr result FailsToWrite }
-
-        // What was done at the path this result can't name: that of `save_to_path_noted` does.
         ensures file { OnOk result (IsTableFile 1 SLOTS self.now.table (table_bytes 1 self.now.table)) }
         ensures passes { OnOk result (PassesAgain L.kind SLOTS 1 self.now.table) }
     {
         match self.save_to_path_noted(files, path) {
-            Ok(_) => Ok(()),
+            Ok(saved) => Ok(saved),
             Err(failed) => Err(failed.error),
         }
     }
 
-    /// `save_to_path`, which returns what it did: proofs about a caller can go by the calls that were made.
+    /// `save_to_path`, which returns what it did if it fails, too.
     ///
     /// ```
     /// match cedar.save_to_path_noted(files, "words.cedar") {
@@ -64,9 +73,6 @@ impl<L: Layout, const SLOTS: usize, A: Allocator + Copy> Trie<L, SLOTS, A> {
     /// # Errors
     /// As `save_to_path`, with the calls on a new file that was whole.
     pub fn save_to_path_noted<F: Files>(&self, files: &F, path: &str) -> Result<Saved, SaveFailed>
-        //= A save to a path that succeeds has given the name there to a new file of exactly the table's bytes, once they were on the disk,
-        //  and has then put the name on the disk. Or what is there isn't a file, and took exactly these bytes. [also
-        //  save_v1_0_to_path_noted; by IsSavedAt]
         ensures saved { IfOk result (IsSavedAt path.now (table_bytes 1 self.now.table)) }
 
         //= If it fails with the calls on a new file that is whole, nothing was done at the path; or the disk had the file's bytes before a
@@ -91,13 +97,14 @@ impl<L: Layout, const SLOTS: usize, A: Allocator + Copy> Trie<L, SLOTS, A> {
         &self,
         files: &F,
         path: &str,
-    ) -> Result<(), CedarPersistenceError>
+    ) -> Result<Saved, CedarPersistenceError>
+        ensures saved { IfOk result (IsSavedAt path.now (table_bytes 0 self.now.table)) }
         ensures err { IfErr result FailsToWrite }
         ensures file { OnOk result (IsTableFile 0 SLOTS self.now.table (table_bytes 0 self.now.table)) }
         ensures passes { OnOk result (PassesAgain L.kind SLOTS 0 self.now.table) }
     {
         match self.save_v1_0_to_path_noted(files, path) {
-            Ok(_) => Ok(()),
+            Ok(saved) => Ok(saved),
             Err(failed) => Err(failed.error),
         }
     }
@@ -152,10 +159,16 @@ impl<L: Layout, const SLOTS: usize, A: Allocator + Copy> Trie<L, SLOTS, A> {
         //= In a load by path, lack of memory is of the buffer's 8192 bytes, or of one of the four lists of a header that has passed, under
         //  the limit that the load was given. [also load_from_path; by LacksByPath]
         ensures lacks { IfErr result (LacksByPath (layout_byte L.kind) SLOTS memory_limit) }
+
+        //= A load by path has opened a file at just that path, and does with it, from its first byte on, what a load from a reader promises:
+        //  a dictionary comes only with just the bytes of its table in that file, as far as they are known, and these decide the result; or
+        //  there was no memory for the buffer. Or the system hasn't opened it, and the load returns `Io`. No contract of the system's files
+        //  says which bytes these are. [also load_from_path; by LoadsFrom, LoadsOpened]
+        ensures loads { LoadsFrom (λ trie. trie.table) L.kind SLOTS memory_limit F.File.remaining path.now result }
         ensures unbounded { IfOk result (λ trie. trie.search_limit ≡ no_search_limit) }
     {
-        let file = File::open(files, path)?;
-        Self::load_opened(alloc, file, memory_limit)
+        let opened = open_to_read(files, path)?;
+        Self::load_opened(alloc, opened.into_file(), memory_limit)
     }
 
     /// Loads the dictionary that was saved in a file that is open.
@@ -165,10 +178,6 @@ impl<L: Layout, const SLOTS: usize, A: Allocator + Copy> Trie<L, SLOTS, A> {
         memory_limit: usize,
     ) -> Result<Self, CedarPersistenceError>
         requires limit { IsLimit SLOTS }
-
-        //= A load by path does with the file that it has opened, from its first byte on, what a load from a reader promises: a table comes
-        //  only with just the file's bytes, as far as they are known, and these decide the result; or there was no memory for the buffer.
-        //  No contract of the system's files says which bytes these are. [by LoadsOpened]
         ensures loads { LoadsOpened (λ trie. trie.table) L.kind SLOTS memory_limit (R.remaining file) result }
         ensures unbounded { IfOk result (λ trie. trie.search_limit ≡ no_search_limit) }
     {
@@ -196,6 +205,7 @@ impl<L: Layout, const SLOTS: usize, A: Allocator + Copy> Trie<L, SLOTS, A> {
         requires limit { IsLimit SLOTS }
         ensures formed { IfOk result (λ trie. IsWellFormed SLOTS trie.table) }
         ensures lacks { IfErr result (LacksByPath (layout_byte L.kind) SLOTS default_load_limit) }
+        ensures loads { LoadsFrom (λ trie. trie.table) L.kind SLOTS default_load_limit F.File.remaining path.now result }
         ensures unbounded { IfOk result (λ trie. trie.search_limit ≡ no_search_limit) }
     {
         Self::load_from_path_with_limit(alloc, files, path, DEFAULT_LOAD_MEMORY_LIMIT)

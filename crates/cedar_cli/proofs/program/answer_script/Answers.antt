@@ -11,38 +11,38 @@ use Rattle.cedar_cli.proofs.program.answer_script.Goals as goal
 
 pub returns-in_err-outcome-clause-begun : goal.returns-in_err-outcome-clause-begun
 returns-in_err-outcome-clause-begun g c =
-    ended_fronts g.row.SLOTS c.run_script-outcome.new.trie c.in_err-outcome.field-0.0 (view_of g.L.Layout.kind c.args.trie.now) (view_of g.L.Layout.kind c.run_script-outcome.new.trie) (g.W.Write.contents (device_of c.args.writer.now)) (g.W.Write.contents (device_of c.run_script-outcome.new.writer)) (g.W.Write.contents (device_of c.flush-flushed.new.self))
+    ended_fronts g.row.SLOTS c.run_script_with_reports-outcome.new.trie c.in_err-outcome.field-0.0 (view_of g.L.Layout.kind c.args.trie.now) (view_of g.L.Layout.kind c.run_script_with_reports-outcome.new.trie) (g.W.Write.contents (device_of c.args.writer.now)) (g.W.Write.contents (device_of c.run_script_with_reports-outcome.new.writer)) (g.W.Write.contents (device_of c.flush-flushed.new.self))
     (g.R.Read.remaining (device_of c.args.reader.now)) c.flush-flushed.ensures.bytes c.in_err-outcome.ensures.err
 
 pub returns-in-Ok-clause-ok : goal.returns-in-Ok-clause-ok
 returns-in-Ok-clause-ok g c =
-    finished_whole (view_of g.L.Layout.kind c.args.trie.now) (view_of g.L.Layout.kind c.run_script-outcome.new.trie) (g.W.Write.contents (device_of c.args.writer.now)) (g.W.Write.contents (device_of c.run_script-outcome.new.writer)) (g.W.Write.contents (device_of c.flush-flushed.new.self))
+    finished_whole (view_of g.L.Layout.kind c.args.trie.now) (view_of g.L.Layout.kind c.run_script_with_reports-outcome.new.trie) (g.W.Write.contents (device_of c.args.writer.now)) (g.W.Write.contents (device_of c.run_script_with_reports-outcome.new.writer)) (g.W.Write.contents (device_of c.flush-flushed.new.self))
     (g.R.Read.remaining (device_of c.args.reader.now)) c.flush-flushed.ensures.bytes c.in_ok-outcome.ensures.ok
 
 pub returns-in-Ok-clause-begun : goal.returns-in-Ok-clause-begun
 returns-in-Ok-clause-begun g c =
-    finished_fronts (view_of g.L.Layout.kind c.args.trie.now) (view_of g.L.Layout.kind c.run_script-outcome.new.trie) (g.W.Write.contents (device_of c.args.writer.now)) (g.W.Write.contents (device_of c.run_script-outcome.new.writer)) (g.W.Write.contents (device_of c.flush-flushed.new.self))
+    finished_fronts (view_of g.L.Layout.kind c.args.trie.now) (view_of g.L.Layout.kind c.run_script_with_reports-outcome.new.trie) (g.W.Write.contents (device_of c.args.writer.now)) (g.W.Write.contents (device_of c.run_script_with_reports-outcome.new.writer)) (g.W.Write.contents (device_of c.flush-flushed.new.self))
     (g.R.Read.remaining (device_of c.args.reader.now)) c.flush-flushed.ensures.bytes c.in_ok-outcome.ensures.ok
 
 pub returns-in-Ok-clause-unfailed : goal.returns-in-Ok-clause-unfailed
 returns-in-Ok-clause-unfailed g c = (
   c.in_ok-outcome.ensures.unfailed.0,
-  unfailed_call (has_failed c.run_script-outcome.new.writer) (has_failed c.flush-flushed.new.self) c.in-Ok.ensures.failed ∙ c.in_ok-outcome.ensures.unfailed.1,
+  unfailed_call (has_failed c.run_script_with_reports-outcome.new.writer) (has_failed c.flush-flushed.new.self) c.in-Ok.ensures.failed ∙ c.in_ok-outcome.ensures.unfailed.1,
 )
 
 pub returns-in-Err-clause-begun : goal.returns-in-Err-clause-begun
 returns-in-Err-clause-begun g c =
-    finished_fronts (view_of g.L.Layout.kind c.args.trie.now) (view_of g.L.Layout.kind c.run_script-outcome.new.trie) (g.W.Write.contents (device_of c.args.writer.now)) (g.W.Write.contents (device_of c.run_script-outcome.new.writer)) (g.W.Write.contents (device_of c.flush-flushed.new.self))
+    finished_fronts (view_of g.L.Layout.kind c.args.trie.now) (view_of g.L.Layout.kind c.run_script_with_reports-outcome.new.trie) (g.W.Write.contents (device_of c.args.writer.now)) (g.W.Write.contents (device_of c.run_script_with_reports-outcome.new.writer)) (g.W.Write.contents (device_of c.flush-flushed.new.self))
     (g.R.Read.remaining (device_of c.args.reader.now)) c.flush-flushed.ensures.bytes c.in_ok-outcome.ensures.ok
 
 pub returns-in-Err-clause-cause : goal.returns-in-Err-clause-cause
-returns-in-Err-clause-cause g c = failed_call (has_failed c.run_script-outcome.new.writer) (has_failed c.flush-flushed.new.self) c.in-Err.ensures.failed
+returns-in-Err-clause-cause g c = failed_call (has_failed c.run_script_with_reports-outcome.new.writer) (has_failed c.flush-flushed.new.self) c.in-Err.ensures.failed
 
 pub returns-in_err-outcome-clause-cause : goal.returns-in_err-outcome-clause-cause
 returns-in_err-outcome-clause-cause g c =
     let unread = has_failed c.args.reader.now in
-    let read = has_failed c.run_script-outcome.new.reader in
-    let written = has_failed c.run_script-outcome.new.writer in
+    let read = has_failed c.run_script_with_reports-outcome.new.reader in
+    let written = has_failed c.run_script_with_reports-outcome.new.writer in
     let last = has_failed c.flush-flushed.new.self in
     let fault = c.in_err-outcome.field-0.0 in
     let by = c.in_err-outcome.ensures in

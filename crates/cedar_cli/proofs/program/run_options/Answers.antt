@@ -26,6 +26,14 @@ returns-in-Ok-clause-ok g c = on_ok c.save.result (view_of g.L.Layout.kind c.in_
 pub returns-in-Ok-clause-unfailed : goal.returns-in-Ok-clause-unfailed
 returns-in-Ok-clause-unfailed g c = on_ok c.save.result c.in-Ok.ensures.unfailed
 
+pub returns-in-Ok-clause-told : goal.returns-in-Ok-clause-told
+returns-in-Ok-clause-told g c = on_ok c.save.result c.in-Ok.ensures.told
+
+pub returns-in_err-trie-clause-told : goal.returns-in_err-trie-clause-told
+returns-in_err-trie-clause-told g c =
+    let p = err_from_is_err_and c.from_residual.result c.from_residual.ensures.1 in
+    no_success _ c.from_residual.result p.0 p.1
+
 pub returns-in_err-trie-clause-ok : goal.returns-in_err-trie-clause-ok
 returns-in_err-trie-clause-ok g c =
     let p = err_from_is_err_and c.from_residual.result c.from_residual.ensures.1 in

@@ -8,11 +8,11 @@ use Rattle.cedar_cli.proofs.program.run_program_with.Goals as goal
 
 pub returns-in-Err-clause-fault : goal.returns-in-Err-clause-fault
 returns-in-Err-clause-fault g c =
-    tells_cause g.E.Write.contents c.args.errors.now c.tell.new.errors (request_in c.in-Some.options) (has_failed c.args.reader.now) (has_failed c.run_layout.new.reader)
+    tells_cause c.args.name.now g.E.Write.contents c.args.errors.now c.tell.new.errors (request_in c.in-Some.options) (has_failed c.args.reader.now) (has_failed c.run_layout.new.reader)
     (has_failed c.run_layout.new.writer) c.in-Err.fault c.tell.result c.in-Err.ensures.ends c.tell.ensures.told
 
 pub returns-in-Err-clause-refused : goal.returns-in-Err-clause-refused
 returns-in-Err-clause-refused g c = λ is.
     subst (λ (r : Option Request). IfSome r AsksForFile) c.in-Some.ensures
-    (asks_for_file g.E.Write.contents c.args.errors.now c.tell.new.errors (request_in c.in-Some.options) (has_failed c.args.reader.now)
+    (asks_for_file c.args.name.now g.E.Write.contents c.args.errors.now c.tell.new.errors (request_in c.in-Some.options) (has_failed c.args.reader.now)
     (has_failed c.run_layout.new.reader) (has_failed c.run_layout.new.writer) c.in-Err.fault c.tell.result c.in-Err.ensures.ends c.tell.ensures.told is)

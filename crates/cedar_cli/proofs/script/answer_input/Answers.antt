@@ -1,11 +1,12 @@
 use Rattle.std.proofs.lemmas.Result.{err_from_is_err_and}
 use Rattle.cedar_cli.specs.declared.script.ScriptError.TheVariants.{Read, Write, Memory, SlotLimit}
-use Rattle.std.proofs.Common.{rules, Err, refl, ◌||◌, arith, sym, subst, ◌∙◌, ◌≡◌, ◌<◌, ℕ, List, [], ◌++◌, length, length-append, ◌≤◌, take, inl, inr}
+use Rattle.std.proofs.Common.{rules, Err, refl, ◌||◌, arith, sym, subst, ◌∙◌, ◌≡◌, ◌<◌, ℕ, List, [], ◌∷◌, ◌++◌, length, length-append, ◌≤◌, take, inl, inr}
 use Rattle.std.specs.Prelude.{◌⊎◌}
 use Rattle.std.specs.Io.KnownBytes.{Consumes, IsAtEnd}
 use Rattle.cedarwood.specs.WatchedDevice.{device_of, has_failed}
 use Rattle.cedar_cli.specs.Blocks.{GrowsWithin}
-use Rattle.cedar_cli.specs.Command.{order_of}
+use Rattle.cedar_cli.specs.Command.{bad_line_of, order_of}
+use Rattle.cedar_cli.specs.Reports.{Continues, reasons_of}
 use Rattle.cedar_cli.specs.Lines.{lines_of, HasNoNewline}
 use Rattle.cedar_cli.specs.Script.{LineMayLackMemory, Obeys, Disobeys, Finishes, Advances, Stops, EndsEarly}
 use Rattle.cedarwood.proofs.GrowthLemmas.{grows_none}
@@ -14,12 +15,13 @@ use Rattle.cedar_cli.proofs.BlockCounts.{no_blocks, chunk_taken, chunk_left, las
 use Rattle.cedar_cli.proofs.Bytes.{may_stop, read_stop, unfailed_call, failed_call, bytes_on, Advances-append, Advances-kept, Stops-append, that_fault}
 use Rattle.cedar_cli.proofs.Runs.{ended_first, Consumes-append, Consumes-none, Consumes-kept, end_found, whole_came, of_script, ended_early, Stops-from_advances, all_finished, last_finished, last_left, of_known, long_line, short_line}
 use Rattle.cedar_cli.proofs.Faults.{failed_flush, fresh_no_fault, memory_no_limit, memory_no_read, memory_no_write, read_no_write, read_no_memory, read_no_limit, ok_no_fault, no_success, still_failed, unflushed}
+use Rattle.cedar_cli.proofs.Told.{all_told, last_told, tells_none, tells_on}
 use Rattle.cedar_cli.proofs.script.answer_input.Goals as goal
 use Rattle.cedar_cli.proofs.script.answer_input.Goals.{else-loop-turn-test, then-loop-turn-test+in-Ok-read+then-count-eq0}
 use Rattle.cedar_cli.proofs.script.answer_input.Goals.{then-not-is_empty+in_ok-answer_with_room, else-not-is_empty}
 
 pub take_bytes-requires : goal.take_bytes-requires
-take_bytes-requires g c = (search rules, (c.loop-turn.invariant.3, c.loop-turn.invariant.9))
+take_bytes-requires g c = (search (rules, c.requires-raw), (c.loop-turn.invariant.3, c.loop-turn.invariant.9))
 
 pub loop-turn-init : goal.loop-turn-init
 loop-turn-init g c =
@@ -34,6 +36,7 @@ loop-turn-init g c =
       refl,
       (0, omega arith, grows_none c.args.trie.now),
       c.in-Ok.ensures.room,
+      tells_none (g.B.LineReports.told c.args.reports.now) [],
     )
 
 pub loop-turn-preserved : goal.loop-turn-preserved
@@ -59,6 +62,7 @@ loop-turn-preserved g c =
       c.take_bytes.ensures.max_trial ∙ before.7,
       chunk_taken before.0 more c.loop-turn.line.items c.take_bytes.new.line.items c.args.trie.now c.loop-turn.trie c.take_bytes.new.trie before.8 c.in_ok-take_bytes.ensures.blocks_taken,
       c.take_bytes.ensures.kept,
+      tells_on (g.B.LineReports.told c.args.reports.now) (g.B.LineReports.told c.loop-turn.reports) (g.B.LineReports.told c.take_bytes.new.reports) before.0 c.loop-turn.line.items more c.take_bytes.new.line.items before.10 c.in_ok-take_bytes.ensures.told,
     )
 
 pub returns-in_default-read-clause-err : goal.returns-in_default-read-clause-err
@@ -188,6 +192,36 @@ returns-clause-ok g c =
     ] in
     of_script start (whole_came start rest before.0 before.1 over)
     (λ input same few. subst (λ (script : List ℕ). Finishes old new first holds (lines_of script)) (sym (same few)) all)
+
+pub returns-clause-told : goal.returns-clause-told
+returns-clause-told g c =
+    let before = c.loop-turn.invariant in
+    let first = g.B.LineReports.told c.args.reports.now in
+    let mid = g.B.LineReports.told c.loop-turn.reports in
+    let line = c.loop-turn.line.items in
+    let len : length line ≡ c.loop-turn.line.len = omega (arith, c.loop-turn.line.ok.0) in
+    let start = g.R.Read.remaining (device_of c.args.reader.now) in
+    let rest = g.R.Read.remaining (device_of c.loop-turn.reader) in
+    let last = g.B.LineReports.told c.if-not-is_empty.reports in
+    let over : IsAtEnd rest ⊎ (9223372036854775808 ≤ length before.0) =
+    elim c.loop-turn-test.branch [
+      | else-loop-turn-test w ↦ inr (let many : 9223372036854775808 ≤ c.loop-turn.turn = w.loop-turn-test.false in let so_far : c.loop-turn.turn ≤ length before.0 = before.2 in omega arith)
+      | then-loop-turn-test+in-Ok-read+then-count-eq0 w ↦
+          let room : 0 < length w.read.new.buf = search rules in
+          let none : w.in-Ok-read.count ≡ 0 = w.if-count-eq0.true in
+          inl (end_found rest (g.R.Read.remaining (device_of w.read.new.self)) (subst (λ (n : ℕ). Consumes rest (g.R.Read.remaining (device_of w.read.new.self)) (take n w.read.new.buf)) none w.in-Ok-read.ensures.bytes.0) (w.in-Ok-read.ensures.bytes.1 none room))
+    ] in
+    let all : Continues first last (reasons_of (lines_of before.0)) =
+    elim c.if-not-is_empty.branch [
+      | then-not-is_empty+in_ok-answer_with_room w ↦ let long : 0 < length line = long_line line c.loop-turn.line.len len (sym c.is_empty.ensures ∙ w.if-not-is_empty.true) in
+          let told : Continues mid (g.B.LineReports.told w.answer_with_room.new.reports) (bad_line_of line ∷ []) =
+          subst (λ (l : List ℕ). Continues mid (g.B.LineReports.told w.answer_with_room.new.reports) (bad_line_of l ∷ [])) w.as_slice.ensures.value w.in_ok-answer_with_room.ensures.told in
+          rw w.reports-is (last_told first mid (g.B.LineReports.told w.answer_with_room.new.reports) before.0 line before.3 long before.10 told)
+      | else-not-is_empty w ↦ let short : line ≡ [] = short_line line c.loop-turn.line.len len (sym c.is_empty.ensures ∙ w.if-not-is_empty.false) in
+          rw w.reports-is (all_told first mid before.0 line before.10 short)
+    ] in
+    of_script start (whole_came start rest before.0 before.1 over)
+    (λ input same few. subst (λ (script : List ℕ). Continues first last (reasons_of (lines_of script))) (sym (same few)) all)
 
 pub returns-clause-unfailed : goal.returns-clause-unfailed
 returns-clause-unfailed g c =
@@ -325,6 +359,11 @@ returns-in_default-read-clause-full g c = λ same. read_no_limit same
 pub returns-in_default-read-clause-max_trial : goal.returns-in_default-read-clause-max_trial
 returns-in_default-read-clause-max_trial g c = let before = c.loop-turn.invariant in before.7
 
+pub returns-in_err-take_bytes-clause-told : goal.returns-in_err-take_bytes-clause-told
+returns-in_err-take_bytes-clause-told g c =
+    let p = err_from_is_err_and c.from_residual.result c.from_residual.ensures.1 in
+    no_success _ c.from_residual.result p.0 p.1
+
 pub returns-in_err-take_bytes-clause-ok : goal.returns-in_err-take_bytes-clause-ok
 returns-in_err-take_bytes-clause-ok g c =
     let p = err_from_is_err_and c.from_residual.result c.from_residual.ensures.1 in
@@ -357,6 +396,11 @@ returns-in_err-take_bytes-clause-limit g c = λ is.
 
 pub returns-in_err-take_bytes-clause-max_trial : goal.returns-in_err-take_bytes-clause-max_trial
 returns-in_err-take_bytes-clause-max_trial g c = let before = c.loop-turn.invariant in c.take_bytes.ensures.max_trial ∙ before.7
+
+pub returns-in_err-answer_with_room-clause-told : goal.returns-in_err-answer_with_room-clause-told
+returns-in_err-answer_with_room-clause-told g c =
+    let p = err_from_is_err_and c.from_residual-in_err-answer_with_room.result c.from_residual-in_err-answer_with_room.ensures.1 in
+    no_success _ c.from_residual-in_err-answer_with_room.result p.0 p.1
 
 pub returns-in_err-answer_with_room-clause-ok : goal.returns-in_err-answer_with_room-clause-ok
 returns-in_err-answer_with_room-clause-ok g c =
@@ -426,6 +470,7 @@ returns-in_default g c =
       starved = λ _. (refl, unflushed (has_failed c.args.writer.now) c.args.flushes.now.failed c.requires.fresh);
       full = λ _. (refl, unflushed (has_failed c.args.writer.now) c.args.flushes.now.failed c.requires.fresh);
       max_trial = refl;
+      told = tt;
     }
 
 pub returns-in_default-read-clause-flush_cause : goal.returns-in_default-read-clause-flush_cause

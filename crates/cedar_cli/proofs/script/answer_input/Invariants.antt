@@ -4,6 +4,7 @@ use Rattle.std.specs.Prelude.{vec_capacity}
 use Rattle.cedarwood.specs.WatchedDevice.{has_failed}
 use Rattle.cedar_cli.specs.Blocks.{GrowsBefore}
 use Rattle.cedar_cli.specs.Lines.{HasNoNewline, HasLineRoom}
+use Rattle.cedar_cli.specs.Reports.{TellsText}
 use Rattle.cedar_cli.specs.Script.{Advances}
 use Rattle.cedar_cli.specs.View.{view_of}
 use Rattle.cedar_cli.proofs.script.answer_input.Given as goal
@@ -19,3 +20,4 @@ invariant-loop-turn g l =
     × (l.trie.max_trial ≡ l.fn.trie.max_trial)
     × GrowsBefore (length l.line.items) (length came) l.fn.trie l.trie
     × HasLineRoom (vec_capacity l.line) (length l.key.items)
+    × TellsText (g.B.LineReports.told l.fn.reports) (g.B.LineReports.told l.reports) came l.line.items

@@ -6,6 +6,7 @@ use Rattle.cedar_cli.specs.declared.script.ScriptError.TheVariants.{Memory}
 use Rattle.cedar_cli.proofs.BlockCounts.{no_blocks}
 use Rattle.cedar_cli.proofs.Faults.{memory_fault}
 use Rattle.cedar_cli.proofs.Orders.{Disobeys-unanswered}
+use Rattle.cedarwood.proofs.GeneralLemmas.{on_ok}
 use Rattle.cedar_cli.proofs.script.answer_with_room.Goals as goal
 
 pub returns-in_default-clause-answer : goal.returns-in_default-clause-answer
@@ -23,3 +24,6 @@ returns-in_default-clause-blocks g c = no_blocks (length c.args.line.now) c.args
 
 pub returns-clause-memory : goal.returns-clause-memory
 returns-clause-memory g c = λ failed. inr (c.answer_line.ensures.memory failed)
+
+pub returns-clause-told : goal.returns-clause-told
+returns-clause-told g c = on_ok c.answer_line.result c.answer_line.ensures.told

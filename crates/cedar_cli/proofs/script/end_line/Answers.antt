@@ -1,7 +1,8 @@
 use Rattle.std.proofs.lemmas.Result.{err_from_is_err_and}
 use Rattle.std.proofs.Common.{Err, refl, ap, length-append, ◌+◌, ◌≡◌, ◌<◌, arith, length, sym, subst, ◌∙◌, ◌++◌, ◌∷◌, [], List, ℕ, append_assoc}
 use Rattle.cedarwood.specs.WatchedDevice.{device_of, has_failed}
-use Rattle.cedar_cli.specs.Command.{order_of}
+use Rattle.cedar_cli.specs.Command.{bad_line_of, order_of}
+use Rattle.cedar_cli.specs.Reports.{Continues}
 use Rattle.cedar_cli.specs.Script.{LineMayLackMemory, Obeys, Disobeys, Advances, Stops}
 use Rattle.cedar_cli.specs.View.{view_of}
 use Rattle.cedar_cli.specs.declared.script.ScriptError.TheVariants.{Memory}
@@ -36,6 +37,7 @@ returns-then-is_empty g c =
       limit = answered.limit;
       blocks = within_more (length piece) (length line + length piece) before after (omega arith) answered.blocks;
       max_trial = answered.max_trial;
+      told = rw none answered.told;
     }
 
 pub returns-in_default : goal.returns-in_default
@@ -56,6 +58,7 @@ returns-in_default g c =
       limit = λ same. memory_no_limit same;
       blocks = no_blocks (length line + length piece) d;
       max_trial = refl;
+      told = tt;
     }
 
 pub returns-in_err-answer_with_room : goal.returns-in_err-answer_with_room
@@ -89,6 +92,7 @@ returns-in_err-answer_with_room g c =
       limit = λ full. c.answer_with_room-2.ensures.limit (same ∙ full);
       blocks = within_more (length c.as_slice.result.now) (length line + length piece) before after (let equal = ap length whole in omega (arith, equal, length-append line piece)) c.answer_with_room-2.ensures.blocks;
       max_trial = c.answer_with_room-2.ensures.max_trial;
+      told = no_success _ c.from_residual.result p.0 p.1;
     }
 
 pub returns-clause-ok : goal.returns-clause-ok
@@ -116,3 +120,8 @@ returns-clause-blocks g c =
     let piece = c.args.piece.now in
     let whole : c.as_slice.result.now ≡ line ++ piece = c.as_slice.ensures.value ∙ c.in-Ok.ensures.items in
     within_more (length c.as_slice.result.now) (length line + length piece) c.args.trie.now c.answer_with_room-2.new.trie (let same = ap length whole in omega (arith, same, length-append line piece)) c.answer_with_room-2.ensures.blocks
+
+pub returns-clause-told : goal.returns-clause-told
+returns-clause-told g c =
+    let whole : c.as_slice.result.now ≡ c.args.line.now.items ++ c.args.piece.now = c.as_slice.ensures.value ∙ c.in-Ok.ensures.items in
+    subst (λ (l : List ℕ). Continues (g.B.LineReports.told c.args.reports.now) (g.B.LineReports.told c.answer_with_room-2.new.reports) (bad_line_of l ∷ [])) whole c.in_ok-answer_with_room.ensures.told

@@ -8,6 +8,7 @@ use Rattle.text_lines.proofs.Bytes.{on_err}
 use Rattle.cedar_cli.proofs.Bytes.{that_fault}
 use Rattle.cedar_cli.proofs.Newlines.{open_append, open_none, open_at, gone_further, line_taken, line_stopped, none_taken, rest_left, rest_taken}
 use Rattle.cedar_cli.proofs.Faults.{fault_after, fault_on, memory_fault, memory_no_limit, no_success}
+use Rattle.cedar_cli.proofs.Told.{line_told, rest_told, told_none}
 use Rattle.cedar_cli.proofs.script.take_bytes.Goals as goal
 
 pub end_line-requires : goal.end_line-requires
@@ -23,6 +24,7 @@ loop-at-init g c = (
   refl,
   none_before c.args.line.now.items c.args.trie.now,
   c.requires.room,
+  told_none (g.B.LineReports.told c.args.reports.now) c.args.line.now.items,
 )
 
 pub returns-in-Ok-clause-ok : goal.returns-in-Ok-clause-ok
@@ -46,6 +48,8 @@ loop-at-preserved g c =
       c.end_line.ensures.max_trial ∙ before.5,
       further_line before.0 (take at rest) c.args.line.now.items c.loop-at.line.items c.end_line.new.line.items c.args.trie.now c.loop-at.trie c.end_line.new.trie before.6 c.end_line.ensures.blocks c.in_ok-end_line.ensures.empty,
       c.end_line.ensures.kept,
+      line_told (g.B.LineReports.told c.args.reports.now) (g.B.LineReports.told c.loop-at.reports) (g.B.LineReports.told c.end_line.new.reports) c.args.line.now.items before.0 c.loop-at.line.items (take at rest) c.end_line.new.line.items
+          (open_append c.loop-at.line.items (take at rest) before.2 (open_at rest at (sym c.in-Some.ensures.first))) before.8 c.in_ok-end_line.ensures.told c.in_ok-end_line.ensures.empty,
     )
 
 pub returns-in_err-end_line-clause-err : goal.returns-in_err-end_line-clause-err
@@ -88,6 +92,12 @@ returns-in_err-end_line-clause-blocks_left g c =
     (stopped_line before.0 (take at rest) (take (length rest - (at + 1)) (drop (at + 1) rest)) c.args.line.now.items c.loop-at.line.items c.args.bytes.now c.args.trie.now c.loop-at.trie c.end_line.new.trie before.6 c.end_line.ensures.blocks
     (gone_further c.args.bytes.now before.0 rest at before.1 (sym c.in-Some.ensures.first)))
 
+pub returns-in-Ok-clause-told : goal.returns-in-Ok-clause-told
+returns-in-Ok-clause-told g c =
+    let before = c.loop-at.invariant in
+    rw c.in-Ok.ensures.items
+    (rest_told (g.B.LineReports.told c.args.reports.now) (g.B.LineReports.told c.loop-at.reports) c.args.line.now.items before.0 c.loop-at.line.items c.loop-at.rest.now c.args.bytes.now before.8 before.1)
+
 pub returns-in-Ok-clause-blocks_taken : goal.returns-in-Ok-clause-blocks_taken
 returns-in-Ok-clause-blocks_taken g c =
     let before = c.loop-at.invariant in
@@ -105,6 +115,11 @@ returns-in_err-end_line-clause-still_open g c =
 
 pub returns-in_err-end_line-clause-ok : goal.returns-in_err-end_line-clause-ok
 returns-in_err-end_line-clause-ok g c =
+    let p = err_from_is_err_and c.from_residual.result c.from_residual.ensures.1 in
+    no_success _ c.from_residual.result p.0 p.1
+
+pub returns-in_err-end_line-clause-told : goal.returns-in_err-end_line-clause-told
+returns-in_err-end_line-clause-told g c =
     let p = err_from_is_err_and c.from_residual.result c.from_residual.ensures.1 in
     no_success _ c.from_residual.result p.0 p.1
 

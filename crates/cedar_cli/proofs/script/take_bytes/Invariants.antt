@@ -3,6 +3,7 @@ use Rattle.std.specs.Prelude.{vec_capacity}
 use Rattle.cedarwood.specs.WatchedDevice.{device_of, has_failed}
 use Rattle.cedar_cli.specs.Blocks.{GrowsBefore}
 use Rattle.cedar_cli.specs.Lines.{HasNoNewline, HasLineRoom}
+use Rattle.cedar_cli.specs.Reports.{TellsText}
 use Rattle.cedar_cli.specs.Script.{Advances}
 use Rattle.cedar_cli.specs.View.{view_of}
 use Rattle.cedar_cli.proofs.script.take_bytes.Given as goal
@@ -17,6 +18,7 @@ invariant-loop-at g l =
     × (l.trie.max_trial ≡ l.fn.trie.max_trial)
     × GrowsBefore (length l.line.items) (length l.fn.line.items + length gone) l.fn.trie l.trie
     × HasLineRoom (vec_capacity l.line) (length l.key.items)
+    × TellsText (g.B.LineReports.told l.fn.reports) (g.B.LineReports.told l.reports) (l.fn.line.items ++ gone) l.line.items
 
 abbrev pub decreases-loop-at : goal.decreases-loop-at
 decreases-loop-at g l = length l.rest

@@ -1,6 +1,7 @@
-use Rattle.std.proofs.Common.{◌≡◌, ◌+◌, ◌∙◌, length, refl, take, arith, rules}
+use Rattle.std.proofs.Common.{◌≡◌, ◌+◌, ◌∙◌, ap, length, refl, take, arith, rules}
+use Rattle.cedar_disk.specs.Calls.{faults_in, full_in}
 use Rattle.cedar_disk.specs.NotedFiles.{noted_calls}
-use Rattle.cedar_disk.proofs.Writing.{are_written_none, front_length, wrote_all, wrote_more, wrote_no_more, wrote_perhaps}
+use Rattle.cedar_disk.proofs.Writing.{are_written_none, front_length, has_failed, lacked_room, wrote_all, wrote_more, wrote_no_more, wrote_perhaps, wrote_well}
 use Rattle.cedar_disk.proofs.writes.write_all.Goals as goal
 
 pub loop-done-init : goal.loop-done-init
@@ -47,3 +48,17 @@ returns-clause-written g c =
 
 pub returns-clause-spoils : goal.returns-clause-spoils
 returns-clause-spoils g c = c.loop-done.invariant.written.spoils
+
+pub returns-in-Failed-clause-cause : goal.returns-in-Failed-clause-cause
+returns-in-Failed-clause-cause g c =
+    let inv = c.loop-done.invariant in
+    has_failed c.args.at (length c.args.bytes.now) (take c.loop-done.done c.args.bytes.now) (noted_calls c.args.file.now) (noted_calls c.loop-done.file) (noted_calls c.write.new.self)
+    inv.written (ap faults_in c.in-Failed.ensures.noted) (ap full_in c.in-Failed.ensures.noted)
+
+pub returns-in-Full-clause-cause : goal.returns-in-Full-clause-cause
+returns-in-Full-clause-cause g c =
+    lacked_room c.args.at (length c.args.bytes.now) (take c.loop-done.done c.args.bytes.now) (noted_calls c.args.file.now) (noted_calls c.loop-done.file) (noted_calls c.write.new.self)
+    c.loop-done.invariant.written c.in-Full.ensures.noted
+
+pub returns-clause-cause : goal.returns-clause-cause
+returns-clause-cause g c = wrote_well c.args.at (length c.args.bytes.now) (take c.loop-done.done c.args.bytes.now) (noted_calls c.args.file.now) (noted_calls c.loop-done.file) c.loop-done.invariant.written

@@ -1,4 +1,4 @@
-use Rattle.std.proofs.Common.{◌≡◌, ◌∙◌, ◌<◌, ℕ, ap, length, refl, rules, subst, sym, vec_len}
+use Rattle.std.proofs.Common.{◌≡◌, ◌∙◌, length, rules, subst, sym}
 use Rattle.std.proofs.lemmas.List.Sorted.{IsNonDecreasingBy-from_sort_by_key}
 use Rattle.cedar_scan.specs.Automata.{AreByDepth, AreLaid, AreLinkedFirst, AreNodes, AreSlotsWithin}
 use Rattle.cedar_scan.specs.declared.state.PlacedNode.{PlacedNode}

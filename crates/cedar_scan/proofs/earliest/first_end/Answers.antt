@@ -1,4 +1,4 @@
-use Rattle.std.proofs.Common.{◌≡◌, ◌+◌, ◌-◌, ◌*◌, ◌<◌, ◌≤◌, [], arith, length}
+use Rattle.std.proofs.Common.{[], arith}
 use Rattle.cedar_scan.proofs.EarliestLemmas.{none_at_first, none_ends, none_more, one_ends}
 use Rattle.cedar_scan.proofs.earliest.first_end.Goals as goal
 

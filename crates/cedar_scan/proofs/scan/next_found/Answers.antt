@@ -1,4 +1,4 @@
-use Rattle.std.proofs.Common.{◌∙◌, ◌+◌, ◌-◌, ◌*◌, ◌<◌, ◌≤◌, arith, length}
+use Rattle.std.proofs.Common.{◌∙◌, arith}
 use Rattle.cedar_scan.proofs.ScanLemmas.{given_first, scanned}
 use Rattle.cedar_scan.proofs.scan.next_found.Goals as goal
 

@@ -1,5 +1,5 @@
-use Rattle.std.proofs.Common.{◌≡◌, ◌∙◌, ◌+◌, ◌<◌, ◌≤◌, arith, length, refl, sym}
-use Rattle.cedar_scan.proofs.StepLemmas.{found_cost, found_slot, goes_down, goes_on, root_cost, root_slot}
+use Rattle.std.proofs.Common.{arith, refl, sym}
+use Rattle.cedar_scan.proofs.StepLemmas.{found_cost, goes_down, goes_on, root_cost, root_slot}
 use Rattle.cedar_scan.proofs.step.step.Goals as goal
 
 pub returns-in-Some-clause-cost : goal.returns-in-Some-clause-cost

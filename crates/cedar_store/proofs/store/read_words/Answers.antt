@@ -1,5 +1,6 @@
 use Rattle.std.specs.Prelude.{Some}
-use Rattle.std.proofs.Common.{◌≡◌, ◌∙◌, sym, subst, rules}
+use Rattle.std.proofs.Common.{◌≡◌, ◌<◌, ◌∙◌, sym, subst, rules}
+use Rattle.cedar_journal.specs.Device.{FoundNoRoom}
 use Rattle.cedar_journal.specs.Files.{HasExtent}
 use Rattle.cedar_store.specs.Files.{state_of}
 use Rattle.cedar_store.proofs.Opened.{load_cause, read_cause}
@@ -20,11 +21,14 @@ returns-clause-extent g c =
 pub returns-in_err-words-clause-cause : goal.returns-in_err-words-clause-cause
 returns-in_err-words-clause-cause g c =
     let same : c.deref.result.now ≡ g.D.Device.seen c.args.device.now = search rules in
+    let d = g.D.Device in
+    let device = c.args.device.now in
     handed_on c.from_residual-in_err-words.result c.in_err-words.field-0.0 _ c.from_residual-in_err-words.ensures.1
-    (load_cause c.deref.result.now (g.D.Device.seen c.args.device.now) (g.D.Device.faults c.args.device.now) (g.D.Device.faults c.read_file.new.device) c.in_err-words.field-0.0 same c.in_err-words.ensures.cause)
+    (load_cause c.deref.result.now (d.seen device) (d.faults device < d.faults c.read_file.new.device) (FoundNoRoom d.faults d.full device c.read_file.new.device) c.in_err-words.field-0.0 same c.in_err-words.ensures.cause)
 
 pub returns-in_err-bytes-clause-cause : goal.returns-in_err-bytes-clause-cause
 returns-in_err-bytes-clause-cause g c =
+    let d = g.D.Device in
     let device = c.args.device.now in
     handed_on c.from_residual.result c.in_err-bytes.field-0.0 _ c.from_residual.ensures.1
-    (read_cause (g.D.Device.seen device) (g.D.Device.faults device) (g.D.Device.faults c.read_file.new.device) c.in_err-bytes.field-0.0 c.in_err-bytes.ensures.cause)
+    (read_cause (d.seen device) (d.faults device) (d.faults c.read_file.new.device) (FoundNoRoom d.faults d.full device c.read_file.new.device) c.in_err-bytes.field-0.0 c.in_err-bytes.ensures.cause)

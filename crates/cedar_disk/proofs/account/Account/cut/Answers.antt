@@ -1,10 +1,9 @@
-use Rattle.std.proofs.Common.{[], List, true, false, refl, subst, sym, ◌∙◌, ap}
-use Rattle.std.specs.Prelude.{Ok, Err, IsTrue}
+use Rattle.std.proofs.Common.{List, true, false, refl, subst, sym, ◌∙◌, ap}
+use Rattle.std.specs.Prelude.{IsTrue}
 use Rattle.std.proofs.lemmas.Bool.{false≢true, le-leb, and_from}
-use Rattle.cedar_journal.specs.declared.device.DeviceError.TheVariants.{Failed}
 use Rattle.cedar_disk.specs.NotedFiles.{noted_calls}
 use Rattle.cedar_disk.specs.Calls.{Call, all_within, is_named_after, is_usable_after, seen_after, truncate_call}
-use Rattle.cedar_disk.proofs.Causes.{call_failed}
+use Rattle.cedar_disk.proofs.Causes.{call_done, call_failed}
 use Rattle.cedar_disk.proofs.Steps.{cut_follows, elapses_to}
 use Rattle.cedar_disk.proofs.account.Account.cut.Goals as goal
 
@@ -14,6 +13,7 @@ invariant_of-self g c =
     record {
       usable = λ _. subst (λ (l : List Call). IsTrue (is_usable_after l)) (sym noted) (and_from _ _ c.requires.usable refl);
       known = λ is. subst (λ (l : List Call). IsTrue (is_named_after l)) (sym noted) (c.args.self.now.known is);
+      lost = λ is. ap is_named_after noted ∙ c.args.self.now.lost is;
       clean = λ is. absurd (false≢true (sym is));
       within = subst (λ (l : List Call). IsTrue (all_within l)) (sym noted) (and_from _ _ (le-leb _ _ c.requires.within) c.args.self.now.within);
       placed = c.in-Ok.ensures.name ∙ c.args.self.now.placed;
@@ -23,6 +23,7 @@ pub invariant_of-self-in-Err : goal.invariant_of-self-in-Err
 invariant_of-self-in-Err g c = record {
   usable = λ is. absurd (false≢true (sym is));
   known = λ is. subst (λ (l : List Call). IsTrue (is_named_after l)) (sym c.in-Err.ensures.noted) (c.args.self.now.known is);
+  lost = λ is. ap is_named_after c.in-Err.ensures.noted ∙ c.args.self.now.lost is;
   clean = λ is. absurd (false≢true (sym is));
   within = subst (λ (l : List Call). IsTrue (all_within l)) (sym c.in-Err.ensures.noted) (and_from _ _ (le-leb _ _ c.requires.within) c.args.self.now.within);
   placed = c.in-Err.ensures.name ∙ c.args.self.now.placed;
@@ -38,7 +39,7 @@ pub returns-in-Ok-clause-time : goal.returns-in-Ok-clause-time
 returns-in-Ok-clause-time g c = elapses_to (truncate_call c.args.len true) (noted_calls c.args.self.now.file) (noted_calls c.cut.new.self) c.in-Ok.ensures.noted
 
 pub returns-in-Ok-clause-cause : goal.returns-in-Ok-clause-cause
-returns-in-Ok-clause-cause g c = call_failed (Ok tt) 2 c.args.len [] (noted_calls c.args.self.now.file) (noted_calls c.cut.new.self) c.in-Ok.ensures.noted
+returns-in-Ok-clause-cause g c = call_done (truncate_call c.args.len true) (noted_calls c.args.self.now.file) (noted_calls c.cut.new.self) c.in-Ok.ensures.noted refl refl
 
 pub returns-in-Err-clause-crash : goal.returns-in-Err-clause-crash
 returns-in-Err-clause-crash g c = cut_follows (noted_calls c.args.self.now.file) (noted_calls c.cut.new.self) c.args.len false c.in-Err.ensures.noted
@@ -47,4 +48,4 @@ pub returns-in-Err-clause-time : goal.returns-in-Err-clause-time
 returns-in-Err-clause-time g c = elapses_to (truncate_call c.args.len false) (noted_calls c.args.self.now.file) (noted_calls c.cut.new.self) c.in-Err.ensures.noted
 
 pub returns-in-Err-clause-cause : goal.returns-in-Err-clause-cause
-returns-in-Err-clause-cause g c = call_failed (Err Failed) 2 c.args.len [] (noted_calls c.args.self.now.file) (noted_calls c.cut.new.self) c.in-Err.ensures.noted
+returns-in-Err-clause-cause g c = call_failed (truncate_call c.args.len false) (noted_calls c.args.self.now.file) (noted_calls c.cut.new.self) c.in-Err.ensures.noted refl refl

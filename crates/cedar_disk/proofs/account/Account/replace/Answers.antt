@@ -1,11 +1,11 @@
-use Rattle.std.proofs.Common.{◌≡◌, ◌∷◌, ℕ, List, true, subst, sym, ap, arith, rules}
+use Rattle.std.proofs.Common.{◌≡◌, ◌∷◌, ◌∙◌, ℕ, List, true, subst, sym, ap, arith, rules}
 use Rattle.std.specs.Prelude.{IsTrue}
 use Rattle.std.proofs.lemmas.Bool.{false≢true}
 use Rattle.cedar_disk.specs.NotedFiles.{noted_calls}
 use Rattle.cedar_disk.specs.Calls.{Call, MayLeave, all_within, is_named_after, is_usable_after, folder_sync_call, rename_call, seen_after}
 use Rattle.cedar_disk.specs.Runs.{IsUnplaced}
 use Rattle.cedar_journal.specs.Device.{Only}
-use Rattle.cedar_disk.proofs.Steps.{named_again, named_file, named_leaves, names, names_elapse, placed_faults, unplaced_elapse, unplaced_faults, unplaced_leaves, unplaced_names, unplaced_within, usable_again}
+use Rattle.cedar_disk.proofs.Steps.{named_again, named_file, named_leaves, names, names_elapse, placed_faults, unplaced_elapse, unplaced_faults, unplaced_leaves, unplaced_lost, unplaced_names, unplaced_within, usable_again}
 use Rattle.cedar_disk.proofs.account.Account.replace.Goals as goal
 
 pub invariant_of-self : goal.invariant_of-self
@@ -15,6 +15,7 @@ invariant_of-self g c =
     record {
       usable = λ _. subst (λ (l : List Call). IsTrue (is_usable_after l)) (sym is) (usable_again (noted_calls c.args.self.now.file) c.args.bytes.now c.requires.known);
       known = λ _. subst (λ (l : List Call). IsTrue (is_named_after l)) (sym is) (named_again (noted_calls c.args.self.now.file) c.args.bytes.now c.requires.known);
+      lost = λ lost. absurd (false≢true (sym (c.args.self.now.lost lost) ∙ c.requires.known));
       clean = λ _. subst (λ (f : List ℕ). Only f (MayLeave (noted_calls c.put_in_place.new.file))) (sym (ap seen_after is)) only;
       within = subst (λ (l : List Call). IsTrue (all_within l)) (sym is) c.args.self.now.within;
       placed = search rules;
@@ -26,6 +27,7 @@ invariant_of-self-in-Err g c =
     record {
       usable = λ no. absurd (false≢true (sym no));
       known = λ no. absurd (false≢true (sym no));
+      lost = λ _. unplaced_lost c.args.bytes.now (noted_calls c.args.self.now.file) (noted_calls c.put_in_place.new.file) is;
       clean = λ no. absurd (false≢true (sym no));
       within = unplaced_within c.args.bytes.now (noted_calls c.args.self.now.file) (noted_calls c.put_in_place.new.file) is c.args.self.now.within;
       placed = search rules;
@@ -85,3 +87,8 @@ pub returns-in-Err-clause-faults : goal.returns-in-Err-clause-faults
 returns-in-Err-clause-faults g c =
     let is : IsUnplaced c.args.bytes.now (noted_calls c.args.self.now.file) (noted_calls c.put_in_place.new.file) = search rules in
     omega (arith, unplaced_faults c.args.bytes.now (noted_calls c.args.self.now.file) (noted_calls c.put_in_place.new.file) is)
+
+pub returns-in-Err-clause-lost : goal.returns-in-Err-clause-lost
+returns-in-Err-clause-lost g c =
+    let is : IsUnplaced c.args.bytes.now (noted_calls c.args.self.now.file) (noted_calls c.put_in_place.new.file) = search rules in
+    unplaced_lost c.args.bytes.now (noted_calls c.args.self.now.file) (noted_calls c.put_in_place.new.file) is

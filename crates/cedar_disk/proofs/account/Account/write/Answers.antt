@@ -1,16 +1,18 @@
-use Rattle.std.proofs.Common.{◌∙◌, rules, sym}
-use Rattle.std.specs.Prelude.{Ok, Err, IsErrOf}
+use Rattle.std.proofs.Common.{◌∙◌, rules, subst, sym}
+use Rattle.std.specs.Prelude.{IsErrOf}
 use Rattle.cedar_journal.specs.declared.device.DeviceError.TheVariants.{NoRoom}
+use Rattle.cedar_journal.specs.Device.{HasCause}
+use Rattle.cedar_disk.specs.Calls.{faults_in, full_in}
 use Rattle.cedar_disk.specs.NotedFiles.{noted_calls}
 use Rattle.std.proofs.lemmas.Bool.{false≢true}
-use Rattle.cedar_disk.proofs.Causes.{caused}
 use Rattle.cedar_disk.proofs.Writing.{torn_in_part}
 use Rattle.cedar_disk.proofs.account.Account.write.Goals as goal
 
 pub invariant_of-self : goal.invariant_of-self
 invariant_of-self g c = record {
   usable = λ _. c.in-Ok.ensures.written.usable c.requires.usable;
-  known = λ is. c.in-Ok.ensures.spoils.known (c.args.self.now.known is);
+  known = λ is. c.in-Ok.ensures.spoils.named ∙ c.args.self.now.known is;
+  lost = λ is. c.in-Ok.ensures.spoils.named ∙ c.args.self.now.lost is;
   clean = λ is. absurd (false≢true (sym is));
   within = c.in-Ok.ensures.spoils.within c.args.self.now.within;
   placed = c.in-Ok.ensures.name ∙ c.args.self.now.placed;
@@ -21,7 +23,8 @@ invariant_of-self-in-Err-NoRoom g c =
     let none : IsErrOf c.write_all.result NoRoom = search rules in
     record {
       usable = λ _. (c.write_all.ensures.no_room none).2.usable c.requires.usable;
-      known = λ is. c.write_all.ensures.spoils.known (c.args.self.now.known is);
+      known = λ is. c.write_all.ensures.spoils.named ∙ c.args.self.now.known is;
+      lost = λ is. c.write_all.ensures.spoils.named ∙ c.args.self.now.lost is;
       clean = λ is. absurd (false≢true (sym is));
       within = c.write_all.ensures.spoils.within c.args.self.now.within;
       placed = c.write_all.ensures.name ∙ c.args.self.now.placed;
@@ -35,7 +38,8 @@ returns-in-Err-NoRoom-clause-no_room g c = λ _.
 pub invariant_of-self-in-Err : goal.invariant_of-self-in-Err
 invariant_of-self-in-Err g c = record {
   usable = λ is. absurd (false≢true (sym is));
-  known = λ is. c.in-Err.ensures.spoils.known (c.args.self.now.known is);
+  known = λ is. c.in-Err.ensures.spoils.named ∙ c.args.self.now.known is;
+  lost = λ is. c.in-Err.ensures.spoils.named ∙ c.args.self.now.lost is;
   clean = λ is. absurd (false≢true (sym is));
   within = c.in-Err.ensures.spoils.within c.args.self.now.within;
   placed = c.in-Err.ensures.name ∙ c.args.self.now.placed;
@@ -51,7 +55,7 @@ pub returns-in-Ok-clause-time : goal.returns-in-Ok-clause-time
 returns-in-Ok-clause-time g c = c.in-Ok.ensures.spoils.time
 
 pub returns-in-Ok-clause-cause : goal.returns-in-Ok-clause-cause
-returns-in-Ok-clause-cause g c = caused (Ok tt) _ _ c.in-Ok.ensures.spoils.faults tt
+returns-in-Ok-clause-cause g c = c.in-Ok.ensures.cause
 
 pub returns-in-Err-clause-crash : goal.returns-in-Err-clause-crash
 returns-in-Err-clause-crash g c = c.in-Err.ensures.spoils.crash
@@ -60,4 +64,11 @@ pub returns-in-Err-clause-time : goal.returns-in-Err-clause-time
 returns-in-Err-clause-time g c = c.in-Err.ensures.spoils.time
 
 pub returns-in-Err-clause-cause : goal.returns-in-Err-clause-cause
-returns-in-Err-clause-cause g c = caused (Err c.in-Err.error) _ _ c.in-Err.ensures.spoils.faults c.in-Err.ensures.faults
+returns-in-Err-clause-cause g c = c.in-Err.ensures.cause
+
+pub returns-in-Err-NoRoom-clause-cause : goal.returns-in-Err-NoRoom-clause-cause
+returns-in-Err-NoRoom-clause-cause g c =
+    let none : IsErrOf c.write_all.result NoRoom = search rules in
+    let old = noted_calls c.args.self.now.file in
+    let new = noted_calls c.write_all.new.file in
+    subst (λ r. HasCause (faults_in old) (faults_in new) (full_in old) (full_in new) r) none c.write_all.ensures.cause

@@ -1,4 +1,4 @@
-use Rattle.std.proofs.Common.{◌≡◌, ◌∙◌, ◌+◌, ◌-◌, ◌*◌, ◌<◌, ◌≤◌, ◌^◌, [], ◌∷◌, List, ℕ, ℤ, FitsSigned, ap, arith, drop, length, refl, rules, sym, take, w32}
+use Rattle.std.proofs.Common.{◌≡◌, ◌∙◌, ◌+◌, ◌-◌, [], ◌∷◌, List, ℕ, ℤ, FitsSigned, ap, arith, drop, length, refl, rules, sym, take, w32}
 use Rattle.std.proofs.lemmas.Int.{to_z-of_z}
 use Rattle.std.proofs.lemmas.List.{length-drop, take_all}
 use Rattle.cedar_scan.specs.Earliest.{earliest_from}

@@ -1,4 +1,4 @@
-use Rattle.std.proofs.Common.{◌≡◌, ◌∙◌, ◌+◌, ◌-◌, ◌∷◌, ◌<◌, ◌≤◌, [], ℕ, ℤ, FitsSigned, ap, arith, length, rules, sym, w32}
+use Rattle.std.proofs.Common.{◌≡◌, ◌∙◌, ◌+◌, ◌-◌, ◌∷◌, [], ℕ, ℤ, FitsSigned, ap, arith, rules, sym, w32}
 use Rattle.std.proofs.lemmas.Int.{to_z-of_z}
 use Rattle.cedar_scan.specs.Scans.{all_left}
 use Rattle.cedar_scan.specs.Walks.{ScanLeft}

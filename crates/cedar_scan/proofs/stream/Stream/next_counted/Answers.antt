@@ -1,4 +1,4 @@
-use Rattle.std.proofs.Common.{◌≡◌, ◌∙◌, ◌+◌, ◌-◌, ◌<◌, ◌≤◌, ◌^◌, ◌++◌, List, ℕ, ℤ, FitsSigned, None, Option, Some, ap, arith, drop, is_some, length, refl, rules, take, w32}
+use Rattle.std.proofs.Common.{◌≡◌, ◌+◌, ◌-◌, ◌<◌, ◌^◌, List, ℕ, ℤ, FitsSigned, None, Option, Some, ap, arith, drop, is_some, length, refl, rules, take, w32}
 use Rattle.std.proofs.lemmas.Int.{to_z-of_z}
 use Rattle.std.proofs.lemmas.List.{length-drop, take_all}
 use Rattle.cedar_scan.specs.Streams.{StreamAt}

@@ -8,6 +8,7 @@ use Rattle.cedar_store.specs.Batches.{all_erased_late}
 use Rattle.cedar_store.specs.Changes.{after_payloads}
 use Rattle.cedar_store.specs.declared.error.DurableError.TheVariants as error
 use Rattle.cedar_store.specs.Files.{state_of, IsEither, StandsFor}
+use Rattle.cedar_store.specs.Promises.{DeviceFails, DeviceIsFull}
 use Rattle.cedar_store.specs.Shortening.{IsLookedAfter}
 use Rattle.cedar_store.specs.Told.{changes_told}
 use Rattle.cedar_store.proofs.Compacted.{change_of_one, on_err, on_err_too, state_more, still_more}
@@ -51,9 +52,10 @@ returns-in-Ok-clause-ready g c =
 pub returns-in-Ok-clause-err : goal.returns-in-Ok-clause-err
 returns-in-Ok-clause-err g c =
     let faults = g.D.Device.faults in
+    let lacked = DeviceIsFull faults g.D.Device.full c.args.self.now c.compact_if_due.new.self in
     on_err c.compact_if_due.result
     (λ e fails.
-    unwritten_by_device (faults c.args.self.now.journal.device) (faults c.append.new.self.journal.device) (faults c.compact_if_due.new.self.journal.device) c.args.self.now.failed c.compact_if_due.new.self.failed e
+    unwritten_by_device (faults c.args.self.now.journal.device) (faults c.append.new.self.journal.device) (faults c.compact_if_due.new.self.journal.device) lacked c.args.self.now.failed c.compact_if_due.new.self.failed e
     c.append.ensures.faults fails.0 fails.1) c.compact_if_due.ensures.err
 
 pub returns-in-Ok-clause-left : goal.returns-in-Ok-clause-left
@@ -62,10 +64,11 @@ returns-in-Ok-clause-left g c =
     let state = g.T.Words.state in
     let told = changes_told c.args.changes.now in
     let made = ap state c.compact_if_due.ensures.words ∙ c.erase_rest.ensures ∙ ap (λ w. all_erased_late (state w) told) c.append.ensures.words in
+    let lacked = DeviceIsFull faults g.D.Device.full c.args.self.now c.compact_if_due.new.self in
     on_err c.compact_if_due.result
     (λ e fails.
-    leaves_unwritten (faults c.args.self.now.journal.device) (faults c.compact_if_due.new.self.journal.device) c.args.self.now.failed c.compact_if_due.new.self.failed e _ _ _
-    (unwritten_by_device (faults c.args.self.now.journal.device) (faults c.append.new.self.journal.device) (faults c.compact_if_due.new.self.journal.device) c.args.self.now.failed c.compact_if_due.new.self.failed e
+    leaves_unwritten (DeviceFails faults c.args.self.now c.compact_if_due.new.self) lacked c.args.self.now.failed c.compact_if_due.new.self.failed e _ _ _
+    (unwritten_by_device (faults c.args.self.now.journal.device) (faults c.append.new.self.journal.device) (faults c.compact_if_due.new.self.journal.device) lacked c.args.self.now.failed c.compact_if_due.new.self.failed e
     c.append.ensures.faults fails.0 fails.1)
     (λ broken. made) (λ is still. absurd (false≢true (sym c.requires.usable ∙ sym still ∙ fails.1)))) c.compact_if_due.ensures.err
 
@@ -97,7 +100,7 @@ pub returns-then-not-self-clause-left : goal.returns-then-not-self-clause-left
 returns-then-not-self-clause-left g c =
     let faults = g.D.Device.faults in
     let usable : c.append.new.self.failed ≡ false = search rules in
-    leaves_unwritten (faults c.args.self.now.journal.device) (faults c.append.new.self.journal.device) c.args.self.now.failed c.append.new.self.failed c.in-Err.error _ _ _ c.in-Err.ensures.err
+    leaves_unwritten (DeviceFails faults c.args.self.now c.append.new.self) (DeviceIsFull faults g.D.Device.full c.args.self.now c.append.new.self) c.args.self.now.failed c.append.new.self.failed c.in-Err.error _ _ _ c.in-Err.ensures.err
     (λ broken. absurd (false≢true (sym usable ∙ broken)))
     (λ is still.
     let none : IsErrOf c.append.result error.NoRoom = c.in-Err.is ∙ ap (λ e. Err e) is in
@@ -120,7 +123,7 @@ pub returns-else-not-self-clause-left : goal.returns-else-not-self-clause-left
 returns-else-not-self-clause-left g c =
     let faults = g.D.Device.faults in
     let broken : c.append.new.self.failed ≡ true = search rules in
-    leaves_unwritten (faults c.args.self.now.journal.device) (faults c.append.new.self.journal.device) c.args.self.now.failed c.append.new.self.failed c.in-Err.error _ _ _ c.in-Err.ensures.err
+    leaves_unwritten (DeviceFails faults c.args.self.now c.append.new.self) (DeviceIsFull faults g.D.Device.full c.args.self.now c.append.new.self) c.args.self.now.failed c.append.new.self.failed c.in-Err.error _ _ _ c.in-Err.ensures.err
     (λ _. c.erase_rest-in-Err.ensures ∙ ap (λ w. all_erased_late (g.T.Words.state w) (changes_told c.args.changes.now)) c.append.ensures.words)
     (λ is still. absurd (false≢true (sym c.requires.usable ∙ sym still ∙ broken)))
 

@@ -40,3 +40,8 @@ returns-in-Err-NoRoom-clause-counted g c = λ was usable.
 
 pub returns-in-Err-Device-clause-counted : goal.returns-in-Err-Device-clause-counted
 returns-in-Err-Device-clause-counted g c = λ was usable. absurd (false≢true (sym usable))
+
+pub returns-in-Err-Device-clause-err : goal.returns-in-Err-Device-clause-err
+returns-in-Err-Device-clause-err g c =
+    let is : IsErrOf c.append.result (journal.Device c.in-Err-Device.error) = search rules in
+    (c.append.ensures.failed c.in-Err-Device.error is, refl)

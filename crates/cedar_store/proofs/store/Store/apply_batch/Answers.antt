@@ -7,6 +7,7 @@ use Rattle.cedar_journal.specs.Frames.{payload_of}
 use Rattle.cedar_store.specs.Batches.{AreHeld, IsFaultless, all_erased_late, first_refused}
 use Rattle.cedar_store.specs.Changes.{after, all_changed}
 use Rattle.cedar_store.specs.Files.{IsEither}
+use Rattle.cedar_store.specs.Promises.{DeviceFails, DeviceIsFull}
 use Rattle.cedar_store.specs.Shortening.{end_behind, IsLookedAfter}
 use Rattle.cedar_store.specs.Told.{changes_told}
 use Rattle.cedar_store.proofs.Compacted.{failed_ready, on_each_err, recorded_in}
@@ -39,9 +40,11 @@ returns-in_err-batch-clause-told g c = on_each_err c.from_residual.result (λ e.
 
 pub returns-in_err-batch-clause-cause : goal.returns-in_err-batch-clause-cause
 returns-in_err-batch-clause-cause g c =
-    let device = c.args.self.now.journal.device in
+    let d = g.D.Device in
+    let old = c.args.self.now in
+    let new = record old { words = c.make.new.words } in
     handed_on c.from_residual.result c.in_err-batch.field-0.0 _ c.from_residual.ensures.1
-    (batch_cause c.args.self.now.failed (changes_told c.args.changes.now) c.args.self.now.journal.end (g.D.Device.faults device) (g.D.Device.faults device) c.in_err-batch.field-0.0 c.in_err-batch.ensures.cause)
+    (batch_cause c.args.self.now.failed (changes_told c.args.changes.now) c.args.self.now.journal.end (DeviceFails d.faults old new) (DeviceIsFull d.faults d.full old new) c.in_err-batch.field-0.0 c.in_err-batch.ensures.cause)
 
 pub returns-in_err-batch-clause-err : goal.returns-in_err-batch-clause-err
 returns-in_err-batch-clause-err g c =
@@ -127,11 +130,11 @@ returns-then-self-2-clause-ready g c =
     let usable : old.failed ≡ false = search rules in
     let cause = c.in-Err.ensures.err in
     let left = c.in-Err.ensures.left in
-    let before = d.faults old.journal.device in
-    let now = d.faults new.journal.device in
+    let broke = DeviceFails d.faults old new in
+    let lacked = DeviceIsFull d.faults d.full old new in
     let e = c.in-Err.error in
     let broken : new.failed ≡ true = search rules in
-    let done = has_failed before now old.failed new.failed e _ _ cause usable broken left ∙ kept in
+    let done = has_failed broke lacked old.failed new.failed e _ _ cause usable broken left ∙ kept in
     failed_ready d.seen d.may_leave new.journal.device new.journal.format new.journal.end (state new.words) new.failed broken (ap (λ t. t.ordered) done ∙ stays_ordered told s c.requires.ready.ordered)
 
 pub returns-then-self-2-clause-err : goal.returns-then-self-2-clause-err
@@ -146,12 +149,12 @@ returns-then-self-2-clause-err g c =
     let usable : old.failed ≡ false = search rules in
     let cause = c.in-Err.ensures.err in
     let left = c.in-Err.ensures.left in
-    let before = d.faults old.journal.device in
-    let now = d.faults new.journal.device in
+    let broke = DeviceFails d.faults old new in
+    let lacked = DeviceIsFull d.faults d.full old new in
     let e = c.in-Err.error in
     let broken : new.failed ≡ true = search rules in
-    let done = has_failed before now old.failed new.failed e _ _ cause usable broken left ∙ kept in
-    leaves_unwritten before now old.failed new.failed e _ _ _ cause (λ _. (broken, done)) (λ _ still. absurd (false≢true (sym usable ∙ sym still ∙ broken)))
+    let done = has_failed broke lacked old.failed new.failed e _ _ cause usable broken left ∙ kept in
+    leaves_unwritten broke lacked old.failed new.failed e _ _ _ cause (λ _. (broken, done)) (λ _ still. absurd (false≢true (sym usable ∙ sym still ∙ broken)))
 
 pub returns-then-self-2-clause-cause : goal.returns-then-self-2-clause-cause
 returns-then-self-2-clause-cause g c =
@@ -165,10 +168,10 @@ returns-then-self-2-clause-cause g c =
     let usable : old.failed ≡ false = search rules in
     let cause = c.in-Err.ensures.err in
     let left = c.in-Err.ensures.left in
-    let before = d.faults old.journal.device in
-    let now = d.faults new.journal.device in
+    let broke = DeviceFails d.faults old new in
+    let lacked = DeviceIsFull d.faults d.full old new in
     let e = c.in-Err.error in
-    batch_unwritten old.failed new.failed told old.journal.end before now e cause
+    batch_unwritten old.failed new.failed told old.journal.end broke lacked e cause
 
 pub returns-clause-cause : goal.returns-clause-cause
 returns-clause-cause g c =
@@ -182,10 +185,10 @@ returns-clause-cause g c =
     let usable : old.failed ≡ false = search rules in
     let cause = c.in-Err.ensures.err in
     let left = c.in-Err.ensures.left in
-    let before = d.faults old.journal.device in
-    let now = d.faults new.journal.device in
+    let broke = DeviceFails d.faults old new in
+    let lacked = DeviceIsFull d.faults d.full old new in
     let e = c.in-Err.error in
-    batch_unwritten old.failed new.failed told old.journal.end before now e cause
+    batch_unwritten old.failed new.failed told old.journal.end broke lacked e cause
 
 pub returns-clause-ready : goal.returns-clause-ready
 returns-clause-ready g c =
@@ -199,11 +202,11 @@ returns-clause-ready g c =
     let usable : old.failed ≡ false = search rules in
     let cause = c.in-Err.ensures.err in
     let left = c.in-Err.ensures.left in
-    let before = d.faults old.journal.device in
-    let now = d.faults new.journal.device in
+    let broke = DeviceFails d.faults old new in
+    let lacked = DeviceIsFull d.faults d.full old new in
     let e = c.in-Err.error in
     let well : new.failed ≡ false = search rules in
-    let room = lacks_room before now old.failed new.failed e _ _ cause well left in
+    let room = lacks_room broke lacked old.failed new.failed e _ _ cause well left in
     let updated = ap state room.words ∙ c.in_ok-batch.ensures.updated in
     let lent : c.deref.result.now ≡ c.in_ok-batch.held.items = search rules in
     let back : state c.take_all_back.new.words ≡ s = c.take_all_back.ensures s (subst (AreHeld s told) (sym lent) c.in_ok-batch.ensures.held) updated in
@@ -225,15 +228,15 @@ returns-clause-err g c =
     let usable : old.failed ≡ false = search rules in
     let cause = c.in-Err.ensures.err in
     let left = c.in-Err.ensures.left in
-    let before = d.faults old.journal.device in
-    let now = d.faults new.journal.device in
+    let broke = DeviceFails d.faults old new in
+    let lacked = DeviceIsFull d.faults d.full old new in
     let e = c.in-Err.error in
     let well : new.failed ≡ false = search rules in
-    let room = lacks_room before now old.failed new.failed e _ _ cause well left in
+    let room = lacks_room broke lacked old.failed new.failed e _ _ cause well left in
     let updated = ap state room.words ∙ c.in_ok-batch.ensures.updated in
     let lent : c.deref.result.now ≡ c.in_ok-batch.held.items = search rules in
     let back : state c.take_all_back.new.words ≡ s = c.take_all_back.ensures s (subst (AreHeld s told) (sym lent) c.in_ok-batch.ensures.held) updated in
-    leaves_unwritten before now old.failed new.failed e _ _ _ cause (λ broken. absurd (false≢true (sym well ∙ broken))) (λ _ _. (well, room.end, back))
+    leaves_unwritten broke lacked old.failed new.failed e _ _ _ cause (λ broken. absurd (false≢true (sym well ∙ broken))) (λ _ _. (well, room.end, back))
 
 pub returns-in-Ok-clause-counted : goal.returns-in-Ok-clause-counted
 returns-in-Ok-clause-counted g c = λ was. c.acknowledge.ensures.counted was

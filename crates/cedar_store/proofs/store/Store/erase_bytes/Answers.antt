@@ -3,6 +3,7 @@ use Rattle.std.proofs.Common.{◌≡◌, [], ◌∷◌, false, length, ◌+◌, 
 use Rattle.cedar_journal.specs.Frames.{payload_of}
 use Rattle.cedarwood.specs.State.{after_erase}
 use Rattle.cedar_store.specs.Changes.{after, all_changed, erase_at}
+use Rattle.cedar_store.specs.Promises.{DeviceFails, DeviceIsFull}
 use Rattle.cedar_store.specs.Shortening.{end_behind, IsLookedAfter}
 use Rattle.cedar_store.proofs.Compacted.{on_each_err, recorded_in}
 use Rattle.cedar_store.proofs.Payloads.{handed_on}
@@ -27,12 +28,12 @@ returns-clause-any_moment g c = λ ready. c.acknowledge.ensures.any_moment (g.T.
 
 pub returns-in_err-acknowledge-clause-cause : goal.returns-in_err-acknowledge-clause-cause
 returns-in_err-acknowledge-clause-cause g c =
-    let faults = g.D.Device.faults in
+    let d = g.D.Device in
     let old = c.args.self.now in
     let new = c.acknowledge.new.self in
     let e = c.in_err-acknowledge.field-0.0 in
     handed_on c.from_residual-in_err-acknowledge.result e _ c.from_residual-in_err-acknowledge.ensures.1
-    (erase_unwritten old.failed new.failed old.journal.end (length c.args.key.now + 1) (faults old.journal.device) (faults new.journal.device) e c.in_err-acknowledge.ensures.err)
+    (erase_unwritten old.failed new.failed old.journal.end (length c.args.key.now + 1) (DeviceFails d.faults old new) (DeviceIsFull d.faults d.full old new) e c.in_err-acknowledge.ensures.err)
 
 pub returns-in_err-erasure-clause-told : goal.returns-in_err-erasure-clause-told
 returns-in_err-erasure-clause-told g c = on_each_err c.from_residual.result (λ e. inl (refl, refl))
@@ -43,14 +44,14 @@ returns-in_err-acknowledge-clause-told g c =
 
 pub returns-in_err-acknowledge-clause-err : goal.returns-in_err-acknowledge-clause-err
 returns-in_err-acknowledge-clause-err g c =
-    let faults = g.D.Device.faults in
+    let d = g.D.Device in
     let state = g.T.Words.state in
     let old = c.args.self.now in
     let new = c.acknowledge.new.self in
     let usable : old.failed ≡ false = search rules in
     let e = c.in_err-acknowledge.field-0.0 in
     handed_on c.from_residual-in_err-acknowledge.result e _ c.from_residual-in_err-acknowledge.ensures.1
-    (leaves_so (faults old.journal.device) (faults new.journal.device) old.failed new.failed e _ _ _ _ _ c.in_err-acknowledge.ensures.err c.in_err-acknowledge.ensures.left
+    (leaves_so (DeviceFails d.faults old new) (DeviceIsFull d.faults d.full old new) old.failed new.failed e _ _ _ _ _ c.in_err-acknowledge.ensures.err c.in_err-acknowledge.ensures.left
     (λ broken made. (broken, made)) (λ still room. (still ∙ usable, room.end, ap state room.words)))
 
 pub returns-in_err-acknowledge-clause-ready : goal.returns-in_err-acknowledge-clause-ready
@@ -60,7 +61,7 @@ returns-in_err-acknowledge-clause-ready g c =
     let old = c.args.self.now in
     let new = c.acknowledge.new.self in
     let usable : old.failed ≡ false = search rules in
-    ready_unwritten d.seen d.may_leave state old new (d.faults old.journal.device) (d.faults new.journal.device) (after_erase (state old.words) c.args.key.now) c.in_err-acknowledge.field-0.0 c.requires.ready.ordered c.requires.ready usable
+    ready_unwritten d.seen d.may_leave state old new (DeviceFails d.faults old new) (DeviceIsFull d.faults d.full old new) (after_erase (state old.words) c.args.key.now) c.in_err-acknowledge.field-0.0 c.requires.ready.ordered c.requires.ready usable
     c.in_err-acknowledge.ensures.err c.in_err-acknowledge.ensures.left
 
 pub returns-clause-recorded : goal.returns-clause-recorded

@@ -30,8 +30,9 @@ returns-clause-cause g c =
     let faults = g.D.Device.faults in
     let before = faults c.args.self.now.journal.device in
     let now = faults c.put_in_place.new.self.journal.device in
-    subst (CompactCause before now) (sym c.from.ensures)
-    (replaced_cause before now c.in-Err.error c.put_in_place.result c.in-Err.is (λ is. (c.put_in_place.ensures.failed is).1) c.put_in_place.ensures.kept_failed)
+    let lost = g.D.ReplaceDevice.is_lost c.put_in_place.new.self.journal.device in
+    subst (CompactCause before now lost) (sym c.from.ensures)
+    (replaced_cause before now lost c.in-Err.error c.put_in_place.result c.in-Err.is c.put_in_place.ensures.failed (λ is. (c.put_in_place.ensures.lost is).1))
 
 pub returns-clause-err : goal.returns-clause-err
 returns-clause-err g c =
@@ -42,7 +43,7 @@ returns-clause-err g c =
     let keeps = KeepsFile d.seen d.may_leave old new in
     let stays = (new.failed ≡ old.failed) × (new.journal ≡ old.journal) in
     subst (λ e. LeavesFile e fails keeps stays) (sym c.from.ensures)
-    (replaced_leaves c.in-Err.error c.put_in_place.result fails keeps stays c.in-Err.is (λ is. (c.put_in_place.ensures.failed is).0) c.put_in_place.ensures.kept)
+    (replaced_leaves c.in-Err.error c.put_in_place.result fails keeps stays c.in-Err.is (λ is. (c.put_in_place.ensures.lost is).0) c.put_in_place.ensures.kept)
 
 pub returns-in_err-image-clause-any_moment_failed : goal.returns-in_err-image-clause-any_moment_failed
 returns-in_err-image-clause-any_moment_failed g c =
@@ -54,7 +55,7 @@ pub returns-in_err-image-clause-cause : goal.returns-in_err-image-clause-cause
 returns-in_err-image-clause-cause g c =
     let device = c.args.self.now.journal.device in
     handed_over c.from_residual.result c.in_err-image.field-0.0 _ c.from_residual.ensures.1
-    (before_cause (g.D.Device.faults device) (g.D.Device.faults device) c.in_err-image.field-0.0 c.in_err-image.ensures.cause)
+    (before_cause (g.D.Device.faults device) (g.D.Device.faults device) (g.D.ReplaceDevice.is_lost device) c.in_err-image.field-0.0 c.in_err-image.ensures.cause)
 
 pub returns-in_err-image-clause-err : goal.returns-in_err-image-clause-err
 returns-in_err-image-clause-err g c =

@@ -4,7 +4,7 @@ use Rattle.cedarwood.specs.WatchedDevice.{device_of, has_failed}
 use Rattle.cedar_cli.specs.View.{view_of}
 use Rattle.cedar_cli.proofs.Faults.{write_no_read, write_no_memory, write_no_limit}
 use Rattle.cedar_cli.proofs.Runs.{ended_by_flush}
-use Rattle.cedar_cli.proofs.script.run_script.Goals as goal
+use Rattle.cedar_cli.proofs.script.run_script_with_reports.Goals as goal
 
 pub returns-then-flushes : goal.returns-then-flushes
 returns-then-flushes g c =
@@ -24,6 +24,7 @@ returns-then-flushes g c =
       starved = λ same. write_no_memory same;
       full = λ same. write_no_limit same;
       max_trial = answered.max_trial;
+      told = tt;
     }
 
 pub returns-clause-unfailed : goal.returns-clause-unfailed

@@ -1,0 +1,40 @@
+-- Files and folders that were opened by their paths, as it was noted: each path, and which file was wanted.
+use Rattle.std.specs.Prelude.{true, ℕ, List, [], ◌∷◌}
+use Rattle.cedar_disk.specs.Calls.{Call}
+use Rattle.cedar_disk.specs.declared.opening.Wanted.{Wanted}
+use Rattle.cedar_disk.specs.declared.opening.Wanted.TheVariants.{Any, Existing, New}
+
+-- something was opened at this path, in one of the ways below
+abbrev pub opened_as : ℕ → List ℕ → Call
+opened_as way path = (11, way, true, path)
+
+-- in which way a file is opened that is wanted so
+abbrev pub way_of : Wanted → ℕ
+way_of Any = 0
+way_of Existing = 1
+way_of New = 2
+
+-- the file at this path was opened, whether it was there or was created
+abbrev pub opened_any : List ℕ → Call
+opened_any path = opened_as 0 path
+
+-- a file was opened that was there at this path
+abbrev pub opened_existing : List ℕ → Call
+opened_existing path = opened_as 1 path
+
+-- a file was opened that the opening created at this path
+abbrev pub opened_new : List ℕ → Call
+opened_new path = opened_as 2 path
+
+-- the file at this path was opened to be read
+abbrev pub opened_to_read : List ℕ → Call
+opened_to_read path = opened_as 3 path
+
+-- the folder at this path was opened
+abbrev pub opened_folder : List ℕ → Call
+opened_folder path = opened_as 4 path
+
+-- the path of the newest call
+abbrev pub path_of : List Call → List ℕ
+path_of [] = []
+path_of (call ∷ earlier) = call.3
