@@ -38,6 +38,10 @@ class _Found(ctypes.Structure):
     _fields_ = [("place", c_size_t), ("length", c_size_t), ("value", c_int32)]
 
 
+class _Range(ctypes.Structure):
+    _fields_ = [("first", c_uint32), ("last", c_uint32), ("kind", c_uint32)]
+
+
 class _Pair(ctypes.Structure):
     _fields_ = [("key", c_char_p), ("length", c_size_t), ("value", c_int32)]
 
@@ -80,8 +84,11 @@ def _library(path=os.environ.get("CEDAR_LIBRARY", Path(__file__).parent / "libro
         ("cedar_segment", c_size_t, [handle, c_char_p, c_size_t, POINTER(c_size_t), POINTER(_Found), c_size_t]),
         ("cedar_keywords", c_size_t, [handle, c_char_p, c_size_t, POINTER(c_size_t), POINTER(_Found), c_size_t]),
         ("cedar_cheapest", c_uint32, [handle, c_char_p, c_size_t, c_uint32, c_bool, POINTER(_Found), c_size_t, POINTER(c_size_t)]),
+        ("cedar_cheapest_by", c_uint32, [handle, c_char_p, c_size_t, POINTER(c_uint32), c_size_t, c_uint32, POINTER(_Range), c_size_t,
+                                         c_uint32, c_size_t, c_bool, POINTER(_Found), c_size_t, POINTER(c_size_t)]),
         ("cedar_keys", c_uint32, [handle, c_char_p, c_size_t, POINTER(c_size_t)]),
         ("cedar_len", c_size_t, [handle]),
+        ("cedar_count_prefix", c_size_t, [handle, c_char_p, c_size_t]),
         ("cedar_used_slots", c_size_t, [handle]),
         ("cedar_capacity", c_size_t, [handle]),
         ("cedar_reserve", c_uint32, [handle, c_size_t]),
@@ -359,6 +366,11 @@ class Cedar:
         text = _bytes(text)
         return [(value, length - len(text)) for value, length in self._walk(_CEDAR.cedar_predictions, text)]
 
+    def count_prefix(self, prefix):
+        """Returns how many keys begin with a prefix."""
+        prefix = _bytes(prefix)
+        return _CEDAR.cedar_count_prefix(self._this, prefix, len(prefix))
+
     def _piece(self, walk, text, start, most):
         if start < 0:
             raise ValueError("the first ones to leave out are 0 or more")
@@ -432,6 +444,24 @@ class Cedar:
         memory = _fresh_memory(len(text) * ctypes.sizeof(_Found))
         found = _Found.from_buffer(memory)
         _check(_CEDAR.cedar_cheapest(self._this, text, len(text), unknown, by_characters, found, len(text), byref(count)))
+        return Matches([memoryview(memory)[: count.value * ctypes.sizeof(_Found)]])
+
+    def cheapest_by(self, text, costs, unknown=2**32 - 1, beyond=2**32 - 1, kinds=(), most=24, beside_keys=True):
+        """Returns the tokens of a text whose costs have the least sum, by costs beside the values: a key costs `costs[value]`, and `beyond`
+        if there is none. What no key covers is cut into runs of `most` characters of one kind at most, which cost `unknown` each and have
+        the value None. `kinds` has (first, last, kind) for ranges of characters; one that none has is a run by itself. With `beside_keys`
+        a run may begin where a key begins too."""
+        if not all(0 <= cost < 2**32 for cost in (unknown, beyond, *costs)):
+            raise ValueError("a cost is 0 to 4294967295")
+        text, count = _bytes(text), c_size_t()
+        if not text or not self._handle.is_open:
+            return Matches([])
+        table = (c_uint32 * len(costs))(*costs)
+        ranges = (_Range * len(kinds))(*kinds)
+        memory = _fresh_memory(len(text) * ctypes.sizeof(_Found))
+        found = _Found.from_buffer(memory)
+        _check(_CEDAR.cedar_cheapest_by(self._this, text, len(text), table, len(costs), beyond, ranges, len(kinds), unknown, most, beside_keys,
+                                        found, len(text), byref(count)))
         return Matches([memoryview(memory)[: count.value * ctypes.sizeof(_Found)]])
 
     def is_reduced(self):

@@ -50,6 +50,7 @@ def check(reduced):
     assert list(cedar.items()) == sorted(plain.items()) and list(cedar) == sorted(plain) and list(Cedar()) == []
     for text in [b"", b"a", b"ab", b"zz"]:
         assert cedar.predictions(text) == [(plain[key], len(key) - len(text)) for key in sorted(plain) if key.startswith(text)]
+        assert cedar.count_prefix(text) == sum(key.startswith(text) for key in plain)
         assert cedar.first_predictions(text, 5) == cedar.predictions(text)[:5] and cedar.first_predictions(text, 0) == []
         pages(cedar, sorted(item for item in plain.items() if item[0].startswith(text)), text)
     pieces(cedar)
@@ -204,6 +205,9 @@ def cheapest_in(plain, text, unknown):
 def whole_texts(cedar, plain):
     """Scans and tokens of texts beside those found by tries, texts long enough for several calls to C among them."""
     longest = max(map(len, plain))
+    # The values as costs beside ids.
+    ids = {key: at for at, key in enumerate(plain)}
+    by_id, costs = Cedar(ids), list(plain.values())
     for size in [0, 1, 50, 200_000]:
         text = bytes(random.choices(b"abcd", k=size))
         found, tokens, end = [], [], 0
@@ -219,7 +223,10 @@ def whole_texts(cedar, plain):
         assert list(cut) == tokens and sum(length for _, length, _ in cut) == size
         assert list(cedar.keywords(text)) == [token for token in tokens if token[2] is not None]
         for unknown in (0, 1 << 20):
-            assert list(cedar.cheapest(text, unknown)) == list(cedar.cheapest(text, unknown, True)) == cheapest_in(plain, text, unknown)
+            cheapest = cheapest_in(plain, text, unknown)
+            assert list(cedar.cheapest(text, unknown)) == list(cedar.cheapest(text, unknown, True)) == cheapest
+            wanted = [(place, n, None if value is None else ids[text[place : place + n]]) for place, n, value in cheapest]
+            assert list(by_id.cheapest_by(text, costs, unknown)) == wanted
     assert scanned[0] == found[0] and scanned[-1] == found[-1] and scanned[2:4] == found[2:4]
     assert list(pickle.loads(pickle.dumps(scanned))) == found
     # More matches than bytes, so that a text takes many calls.
@@ -229,6 +236,9 @@ def whole_texts(cedar, plain):
     assert len(nested.scan(text)) == len(nested.segment(text)) == len(nested.keywords(text)) == len(nested.cheapest(text, 1)) == 0
     refuses(ValueError, lambda: cedar.cheapest(b"a", -1))
     refuses(ValueError, lambda: cedar.cheapest(b"a", 1 << 32))
+    refuses(ValueError, lambda: cedar.cheapest_by(b"a", [1 << 32]))
+    letters = by_id.cheapest_by("网12x", [], kinds=[(ord("0"), ord("9"), 1), (ord("e"), ord("z"), 2)])
+    assert list(letters) == [(0, 3, None), (3, 2, None), (5, 1, None)]
     unknown = Cedar().cheapest("网a", 3, by_characters=True)
     assert list(unknown) == [(place, 1, None) for place in range(4)]
 

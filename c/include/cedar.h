@@ -237,6 +237,10 @@ size_t cedar_used_slots(const cedar_dictionary *d);
 size_t cedar_capacity(const cedar_dictionary *d);
 size_t cedar_spare_blocks(const cedar_dictionary *d);
 
+/* Returns how many keys begin with a prefix. It looks the prefix up and then visits each node below its own: so cedar_len, which says the
+ * same of the empty prefix, is far less work. It allocates nothing. Returns 0 if closed. */
+size_t cedar_count_prefix(const cedar_dictionary *d, const uint8_t *prefix, size_t length);
+
 /* Allocates ahead for so many blocks of 256 slots more than are in use, so that updates that take no more of them need no memory: an update
  * takes at most one for each byte of its key. If so many are spare already (cedar_spare_blocks), nothing changes; otherwise the slots
  * double until they are. Returns CEDAR_OK; CEDAR_IS_CLOSED; CEDAR_SLOT_LIMIT if there can't be so many blocks (2^22 in all), or else
@@ -404,6 +408,25 @@ size_t cedar_keywords(const cedar_dictionary *d, const uint8_t *text, size_t len
 uint32_t cedar_cheapest(const cedar_dictionary *d, const uint8_t *text, size_t length, uint32_t unknown, bool by_characters,
                         cedar_found *found, size_t room, size_t *needed);
 
+/* The characters of one kind with the numbers from first to last in Unicode. */
+typedef struct cedar_range {
+    uint32_t first;
+    uint32_t last;
+    uint32_t kind;
+} cedar_range;
+
+/* Cuts a whole text into keys and runs of unknown characters whose costs have the least sum, by costs beside the values: so a value may be
+ * an id. It writes these tokens as cedar_cheapest does. A key costs costs[value], and `beyond` if its value isn't below `count`. A run has
+ * the value -1 and costs `unknown`. It is the character of UTF-8 at its position and those behind it that are of the same kind, `most` in
+ * all at most. The kind of a character is that of the first range that has its number; one that no range has is a run by itself, and so is
+ * each with `ranges` 0. With beside_keys a run may begin where a key begins too; without it only where none does. Of cuts with the same
+ * cost it picks the one with the longer token where they first differ, and with a key rather than a run of as many bytes. A sum above
+ * 2^64 - 1 counts as 2^64 - 1, for what is left from each token on. Returns what cedar_cheapest returns. It allocates 16 bytes for each
+ * byte of the text, and a list of the tokens; at each position it looks at `most` characters, and for each at the ranges up to its own. */
+uint32_t cedar_cheapest_by(const cedar_dictionary *d, const uint8_t *text, size_t length, const uint32_t *costs, size_t count,
+                           uint32_t beyond, const cedar_range *kinds, size_t ranges, uint32_t unknown, size_t most, bool beside_keys,
+                           cedar_found *found, size_t room, size_t *needed);
+
 /* The library's own functions take no null for position, held, before, needed and erased. In a program these functions take their names,
  * and pass a variable of their own where the caller passes null. They cost nothing where the compiler sees that a pointer isn't null.
  * Another language, which calls the library without this header, passes no null for these five. */
@@ -455,6 +478,13 @@ CEDAR_INLINE uint32_t cedar_nullable_cheapest(const cedar_dictionary *d, const u
                                               bool by_characters, cedar_found *found, size_t room, size_t *needed) {
     size_t unwanted = 0;
     return cedar_cheapest(d, text, length, unknown, by_characters, found, room, needed ? needed : &unwanted);
+}
+CEDAR_INLINE uint32_t cedar_nullable_cheapest_by(const cedar_dictionary *d, const uint8_t *text, size_t length, const uint32_t *costs,
+                                                 size_t count, uint32_t beyond, const cedar_range *kinds, size_t ranges, uint32_t unknown,
+                                                 size_t most, bool beside_keys, cedar_found *found, size_t room, size_t *needed) {
+    size_t unwanted = 0;
+    return cedar_cheapest_by(d, text, length, costs, count, beyond, kinds, ranges, unknown, most, beside_keys, found, room,
+                             needed ? needed : &unwanted);
 }
 CEDAR_INLINE uint32_t cedar_nullable_erase_prefix(cedar_dictionary *d, const uint8_t *prefix, size_t length, size_t *erased) {
     size_t unwanted = 0;
@@ -518,6 +548,7 @@ CEDAR_INLINE uint32_t cedar_nullable_next_fitting(const cedar_dictionary *d, con
 #define cedar_build_unsorted_reduced cedar_nullable_build_unsorted_reduced
 #define cedar_keys cedar_nullable_keys
 #define cedar_cheapest cedar_nullable_cheapest
+#define cedar_cheapest_by cedar_nullable_cheapest_by
 #define cedar_erase_prefix cedar_nullable_erase_prefix
 
 /* Faulty pairs, files by their paths, and the version. These calls are C beside the proved library: tested, and not proved. */

@@ -24,7 +24,7 @@
 //     update, insert                                fault, closed; for a key that isn't held CEDAR_SLOT_LIMIT, memory
 //     update_all                                    fault, closed, CEDAR_SLOT_LIMIT, memory
 //     reserve, shrink_to_fit                        closed, CEDAR_SLOT_LIMIT, memory
-//     clone, save, cheapest                         closed, memory
+//     clone, save, cheapest, cheapest_by            closed, memory
 //     erase_all, prefixes, predictions, entries,    memory
 //       entries_with_prefix, begin, cbegin, find,
 //       best
@@ -327,11 +327,10 @@ public:
         return walked(cedar_predictions_from, text, most);
     }
 
-    /// Returns how many keys begin with a text. It goes over all of them, and allocates nothing.
+    /// Returns how many keys begin with a text. It visits each node below the text's, and allocates nothing.
     std::size_t count_prefix(std::string_view prefix) const noexcept {
         const cedar_dictionary mine = inside_;
-        match none{};
-        return cedar_predictions(&mine, detail::bytes(prefix), prefix.size(), &none, 0);
+        return cedar_count_prefix(&mine, detail::bytes(prefix), prefix.size());
     }
 
     /// Returns the best of the entries whose keys begin with a text, at most `most` of them: by value, the highest first or the lowest, and
@@ -451,10 +450,22 @@ public:
         const std::uint32_t status =
             cedar_cheapest(&mine, detail::bytes(text), text.size(), unknown, by_characters, found.data(), text.size(), &count);
         detail::check(status);
-        std::vector<token> tokens;
-        tokens.reserve(count);
-        for (std::size_t i = 0; i < count; ++i) tokens.push_back(detail::token_of(found[i]));
-        return tokens;
+        return detail::tokens_of(found, count);
+    }
+
+    /// Cuts a text into the tokens whose costs have the least sum, by costs beside the values: what a key costs stands in a table at its
+    /// value. What no key covers is cut into runs of characters of one kind, which have no value. Of cuts that cost the same it picks the
+    /// one with the longer token where they first differ, and with a key rather than a run. While it runs, it allocates 40 bytes for each
+    /// byte of the text, and lists of the tokens.
+    std::vector<token> cheapest_by(std::string_view text, const cut_costs &model) const {
+        const cedar_dictionary mine = inside_;
+        std::vector<cedar_found> found(text.size() + 1); // so that data() isn't null
+        std::size_t count = 0;
+        const std::uint32_t status =
+            cedar_cheapest_by(&mine, detail::bytes(text), text.size(), model.keys.data(), model.keys.size(), model.beyond, model.kinds.data(),
+                              model.kinds.size(), model.unknown, model.most, model.beside_keys, found.data(), text.size(), &count);
+        detail::check(status);
+        return detail::tokens_of(found, count);
     }
 
     /// Returns the bytes of the dictionary's file.

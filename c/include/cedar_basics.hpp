@@ -15,6 +15,7 @@
 #include <string_view>
 #include <system_error>
 #include <type_traits>
+#include <vector>
 
 namespace roskvidh {
 
@@ -124,6 +125,19 @@ struct token {
     std::optional<std::int32_t> value;
 };
 
+/// Characters of one kind: those with the numbers from first to last in Unicode.
+using character_range = cedar_range;
+
+/// What the tokens of a text cost.
+struct cut_costs {
+    std::vector<std::uint32_t> keys;                                   ///< what a key costs, at its value
+    std::uint32_t beyond = std::numeric_limits<std::uint32_t>::max();  ///< what one costs whose value isn't below their number
+    std::vector<character_range> kinds;                                ///< the kind of a character is that of the first that has it
+    std::uint32_t unknown = std::numeric_limits<std::uint32_t>::max(); ///< what a run of characters of one kind costs
+    std::size_t most = 24;                                             ///< how many characters a run has at most
+    bool beside_keys = true;                                           ///< whether a run may begin where a key begins too
+};
+
 /// Figures of a dictionary.
 struct statistics {
     std::size_t keys;         ///< how many keys are held
@@ -160,6 +174,13 @@ inline bool is_fault(std::uint32_t status) noexcept {
 
 inline token token_of(const cedar_found &one) noexcept {
     return {one.place, one.length, one.value < 0 ? std::nullopt : std::optional(one.value)};
+}
+
+inline std::vector<token> tokens_of(const std::vector<cedar_found> &found, std::size_t count) {
+    std::vector<token> tokens;
+    tokens.reserve(count);
+    for (std::size_t i = 0; i < count; ++i) tokens.push_back(token_of(found[i]));
+    return tokens;
 }
 
 [[noreturn]] inline void throw_file_error(int number, const std::string &path) {

@@ -94,9 +94,8 @@ bool gathered_sort(Gathered *gathered) {
 
 /* How many bytes the keys with a prefix have together, and how many they are. False where memory is wanted. */
 static bool measure(const cedar *dictionary, const Span *prefix, size_t *count, size_t *size) {
-    cedar_match unused;
     *size = 0;
-    *count = cedar_predictions(dictionary, prefix->at, prefix->length, &unused, 0);
+    *count = cedar_count_prefix(dictionary, prefix->at, prefix->length);
     cedar_match *matches = malloc((*count + 1) * sizeof *matches);
     if (!matches) return false;
     cedar_predictions(dictionary, prefix->at, prefix->length, matches, *count);

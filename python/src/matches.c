@@ -316,29 +316,50 @@ static size_t next_stop(const cedar *dictionary, const Span *text, size_t longes
     return text->length;
 }
 
+/* Whether a byte begins a character of UTF-8. */
+static bool begins_character(uint8_t byte) {
+    return (byte & 0xC0) != 0x80;
+}
+
+/* What tokens cost: what no key is, and keys their values, or what a table has at these. */
+typedef struct Costs {
+    uint32_t unknown;
+    uint32_t *of_values; /* NULL where keys cost their values */
+    size_t count;
+} Costs;
+
+/* Cuts a part of a text by the library. */
+static uint32_t cut(const Turn *turn, const Costs *costs, const uint8_t *at, size_t length, cedar_found *found, size_t *count) {
+    if (!costs->of_values) return cedar_cheapest(turn->dictionary, at, length, costs->unknown, turn->core->is_text, found, length, count);
+    return cedar_cheapest_by(turn->dictionary, at, length, costs->of_values, costs->count, UINT32_MAX, NULL, 0, costs->unknown, 1, true, found,
+                             length, count);
+}
+
+/* Where a text that is cut from a place on is cut in two: where unknown characters are tokens, in front of one. With keys of bytes a key may
+ * begin within a character, so that a text is cut as a whole then. */
+static size_t next_part(const Turn *turn, const Costs *costs, const Span *text, size_t longest, size_t begin) {
+    if (costs->of_values && !turn->core->is_text) return text->length;
+    size_t stop = next_stop(turn->dictionary, text, longest, begin);
+    while (costs->of_values && stop < text->length && !begins_character(text->at[stop])) stop++;
+    return stop;
+}
+
 /* The tokens of a text that cost the least together: those of its parts. Raises an error where memory is wanted or a signal has ended it. */
-static int find_cheapest(uint32_t unknown, Turn *turn, const Span *text, Matches *matches) {
-    bool by_characters = turn->core->is_text;
+static int find_cheapest(const Costs *costs, Turn *turn, const Span *text, Matches *matches) {
     size_t longest = longest_key(turn, text);
     if (text->length > HELD_TEXT) turn_yield(turn);
     for (size_t begin = 0, stop; begin < text->length; begin = stop) {
         size_t count = 0;
-        stop = next_stop(turn->dictionary, text, longest, begin);
+        stop = next_part(turn, costs, text, longest, begin);
         Piece *piece = piece_begin(matches, stop - begin);
         if (!piece) return CEDAR_MEMORY;
-        uint32_t status = cedar_cheapest(turn->dictionary, text->at + begin, stop - begin, unknown, by_characters, piece->found, stop - begin,
-                                         &count);
+        uint32_t status = cut(turn, costs, text->at + begin, stop - begin, piece->found, &count);
         for (size_t i = 0; i < count; i++) piece->found[i].place += begin;
         piece_end(matches, piece, count);
         if (status != CEDAR_OK) return (int)status;
         if (turn_step(turn) < 0) return -1;
     }
     return CEDAR_OK;
-}
-
-/* Whether a byte begins a character of UTF-8. */
-static bool begins_character(uint8_t byte) {
-    return (byte & 0xC0) != 0x80;
 }
 
 static size_t characters(const uint8_t *at, size_t length) {
@@ -366,14 +387,14 @@ static void count_characters(const Span *text, Matches *matches) {
 }
 
 /* What a finder tells of a text, or, where that is NULL, the tokens of least cost. */
-static PyObject *find(Core *core, const Finder *finder, uint32_t unknown, PyObject *given) {
+static PyObject *find(Core *core, const Finder *finder, const Costs *costs, PyObject *given) {
     Span text;
     Turn turn;
     int status = -1;
     if (span_take(core, given, &text) < 0) return NULL;
     Matches *matches = (Matches *)PyType_GenericAlloc(matches_type, 0);
     if (matches && turn_begin(core, READS, text.length >= LONG_TEXT, &turn) == 0) {
-        status = finder ? find_all(*finder, &turn, &text, matches) : find_cheapest(unknown, &turn, &text, matches);
+        status = finder ? find_all(*finder, &turn, &text, matches) : find_cheapest(costs, &turn, &text, matches);
         if (status == CEDAR_OK && core->is_text) count_characters(&text, matches);
         turn_end(&turn);
         if (status > 0) fail_with((uint32_t)status);
@@ -384,21 +405,79 @@ static PyObject *find(Core *core, const Finder *finder, uint32_t unknown, PyObje
 }
 
 PyObject *core_scan(Core *core, PyObject *text) {
-    return find(core, &SCAN, 0, text);
+    return find(core, &SCAN, NULL, text);
 }
 
 PyObject *core_segment(Core *core, PyObject *text) {
-    return find(core, &SEGMENT, 0, text);
+    return find(core, &SEGMENT, NULL, text);
 }
 
 PyObject *core_keywords(Core *core, PyObject *text) {
-    return find(core, &KEYWORDS, 0, text);
+    return find(core, &KEYWORDS, NULL, text);
+}
+
+/* Room for the costs of so many values, none of which is told yet. */
+static int costs_begin(Costs *costs, size_t count) {
+    costs->of_values = count > PTRDIFF_MAX / sizeof *costs->of_values - 1 ? NULL : malloc((count + 1) * sizeof *costs->of_values);
+    if (!costs->of_values) {
+        PyErr_NoMemory();
+        return -1;
+    }
+    for (size_t i = 0; i < count; i++) costs->of_values[i] = UINT32_MAX;
+    costs->count = count;
+    return 0;
+}
+
+/* The costs of a mapping's items: of pairs of a value and what its keys cost. */
+static int paired_costs(PyObject *items, Costs *costs) {
+    int32_t value, last = -1;
+    Py_ssize_t count = PyList_Size(items);
+    for (Py_ssize_t i = 0; i < count; i++) {
+        PyObject *item = PyList_GetItem(items, i);
+        if (!PyTuple_Check(item) || PyTuple_Size(item) != 2) {
+            PyErr_SetString(PyExc_TypeError, "an item of costs is a pair of a value and a cost");
+            return -1;
+        }
+        if (value_take(PyTuple_GetItem(item, 0), &value) < 0) return -1;
+        if (value > last) last = value;
+    }
+    if (costs_begin(costs, (size_t)(last + 1)) < 0) return -1;
+    for (Py_ssize_t i = 0; i < count; i++) {
+        PyObject *item = PyList_GetItem(items, i);
+        if (value_take(PyTuple_GetItem(item, 0), &value) < 0) return -1;
+        if (value <= last && cost_take(PyTuple_GetItem(item, 1), &costs->of_values[value]) < 0) return -1;
+    }
+    return 0;
+}
+
+/* The costs of a list, each at the value whose keys cost this. */
+static int listed_costs(PyObject *items, Costs *costs) {
+    Py_ssize_t count = PyList_Size(items);
+    if (costs_begin(costs, (size_t)count) < 0) return -1;
+    for (Py_ssize_t i = 0; i < count; i++) {
+        if (cost_take(PyList_GetItem(items, i), &costs->of_values[i]) < 0) return -1;
+    }
+    return 0;
+}
+
+/* What keys cost by their values, as a mapping or anything that a list can be made of. Frees what it allocated where it fails. */
+static int costs_take(PyObject *given, Costs *costs) {
+    bool is_paired = PyMapping_Check(given) && PyObject_HasAttrString(given, "keys");
+    PyObject *items = is_paired ? PyMapping_Items(given) : PySequence_List(given);
+    if (!items) return -1;
+    int status = is_paired ? paired_costs(items, costs) : listed_costs(items, costs);
+    Py_DECREF(items);
+    if (status < 0) free(costs->of_values);
+    return status;
 }
 
 PyObject *core_cheapest(Core *core, PyObject *arguments, PyObject *named) {
-    static char *names[] = {"", "unknown", NULL};
-    PyObject *text, *cost;
-    uint32_t unknown;
-    if (!PyArg_ParseTupleAndKeywords(arguments, named, "OO:cheapest", names, &text, &cost)) return NULL;
-    return cost_take(cost, &unknown) < 0 ? NULL : find(core, NULL, unknown, text);
+    static char *names[] = {"", "unknown", "costs", NULL};
+    PyObject *text, *unknown, *given = NULL;
+    Costs costs = {0, NULL, 0};
+    if (!PyArg_ParseTupleAndKeywords(arguments, named, "OO|$O:cheapest", names, &text, &unknown, &given)) return NULL;
+    if (cost_take(unknown, &costs.unknown) < 0 || (given && given != Py_None && costs_take(given, &costs) < 0)) return NULL;
+    PyObject *found = find(core, NULL, &costs, text);
+    free(costs.of_values);
+    return found;
 }

@@ -152,8 +152,9 @@ static PyMethodDef core_methods[] = {
      "from its end on.\n\n"
      ">>> [tuple(m) for m in Cedar({b'net': 7, b'nets': 8, b'sew': 9}).keywords(b'a netsew')]\n[(2, 4, 8)]\n"},
     {"cheapest", (PyCFunction)(void (*)(void))core_cheapest, METH_VARARGS | METH_KEYWORDS,
-     "cheapest($self, text, /, unknown)\n--\n\nReturns the tokens of a text whose costs have the least sum: a key costs its value, and a byte (with\n"
-     "text=True a character) without a key costs `unknown`, 0 to 4294967295, and has the value None.\n\n"
+     "cheapest($self, text, /, unknown, *, costs=None)\n--\n\nReturns the tokens of a text whose costs have the least sum: a key costs its value, and a byte (with\n"
+     "text=True a character) without a key costs `unknown`, 0 to 4294967295, and has the value None. With `costs` values are ids: a key costs\n"
+     "what this list or mapping has at its value, and 4294967295 if it has nothing there; an unknown token is a character of UTF-8 then.\n\n"
      ">>> [tuple(m) for m in Cedar({b'a': 5, b'ab': 6, b'bcd': 1}).cheapest(b'abcd', unknown=10)]\n[(0, 1, 5), (1, 3, 1)]\n"},
     {"erase_prefix", (PyCFunction)core_erase_prefix, METH_O,
      "erase_prefix($self, prefix, /)\n--\n\nRemoves all keys that begin with a prefix, and returns how many there were.\n\n"

@@ -222,7 +222,7 @@ static int count_many(Core *core, const Span *prefix, size_t *count) {
     int begun = *count < LONG_WALK ? 0 : turn_begin(core, READS, true, &turn);
     if (begun == 0 && *count == LONG_WALK) {
         turn_yield(&turn);
-        *count = cedar_predictions(turn.dictionary, prefix->at, prefix->length, matches, 0);
+        *count = cedar_count_prefix(turn.dictionary, prefix->at, prefix->length);
         turn_end(&turn);
     }
     free(matches);

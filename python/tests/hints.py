@@ -13,6 +13,8 @@ def keys_are_bytes(data: bytes) -> None:
     matches: Matches = d.scan(b"text")
     keywords: Matches = d.keywords(b"text")
     cut: Matches = d.cheapest(b"text", unknown=5)
+    cut = d.cheapest(b"text", 5, costs=[1, 2])
+    cut = d.cheapest(b"text", unknown=5, costs={7: 1})
     match: Match = matches[0]
     some: List[Match] = matches[1:]
     stats: Stats = d.stats()

@@ -1,5 +1,6 @@
 """What stands in a text, beside what tries find: in bytes and in characters, in short texts and in long ones."""
 
+import array
 import pickle
 import random
 import unittest
@@ -102,6 +103,34 @@ class Texts(unittest.TestCase):
         self.assertEqual(len(nested.scan(text)), sum(min(299, 5000 - place) for place in range(5000)))
         self.assertEqual(nested.prefixes(text), [(b"a" * n, n) for n in range(1, 300)])
         self.assertEqual(nested.longest_prefix(text), (b"a" * 299, 299))
+
+    def test_cuts_by_costs(self):
+        """Values are ids: the costs of a list or of a mapping stand at them."""
+        words = {"event": 6517, "he": 1999, "out": 3011, "the": 485, "they": 2451, "vent": 11305, "you": 2200, "youth": 6923}
+        ids = {word: at for at, word in enumerate(words)}
+        costs = list(words.values())
+        chance = random.Random(74)
+        for text in (False, True):
+            given = "".join(chance.choices([*words, "x", "漢"], k=200_000))
+            coded = (lambda word: word) if text else str.encode
+            if not text:
+                given = given.replace("漢", "x")  # by costs it would be one token of three bytes
+            d = Cedar({coded(word): at for word, at in ids.items()}, text=text)
+            by_value = Cedar({coded(word): cost for word, cost in words.items()}, text=text)
+            wanted = [(m.place, m.length, None if m.value is None else costs.index(m.value)) for m in by_value.cheapest(coded(given), 20_000)]
+            for told in (costs, tuple(costs), array.array("I", costs), dict(enumerate(costs)), iter(costs)):
+                self.assertEqual([tuple(m) for m in d.cheapest(coded(given), unknown=20_000, costs=told)], wanted)
+        d = Cedar({"a": 0, "ab": 1, "b": 2}, text=True)
+        self.assertEqual([m.value for m in d.cheapest("ab", 9, costs=[1, 5, 1])], [0, 2])
+        self.assertEqual([m.value for m in d.cheapest("ab", 9, costs={1: 5})], [1])
+        self.assertEqual([m.value for m in d.cheapest("ab", 9, costs=[])], [None, None])
+        self.assertEqual([m.value for m in d.cheapest("ab", 9, costs=None)], [1])
+        self.assertEqual([tuple(m) for m in Cedar().cheapest("漢a".encode(), 9, costs=())], [(0, 3, None), (3, 1, None)])
+        for wrong, error in (([-1], ValueError), ([2**32], ValueError), ([1.0], TypeError), ({-1: 1}, ValueError), ({0: "a"}, TypeError), (5, TypeError), ("ab", TypeError)):
+            with self.assertRaises(error):
+                d.cheapest("a", 1, costs=wrong)
+        with self.assertRaises(TypeError):
+            d.cheapest("a", 1, [1])
 
     def test_cuts_of_least_cost(self):
         words = {"event": 6517, "he": 1999, "out": 3011, "the": 485, "they": 2451, "vent": 11305, "you": 2200, "youth": 6923}

@@ -4,7 +4,7 @@ _roskvidh() {
     local word=${COMP_WORDS[COMP_CWORD]} options
     COMPREPLY=()
     if [ "$COMP_CWORD" -eq 1 ]; then
-        mapfile -t COMPREPLY < <(compgen -W "build get prefixes complete list show cut scan replace add remove merge diff check stats convert recover help --help --version" -- "$word")
+        mapfile -t COMPREPLY < <(compgen -W "build get prefixes complete count list show cut scan replace add remove merge diff check stats convert recover help --help --version" -- "$word")
         return
     fi
     case ${COMP_WORDS[1]} in
@@ -12,9 +12,10 @@ _roskvidh() {
         get) options="--limit -h --help" ;;
         prefixes) options="--limit -h --help" ;;
         complete) options="-n --most --best --within --limit -h --help" ;;
+        count) options="--limit -h --help" ;;
         list) options="--from --prefix --limit -h --help" ;;
         show) options="--dot --limit -h --help" ;;
-        cut) options="-s --sign --cheapest --unknown --progress --limit -h --help" ;;
+        cut) options="-s --sign --cheapest --costs --unknown --progress --limit -h --help" ;;
         scan) options="--only-longest --color --progress --limit -h --help" ;;
         replace) options="--strict --progress -h --help" ;;
         add) options="--store --strict --progress --limit -h --help" ;;

@@ -118,10 +118,12 @@ static void erased_by_prefix(bool is_reduced) {
     size_t erased = 77;
     int32_t value;
     CHECK(cedar_erase_prefix(&d, (const uint8_t *)"net", 3, &erased) == CEDAR_IS_CLOSED && erased == 77);
-    CHECK(cedar_shrink(&d) == CEDAR_IS_CLOSED);
+    CHECK(cedar_shrink(&d) == CEDAR_IS_CLOSED && cedar_count_prefix(&d, (const uint8_t *)"net", 3) == 0);
     cedar_clear(&d);
     CHECK((is_reduced ? cedar_new_reduced(&d, true, 1) : cedar_new(&d)) == CEDAR_OK && cedar_reserve(&d, 9) == CEDAR_OK);
     for (int i = 0; i < 4; i++) CHECK(cedar_update(&d, (const uint8_t *)keys[i], strlen(keys[i]), i, NULL) == CEDAR_OK);
+    CHECK(cedar_count_prefix(&d, (const uint8_t *)"net", 3) == 3 && cedar_count_prefix(&d, (const uint8_t *)"netw", 4) == 2);
+    CHECK(cedar_count_prefix(&d, NULL, 0) == 4 && cedar_count_prefix(&d, (const uint8_t *)"nest", 4) == 0);
     CHECK(cedar_erase_prefix(&d, (const uint8_t *)"netw", 4, &erased) == CEDAR_OK && erased == 2 && cedar_len(&d) == 2);
     CHECK(cedar_erase_prefix(&d, (const uint8_t *)"netw", 4, NULL) == CEDAR_OK && cedar_len(&d) == 2);
     CHECK(cedar_shrink(&d) == CEDAR_OK && cedar_capacity(&d) <= 1024 && cedar_len(&d) == 2 && cedar_is_reduced(&d) == is_reduced);

@@ -222,9 +222,41 @@ static void by_hand(void) {
     cedar_free(&d);
 }
 
+/* Values are ids, whose costs stand in a table. Letters are of one kind, digits of another; other characters are runs by themselves. */
+static void by_costs(bool reduced) {
+    static const uint32_t costs[] = {1, 9, 1};
+    static const cedar_range kinds[] = {{'0', '9', 1}, {'a', 'z', 2}, {'A', 'Z', 2}, {'0', 'z', 3}};
+    const uint8_t *letters = bytes_of("herox12\xE7\xBD\x91+Ab");
+    cedar d = CEDAR_CLOSED;
+    size_t needed = 77;
+    CHECK(cedar_cheapest_by(&d, letters, 7, costs, 3, 5, kinds, 4, 20, 24, true, found, LONG, &needed) == CEDAR_IS_CLOSED && needed == 77);
+    CHECK((reduced ? cedar_new_reduced(&d, true, 1) : cedar_new(&d)) == CEDAR_OK);
+    CHECK(cedar_cheapest_by(&d, NULL, 0, NULL, 0, 0, NULL, 0, 0, 0, true, NULL, 0, &needed) == CEDAR_OK && needed == 0);
+    store(&d, "he", 0);
+    store(&d, "hero", 1);
+    store(&d, "ro", 2);
+    store(&d, "x", 3);
+    CHECK(cedar_cheapest_by(&d, letters, 13, costs, 3, 5, kinds, 4, 20, 24, false, NULL, 0, NULL) == CEDAR_NO_ROOM);
+    CHECK(cedar_cheapest_by(&d, letters, 13, costs, 3, 5, kinds, 4, 20, 24, false, found, LONG, &needed) == CEDAR_OK && needed == 7);
+    CHECK(is_token(0, 0, 2, 0) && is_token(1, 2, 2, 2) && is_token(2, 4, 1, 3) && is_token(3, 5, 2, -1) && is_token(4, 7, 3, -1));
+    CHECK(is_token(5, 10, 1, -1) && is_token(6, 11, 2, -1));
+    /* Beside keys a run of five letters costs less than he, ro and x. With one character at most it doesn't. */
+    CHECK(cedar_cheapest_by(&d, letters, 7, costs, 3, 5, kinds, 4, 3, 24, true, found, LONG, &needed) == CEDAR_OK && needed == 2);
+    CHECK(is_token(0, 0, 5, -1) && is_token(1, 5, 2, -1));
+    CHECK(cedar_cheapest_by(&d, letters, 7, costs, 3, 5, kinds, 4, 3, 0, true, found, LONG, &needed) == CEDAR_OK && needed == 5);
+    CHECK(is_token(0, 0, 2, 0) && is_token(1, 2, 2, 2) && is_token(2, 4, 1, -1) && is_token(3, 5, 1, -1) && is_token(4, 6, 1, -1));
+    /* Without ranges each character is a run. */
+    CHECK(cedar_cheapest_by(&d, letters + 5, 5, costs, 3, 5, NULL, 0, 3, 24, true, found, 3, &needed) == CEDAR_OK && needed == 3);
+    CHECK(is_token(0, 0, 1, -1) && is_token(1, 1, 1, -1) && is_token(2, 2, 3, -1));
+    cedar_free(&d);
+}
+
 int main(void) {
     by_hand();
-    for (int reduced = 0; reduced < 2; reduced++) beside_plain_ones(reduced);
+    for (int reduced = 0; reduced < 2; reduced++) {
+        by_costs(reduced);
+        beside_plain_ones(reduced);
+    }
     puts("ok");
     return 0;
 }

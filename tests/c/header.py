@@ -22,6 +22,7 @@ TYPES = {
     "Reading": "const cedar_dictionary",
     "Match": "cedar_match",
     "Found": "cedar_found",
+    "CharacterRange": "cedar_range",
     "Key": "cedar_key",
     "Pair": "cedar_pair",
     "Plan": "cedar_plan",

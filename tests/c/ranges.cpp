@@ -1,5 +1,5 @@
 // The ranges and iterators of cedar.hpp: what they show, how long it stays, and how little a page asks for. Linked with
-// -Wl,--wrap=cedar_entries_below,--wrap=cedar_predictions.
+// -Wl,--wrap=cedar_entries_below,--wrap=cedar_predictions,--wrap=cedar_count_prefix.
 #include "cedar.hpp"
 #include "check.h"
 #include <cstdlib>
@@ -45,6 +45,11 @@ std::size_t __wrap_cedar_predictions(const cedar_dictionary *d, const std::uint8
                                      std::size_t room) {
     walks++;
     return __real_cedar_predictions(d, text, length, matches, room);
+}
+std::size_t __real_cedar_count_prefix(const cedar_dictionary *, const std::uint8_t *, std::size_t);
+std::size_t __wrap_cedar_count_prefix(const cedar_dictionary *d, const std::uint8_t *prefix, std::size_t length) {
+    walks++;
+    return __real_cedar_count_prefix(d, prefix, length);
 }
 }
 

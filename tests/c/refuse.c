@@ -126,19 +126,23 @@ static int copies(bool is_shrink) {
     }
 }
 
-/* A cut of least cost with each request refused in turn: places and count stay till all are met. Answers how many were refused. */
-static int cuts(void) {
+/* A cut of least cost, by values or by costs beside them, with each request refused in turn: places and count stay till all are met.
+ * Answers how many were refused. */
+static int cuts(bool by_costs) {
     enum { LENGTH = 3000 };
     static uint8_t text[LENGTH];
     static cedar_found found[LENGTH];
+    static uint32_t costs[KEYS];
     cedar d = CEDAR_CLOSED;
     CHECK(cedar_new(&d) == CEDAR_OK && fill(&d) == KEYS);
     for (int32_t i = 0; i < LENGTH; i += 3) nth_key(i, text + i);
+    for (uint32_t i = 0; i < KEYS; i++) costs[i] = i;
     for (int refused = 0;; refused++) {
         size_t needed = 77;
         for (size_t i = 0; i < LENGTH; i++) found[i] = (cedar_found){7, 7, 7};
         left = refused;
-        uint32_t status = cedar_cheapest(&d, text, LENGTH, KEYS, refused % 2, found, LENGTH, &needed);
+        uint32_t status = by_costs ? cedar_cheapest_by(&d, text, LENGTH, costs, KEYS, 0, NULL, 0, KEYS, 1, true, found, LENGTH, &needed)
+                                   : cedar_cheapest(&d, text, LENGTH, KEYS, refused % 2, found, LENGTH, &needed);
         left = -1;
         if (status == CEDAR_OK) {
             CHECK(needed == LENGTH / 3 && found[1].place == 3 && found[1].length == 3 && found[1].value == 3);
@@ -210,7 +214,7 @@ int main(void) {
     }
     int refused_builds = builds(true), refused_unsorted = builds(false), refused_reserves = reserves(), refused_copies = copies(false), refused_shrinks = copies(true);
     CHECK(refused_new > 0 && refused_update > 0 && refused_builds > 10 && refused_unsorted > refused_builds && refused_reserves > 0 && refused_copies > 0 && refused_shrinks > 0);
-    CHECK(cuts() > 0);
+    CHECK(cuts(false) > 0 && cuts(true) > 0);
     pages();
     printf("refused: %d new, %d updates, %d builds, %d reserves\nok\n", refused_new, refused_update, refused_builds, refused_reserves);
     return 0;

@@ -104,6 +104,12 @@ Tokens cut_cheapest(const dictionary &d, std::string_view text, std::uint32_t un
     return found;
 }
 
+Tokens cut_by(const dictionary &d, std::string_view text, const roskvidh::cut_costs &costs) {
+    Tokens found;
+    for (const roskvidh::token &one : d.cheapest_by(text, costs)) found.emplace_back(one.place, one.length, one.value);
+    return found;
+}
+
 void each_member(layout kind) {
     dictionary d(kind);
     CHECK(d.kind() == kind && d.is_open() && d.empty() && d.size() == 0 && listed(d.entries()).empty());
@@ -145,6 +151,14 @@ void each_member(layout kind) {
     CHECK(cut_cheapest(d, "network!", 3) == Tokens({{0, 7, 8}, {7, 1, std::nullopt}}) && cut_cheapest(d, "", 3).empty());
     CHECK(cut_cheapest(d, "net", 2) == Tokens({{0, 1, {}}, {1, 1, {}}, {2, 1, {}}}));
     CHECK(cut_cheapest(d, "\xE7\xBD\x91", 2, true) == cut_cheapest(d, "\xE7\xBD\x91", 2));
+    roskvidh::cut_costs costs;
+    CHECK(cut_by(d, "", costs).empty() && cut_by(d, "ab", costs) == Tokens({{0, 1, {}}, {1, 1, {}}}));
+    costs.keys = {0, 0, 0, 0, 0, 0, 0, 5, 1};
+    costs.kinds = {{'a', 'z', 0}};
+    costs.unknown = 3;
+    CHECK(cut_by(d, "netnetwork!!", costs) == Tokens({{0, 10, {}}, {10, 1, {}}, {11, 1, {}}}));
+    costs.beside_keys = false;
+    CHECK(cut_by(d, "netnetwork!!", costs) == Tokens({{0, 3, 7}, {3, 7, 8}, {10, 1, {}}, {11, 1, {}}}));
     const roskvidh::statistics figures = d.statistics();
     CHECK(figures.keys == 4 && figures.used_slots == (kind == layout::standard ? 1 + 9 + 4 : 1 + 9 + 1));
     CHECK(figures.capacity == 512 && figures.spare_blocks == 0);
@@ -249,6 +263,7 @@ void refusals(layout kind) {
     lacks_memory([&] { (void)d.clone(); });
     lacks_memory([&] { d.shrink_to_fit(); });
     lacks_memory([&] { (void)d.cheapest("held", 1); });
+    lacks_memory([&] { (void)d.cheapest_by("held", {}); });
     left = 0; // a range takes no memory of the library's
     CHECK(listed(d.entries()) == Pairs({{"held", 1}}));
     left = -1;

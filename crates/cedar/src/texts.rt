@@ -26,6 +26,7 @@ Lines, where K is a key in hexadecimal digits, . the empty one, and V a value:
   = K    look K up: its value and its length in bytes, or none
   < K    list the keys that K begins with: V:N each, the value and the position of the last byte, or none
   > K    list the keys that begin with K: V:N each, the value and how many bytes follow K, or none
+  ? K    count the keys that begin with K: how many they are
   *      list all keys: a line K V each, and then end
   #      count: how many keys and how many slots are held
   / K    cut K into tokens: S:L:V each, the position, the length and the value or -, or none

@@ -3,7 +3,7 @@ use Rattle.std.proofs.Common.{◌≡◌, ℕ, List, [], ◌∷◌, Option, None,
 use Rattle.std.specs.Prelude.{ℤ}
 use Rattle.cedarwood.specs.Tree.{empty_tree, number_at}
 use Rattle.cedar_c.specs.Content.{content_tree}
-use Rattle.cedar_c.specs.declared.any.AnyCedar.{AnyCedar}
+use Rattle.either_layout.specs.declared.any.AnyCedar.{AnyCedar}
 
 empty : (key : List ℕ) → ◌≡◌ {A = Option ℤ} (number_at empty_tree key) None
 empty [] = refl

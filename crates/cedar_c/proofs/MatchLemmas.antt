@@ -13,7 +13,7 @@ use Rattle.cedarwood.proofs.TreeLemmas.{number_at-empty}
 use Rattle.cedarwood.proofs.FrontFromLemmas.{front_begins, front_short}
 use Rattle.cedarwood.specs.Ranges.{longest_front}
 use Rattle.cedar_c.specs.Content.{content_tree}
-use Rattle.cedar_c.specs.declared.any.AnyCedar.{AnyCedar}
+use Rattle.either_layout.specs.declared.any.AnyCedar.{AnyCedar}
 use Rattle.cedar_c.specs.declared.walks.Match.{Match}
 use Rattle.cedar_c.specs.Matches.{filled_matches, match_of}
 use Rattle.cedar_c.proofs.ClosedLemmas.{closed_is_empty}

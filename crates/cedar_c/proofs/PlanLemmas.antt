@@ -20,9 +20,9 @@ use Rattle.cedar_store.proofs.Payloads.{one_change}
 use Rattle.cedar_store.proofs.States.{either, state_added}
 use Rattle.cedarwood.specs.State.{State, new_state, after_put}
 use Rattle.cedar_c.specs.Changes.{IsRecord}
-use Rattle.cedar_c.specs.Layouts.{dictionary_in}
+use Rattle.cedar_c.specs.Layouts.{inner_dictionary}
 use Rattle.cedar_c.specs.Plans.{IsChangePlan, IsOpening}
-use Rattle.cedar_c.specs.declared.any.AnyCedar.{AnyCedar}
+use Rattle.either_layout.specs.declared.any.AnyCedar.{AnyCedar}
 
 -- what a payload's one change makes of a state
 pub makes : (payload : List ℕ) (change : Change) (s : State) → change_of payload ≡ Some change → after s payload ≡ Some (after_change s change)
@@ -66,8 +66,8 @@ planned_by change f end n size to buffer plan s r works far =
     (ap (λ (b : List ℕ). works_of b plan) r.written ∙ works f r.payload r.rest (omega (arith, r.size_is, r.long))) (omega (arith, far, r.size_is, r.long))
 
 -- what a handle has that was opened just now
-pub opened_has : (P : State → Type 0) (o : Option AnyCedar) (a : AnyCedar) → o ≡ Some a → P (dictionary_in a).state → IfSome (option_map (λ b. (dictionary_in b).state) o) P
-opened_has P o a is has = subst (λ (x : Option AnyCedar). IfSome (option_map (λ b. (dictionary_in b).state) x) P) (sym is) has
+pub opened_has : (P : State → Type 0) (o : Option AnyCedar) (a : AnyCedar) → o ≡ Some a → P (inner_dictionary a).state → IfSome (option_map (λ b. (inner_dictionary b).state) o) P
+opened_has P o a is has = subst (λ (x : Option AnyCedar). IfSome (option_map (λ b. (inner_dictionary b).state) x) P) (sym is) has
 
 -- the plan of a put, whose value a word of the machine held meanwhile
 pub put_planned : (key : List ℕ) (w v : ℤ) (f : Format) (end n size to : ℕ) (buffer : List ℕ) (plan : Plan) (s : State)

@@ -16,9 +16,9 @@ use denote.Moves.{moves_from}
 use denote.RawPtr.{Ptr}
 use denote.Sharing.{ShrLaws}
 use denote.Struct.Lending.{lent_at, lent_at_shr_laws}
-use Rattle.cedar_c.specs.declared.any.AnyCedar.{AnyCedar}
+use Rattle.either_layout.specs.declared.any.AnyCedar.{AnyCedar}
 use Rattle.cedar_c.specs.Ownership.{cedar_row, shown_owns}
-use Rattle.cedar_c.proofs.any.AnyCedar.TheLaws.{the_row_laws}
+use Rattle.either_layout.proofs.any.AnyCedar.TheLaws.{the_row_laws}
 
 module _ {M : Type 1} {𝓤 : Ura M} (𝓛 : Logic 𝓤) (p : Ptr) (d : AnyCedar) (κ : Lft) (q : Share) where
   open 𝓛 use {H, A}

@@ -11,8 +11,8 @@ use Rattle.cedar_walk.specs.declared.visits.Numbered.{Numbered}
 use Rattle.cedar_walk.specs.Ranges.{entries_with}
 use Rattle.cedar_c.specs.Entries.{bytes_lacking, CanGoOnBehind, entries_behind_key}
 use Rattle.cedar_c.specs.Entries.{WritesNothing, WritesPage}
-use Rattle.cedar_c.specs.Layouts.{dictionary_in}
-use Rattle.cedar_c.specs.declared.any.AnyCedar.{AnyCedar}
+use Rattle.cedar_c.specs.Layouts.{inner_dictionary}
+use Rattle.either_layout.specs.declared.any.AnyCedar.{AnyCedar}
 use Rattle.cedar_c.specs.declared.scans.Found.{Found}
 use Rattle.cedar_c.specs.declared.status.TheConstants.{MEMORY, OK, NO_ROOM, NOT_ASCENDING}
 
@@ -68,4 +68,4 @@ pub record TellsBelow (s : State) (prefix behind : List ℕ) (found told : List 
 -- the same as `TellsBelow` of a dictionary of either layout
 abbrev pub PageBelow : List ℕ → List ℕ → List Found → List Found → List ℕ → List ℕ → ℕ → ℕ → ℕ → ℕ → ℕ → AnyCedar → Type 0
 PageBelow prefix behind found told bytes written count counted needed wanted status a =
-    TellsBelow (dictionary_in a).state prefix behind found told bytes written count counted needed wanted status
+    TellsBelow (inner_dictionary a).state prefix behind found told bytes written count counted needed wanted status

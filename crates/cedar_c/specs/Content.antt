@@ -5,8 +5,8 @@ use Rattle.cedarwood.specs.Dictionary.{Dictionary}
 use Rattle.cedarwood.specs.Erasures.{IsErasedUnder}
 use Rattle.cedarwood.specs.State.{State}
 use Rattle.cedarwood.specs.Tree.{Tree, empty_tree}
-use Rattle.cedar_c.specs.Layouts.{dictionary_in, layout_of}
-use Rattle.cedar_c.specs.declared.any.AnyCedar.{AnyCedar}
+use Rattle.cedar_c.specs.Layouts.{inner_dictionary, inner_layout}
+use Rattle.either_layout.specs.declared.any.AnyCedar.{AnyCedar}
 use Rattle.cedar_c.specs.declared.handle.Handle.{Handle}
 
 -- the dictionary that a handle has, of either layout, or none if it is closed
@@ -15,28 +15,28 @@ content h = h.held.value
 
 -- the layout of a handle's dictionary, if it is open
 abbrev pub layout_in : Handle → Option LayoutKind
-layout_in h = option_map layout_of (content h)
+layout_in h = option_map inner_layout (content h)
 
 -- the state of a handle's dictionary, if it is open
 abbrev pub state_in : Handle → Option State
-state_in h = option_map (λ a. (dictionary_in a).state) (content h)
+state_in h = option_map (λ a. (inner_dictionary a).state) (content h)
 
 -- the tree of marks of a handle's dictionary, if it is open
 abbrev pub marks_in : Handle → Option Tree
-marks_in h = option_map (λ a. (dictionary_in a).marked) (content h)
+marks_in h = option_map (λ a. (inner_dictionary a).marked) (content h)
 
 -- how many failed searches close a block of a handle's dictionary, if it is open
 abbrev pub trials_in : Handle → Option ℤ
-trials_in h = option_map (λ a. (dictionary_in a).max_trial) (content h)
+trials_in h = option_map (λ a. (inner_dictionary a).max_trial) (content h)
 
 -- how many blocks one search for places in a handle's dictionary tries at most, if it is open
 abbrev pub search_limit_in : Handle → Option ℕ
-search_limit_in h = option_map (λ a. (dictionary_in a).search_limit) (content h)
+search_limit_in h = option_map (λ a. (inner_dictionary a).search_limit) (content h)
 
 -- the tree of what a handle has: the empty tree if it is closed
 abbrev pub content_tree : Option AnyCedar → Tree
 content_tree None = empty_tree
-content_tree (Some a) = (dictionary_in a).state.tree
+content_tree (Some a) = (inner_dictionary a).state.tree
 
 -- the tree that a handle's results come from: the empty tree if it is closed
 abbrev pub tree_in : Handle → Tree
@@ -45,7 +45,7 @@ tree_in h = content_tree (content h)
 -- a figure of what a handle has: 0 if it is closed
 abbrev pub content_figure : (Dictionary → ℕ) → Option AnyCedar → ℕ
 content_figure f None = 0
-content_figure f (Some a) = f (dictionary_in a)
+content_figure f (Some a) = f (inner_dictionary a)
 
 -- a figure of a handle: 0 if it is closed
 abbrev pub figure_of : (Dictionary → ℕ) → Handle → ℕ
@@ -61,7 +61,7 @@ capacity_in = figure_of (λ d. d.capacity)
 
 -- all keys that begin with a prefix are erased, and `count` is how many these were
 abbrev pub ErasesUnder : List ℕ → ℕ → AnyCedar → AnyCedar → Type 0
-ErasesUnder prefix count a b = IsErasedUnder (dictionary_in a) (dictionary_in b) prefix count
+ErasesUnder prefix count a b = IsErasedUnder (inner_dictionary a) (inner_dictionary b) prefix count
 
 -- a handle that is open stays open, and its dictionaries before and after are related by P
 abbrev pub ChangesBy : (AnyCedar → AnyCedar → Type 0) → Handle → Handle → Type 0

@@ -12,9 +12,9 @@ use Rattle.cedarwood.specs.Tree.{Tree}
 use Rattle.cedar_walk.specs.declared.visits.Numbered.{Numbered}
 use Rattle.cedar_walk.specs.Ranges.{entries_with}
 use Rattle.cedar_walk.specs.Visits.{path_to}
-use Rattle.cedar_c.specs.Layouts.{dictionary_in}
+use Rattle.cedar_c.specs.Layouts.{inner_dictionary}
 use Rattle.cedar_c.specs.Pairs.{keys_in}
-use Rattle.cedar_c.specs.declared.any.AnyCedar.{AnyCedar}
+use Rattle.either_layout.specs.declared.any.AnyCedar.{AnyCedar}
 use Rattle.cedar_c.specs.declared.scans.Found.{Found}
 use Rattle.cedar_c.specs.declared.status.TheConstants.{OK, NO_ROOM, NOT_ASCENDING}
 
@@ -88,4 +88,4 @@ pub record TellsEntries (s : State) (prefix behind : List ℕ) (found told : Lis
 -- the same as `TellsEntries` of a dictionary of either layout
 abbrev pub PageOf : List ℕ → List ℕ → List Found → List Found → List ℕ → List ℕ → ℕ → ℕ → ℕ → ℕ → ℕ → AnyCedar → Type 0
 PageOf prefix behind found told bytes written count counted needed wanted status a =
-    TellsEntries (dictionary_in a).state prefix behind found told bytes written count counted needed wanted status
+    TellsEntries (inner_dictionary a).state prefix behind found told bytes written count counted needed wanted status

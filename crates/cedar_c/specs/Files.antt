@@ -1,13 +1,12 @@
 -- What a file's bytes are of, and the numbers that are returned for a refused one.
-use Rattle.std.specs.Prelude.{◌≡◌, ◌⊎◌, ℕ, Bool, true, false, ◌==◌, List, [], ◌∷◌}
-use Rattle.std.specs.Prelude.{slice_get, take, None, Option, Some}
-use Rattle.cedarwood.specs.Layouts.{LayoutKind}
+use Rattle.std.specs.Prelude.{◌≡◌, ◌⊎◌, ℕ, Bool, true, false, List, [], ◌∷◌, take, Option}
 use Rattle.cedarwood.specs.TableFields.{Fields}
 use Rattle.cedarwood.specs.Format.{header_at, header_refusal, size_refusal}
 use Rattle.cedarwood.specs.Tables.{IsTableFile, table_bytes}
 use Rattle.cedarwood.specs.Limits.{most_slots}
-use Rattle.cedar_c.specs.Layouts.{dictionary_in, layout_if}
-use Rattle.cedar_c.specs.declared.any.AnyCedar.{AnyCedar}
+use Rattle.cedar_c.specs.Layouts.{inner_dictionary}
+pub use Rattle.either_layout.specs.Loads.{file_layout, names_reduced_layout}
+use Rattle.either_layout.specs.declared.any.AnyCedar.{AnyCedar}
 use Rattle.cedar_c.specs.declared.status.TheConstants.{MEMORY, FILE_TRUNCATED, FILE_MAGIC}
 use Rattle.cedar_c.specs.declared.status.TheConstants.{FILE_VERSION, FILE_BYTE_ORDER, FILE_LAYOUT}
 use Rattle.cedar_c.specs.declared.status.TheConstants.{FILE_HEADER, FILE_MEMORY_LIMIT, FILE_CORRUPT}
@@ -16,15 +15,6 @@ use Rattle.cedarwood.specs.Refusal.{Refusal, first_refusal, Truncated, InvalidMa
 use Rattle.cedarwood.specs.Refusal.{UnsupportedVersion, UnsupportedByteOrder, LayoutMismatch}
 use Rattle.cedarwood.specs.Refusal.{InvalidHeader, AllocationLimitExceeded, AllocationFailed}
 use Rattle.cedarwood.specs.Refusal.{CorruptData, TrailingData, Failed}
-
--- whether the byte of the layout is there in a file, and names the reduced one
-abbrev pub is_reduced_byte : Option ℕ → Bool
-is_reduced_byte None = false
-is_reduced_byte (Some byte) = byte == 1
-
--- the layout that a file names: the default one, unless its byte names the reduced one
-abbrev pub layout_named : List ℕ → LayoutKind
-layout_named bytes = layout_if (is_reduced_byte (slice_get bytes 13))
 
 -- the bytes are those of the well-formed table T, in a version that is read
 abbrev pub IsFileOf : Fields → List ℕ → Type 0
@@ -76,4 +66,4 @@ minor_of false = 1
 
 -- the bytes of a dictionary's file, in the version that a save writes (`minor_of`)
 abbrev pub file_in : Bool → AnyCedar → List ℕ
-file_in is_full a = table_bytes (minor_of is_full) (dictionary_in a).table
+file_in is_full a = table_bytes (minor_of is_full) (inner_dictionary a).table

@@ -3,7 +3,7 @@ use Rattle.std.specs.Prelude.{Some}
 use Rattle.std.specs.Borrow.{Lends, MutBor, Fml}
 use Rattle.cedar_c.specs.Ownership.{cedar_row}
 use Rattle.cedar_c.specs.contracts.held.Held.{the_row}
-use Rattle.cedar_c.specs.declared.any.AnyCedar.{AnyCedar}
+use Rattle.either_layout.specs.declared.any.AnyCedar.{AnyCedar}
 use Rattle.cedar_c.specs.declared.held.Held.{Held}
 use Rattle.cedar_c.specs.declared.shown.Shown.{Shown}
 use Rattle.cedar_c.specs.declared.shown.Seen.{Seen}

@@ -1,5 +1,6 @@
 pub mod Below
 pub mod Best
+pub mod BestCuts
 pub mod Changes
 pub mod Content
 pub mod Cuts

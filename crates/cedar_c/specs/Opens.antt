@@ -8,10 +8,10 @@ use Rattle.cedarwood.specs.Limits.{most_slots}
 use Rattle.cedarwood.specs.declared.builder.CedarBuilder.{CedarBuilder}
 use Rattle.cedar_c.specs.Content.{content, layout_in}
 use Rattle.cedar_c.specs.Files.{early_refusal, file_status, IsFileOf, IsOfNoTable, TellsHeader}
-use Rattle.cedar_c.specs.Layouts.{dictionary_in, layout_of}
+use Rattle.cedar_c.specs.Layouts.{inner_dictionary, inner_layout}
 use Rattle.cedar_c.specs.Pairs.{MayWantSlots, build_fault, entries_in}
 use Rattle.cedar_c.specs.Status.{TellsFault, TellsPosition}
-use Rattle.cedar_c.specs.declared.any.AnyCedar.{AnyCedar}
+use Rattle.either_layout.specs.declared.any.AnyCedar.{AnyCedar}
 use Rattle.cedar_c.specs.declared.handle.Handle.{Handle}
 use Rattle.cedar_c.specs.declared.pairs.Pair.{Pair}
 use Rattle.cedar_c.specs.declared.status.TheConstants.{OK, MEMORY, SLOT_LIMIT, INVALID_MAX_TRIAL}
@@ -21,7 +21,7 @@ use Rattle.cedar_c.specs.declared.status.TheConstants.{FILE_CORRUPT, FILE_UNREAD
 -- settings, in which nothing bounds a search; else it has what it had
 pub record OpensNew (kind : LayoutKind) (ordered : Bool) (trials : ℤ) (before after : Handle) (status : ℕ) : Type 0 where
   pub made : status ≡ OK → (settings : CedarBuilder) × (settings.ordered ≡ ordered) × (settings.max_trial ≡ trials) × (settings.search_limit ≡ no_search_limit)
-      × ((a : AnyCedar) × (content after ≡ Some a) × IsEmpty settings (dictionary_in a))
+      × ((a : AnyCedar) × (content after ≡ Some a) × IsEmpty settings (inner_dictionary a))
   pub layout : status ≡ OK → layout_in after ≡ Some kind
   -- a number of trials below 1 is refused, and no other one
   pub invalid : (status ≡ INVALID_MAX_TRIAL) ↔ (trials <ℤ pos 1)
@@ -31,7 +31,7 @@ pub record OpensNew (kind : LayoutKind) (ordered : Bool) (trials : ℤ) (before 
 -- returned, the handle has it; else it has what it had. `found` and `told` are the position before and after
 pub record OpensBuilt (kind : LayoutKind) (is_sorted ordered : Bool) (trials : ℤ) (pairs : List Pair) (before after : Handle) (found told status : ℕ) : Type 0 where
   pub made : status ≡ OK → (settings : CedarBuilder) × (settings.ordered ≡ ordered) × (settings.max_trial ≡ trials) × (settings.search_limit ≡ no_search_limit)
-      × ((a : AnyCedar) × (content after ≡ Some a) × IsSorted (layout_of a) settings (entries_in pairs) (dictionary_in a))
+      × ((a : AnyCedar) × (content after ≡ Some a) × IsSorted (inner_layout a) settings (entries_in pairs) (inner_dictionary a))
   pub layout : status ≡ OK → layout_in after ≡ Some kind
   pub invalid : trials <ℤ pos 1 → status ≡ INVALID_MAX_TRIAL
   -- the first fault of the pairs is returned, unless memory was wanted before it was found
@@ -46,8 +46,8 @@ pub record OpensBuilt (kind : LayoutKind) (is_sorted ordered : Bool) (trials : �
 -- a call that opens a handle with the dictionary that a file's bytes are of. If OK is returned, the handle has it;
 -- else it has what it had
 pub record OpensLoaded (kind : LayoutKind) (limit : ℕ) (bytes : List ℕ) (before after : Handle) (status : ℕ) : Type 0 where
-  pub loaded : status ≡ OK → (a : AnyCedar) × (content after ≡ Some a) × IsFileOf (dictionary_in a).table bytes
-  pub stands : status ≡ OK → (a : AnyCedar) × (content after ≡ Some a) × IsOnTable most_slots (dictionary_in a)
+  pub loaded : status ≡ OK → (a : AnyCedar) × (content after ≡ Some a) × IsFileOf (inner_dictionary a).table bytes
+  pub stands : status ≡ OK → (a : AnyCedar) × (content after ≡ Some a) × IsOnTable most_slots (inner_dictionary a)
   pub layout : status ≡ OK → layout_in after ≡ Some kind
   pub refused : (status ≡ OK) ⊎ (content after ≡ content before)
   -- if the header is refused, the number of that refusal is returned, or that of want of memory

@@ -10,8 +10,8 @@ use Rattle.std.specs.Box.Ownership.{box_owns}
 use mir.Syntax.{Ty}
 use Rattle.std.specs.declared.alloc.Global.{Global}
 use Rattle.std.specs.contracts.impls.GlobalAllocator.TheImpl as global_allocator
-use Rattle.cedar_c.specs.contracts.any.AnyCedar.{the_row}
-use Rattle.cedar_c.specs.declared.any.AnyCedar.{AnyCedar}
+use Rattle.either_layout.specs.contracts.any.AnyCedar.{the_row}
+use Rattle.either_layout.specs.declared.any.AnyCedar.{AnyCedar}
 
 -- the type of a dictionary of either layout
 abbrev pub cedar_row : RattleType

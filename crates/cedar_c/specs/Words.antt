@@ -9,6 +9,8 @@ pub use Rattle.cedar_c.specs.Below.{TellsNext}
 pub use Rattle.cedar_c.specs.Best.{best_below, bound_if, entries_onwards, entries_upto}
 pub use Rattle.cedar_c.specs.Best.{LacksRoomForKeys, order_if, TellsEntry, TellsNeighbour}
 pub use Rattle.cedar_c.specs.Best.{WritesEntries}
+pub use Rattle.cedar_c.specs.BestCuts.{are_of_one_kind, is_same_kind, kind_in, kind_run}
+pub use Rattle.cedar_c.specs.BestCuts.{LacksRoomForBestCut, WritesBestCut}
 pub use Rattle.cedar_c.specs.Changes.{IsRecord}
 pub use Rattle.cedar_c.specs.Content.{capacity_in, ChangesBy, content, ErasesUnder}
 pub use Rattle.cedar_c.specs.Content.{layout_in, marks_in, search_limit_in, size_in}
@@ -18,11 +20,11 @@ pub use Rattle.cedar_c.specs.Entries.{bytes_lacking, CanGoOnBehind, EndsPage}
 pub use Rattle.cedar_c.specs.Entries.{entries_behind_key, PageOf, spots_of}
 pub use Rattle.cedar_c.specs.Entries.{TellsEntries, TellsPage, visited_key, WritesNothing}
 pub use Rattle.cedar_c.specs.Entries.{WritesPage}
-pub use Rattle.cedar_c.specs.Files.{early_refusal, file_in, file_status, is_reduced_byte}
-pub use Rattle.cedar_c.specs.Files.{IsFileOf, LacksOrCorrupt, TellsNoTable}
-pub use Rattle.cedar_c.specs.Files.{layout_named, minor_of, TellsHeader, TellsJust}
+pub use Rattle.cedar_c.specs.Files.{early_refusal, file_in, file_layout, file_status, IsFileOf}
+pub use Rattle.cedar_c.specs.Files.{LacksOrCorrupt, minor_of, names_reduced_layout, TellsHeader}
+pub use Rattle.cedar_c.specs.Files.{TellsJust, TellsNoTable}
 pub use Rattle.cedar_c.specs.Groups.{AddsChange, group_head, group_records, IsGroup, LacksGroup}
-pub use Rattle.cedar_c.specs.Layouts.{dictionary_in, HasToGrow, layout_if, layout_of}
+pub use Rattle.cedar_c.specs.Layouts.{HasToGrow, inner_dictionary, inner_layout, layout_for}
 pub use Rattle.cedar_c.specs.Lending.{as_shown, LendsCedar, LendsSeen}
 pub use Rattle.cedar_c.specs.Matches.{all_longer, filled_from, filled_matches, Fit, front_keys}
 pub use Rattle.cedar_c.specs.Matches.{longer, match_of, predicted_keys}
@@ -42,7 +44,7 @@ pub use Rattle.cedar_c.specs.Status.{position_of, status_of, status_text}
 pub use Rattle.cedar_c.specs.Status.{TellsFault, TellsPosition}
 pub use Rattle.cedar_c.specs.Stores.{HoldsFront, HoldsPart, RefusesAll}
 pub use Rattle.cedar_c.specs.Updates.{KeepsSlots, StoresValue}
-pub use Rattle.cedar_c.specs.declared.any.AnyCedar.{AnyCedar}
+pub use Rattle.either_layout.specs.declared.any.AnyCedar.{AnyCedar}
 pub use Rattle.cedarwood.specs.Format.{header_answer}
 pub use Rattle.cedarwood.specs.Refusal.{refusal_of}
 pub use Rattle.cedarwood.specs.Tables.{IsTableFile, table_bytes}
@@ -67,9 +69,11 @@ pub use Rattle.cedarwood.specs.Builds.{all_stored, first_fault, outcome}
 pub use Rattle.cedarwood.specs.Dictionary.{capacity_after}
 pub use Rattle.cedarwood.specs.Fault.{fault, IsShortage}
 pub use Rattle.cedarwood.specs.OnTable.{IsOnTable}
+pub use Rattle.cedar_words.specs.Runs.{cost_in_table}
+pub use Rattle.cedar_words.specs.Words.{IsBestCut}
 pub use Rattle.cedarwood.specs.Queries.{front, predict}
 pub use Rattle.cedarwood.specs.RangeWalks.{entries_left, IsRangePlace}
-pub use Rattle.cedarwood.specs.Ranges.{longest_front}
+pub use Rattle.cedarwood.specs.Ranges.{entries_with, longest_front}
 pub use Rattle.cedarwood.specs.Room.{LacksRoom, SetsSearchLimit}
 pub use Rattle.cedarwood.specs.Shrinking.{IsShrunk}
 pub use Rattle.cedarwood.specs.State.{after_erase, after_put}

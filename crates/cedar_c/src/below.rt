@@ -10,13 +10,13 @@ ghost use Rattle.cedar_c.specs.Words.{prefixed_behind, shown_in};
 ghost use Rattle.cedar_c.specs.Words.{slice_cmp, starts_with, TellsBelow, TellsNext, tree_of};
 ghost use Rattle.cedar_c.specs.Words.{WritesNothing};
 
-use crate::any::AnyCedar;
 use crate::entries::{is_ordered, key_length, lack, write_key, write_page};
 use crate::reading::Reading;
 use crate::scans::Found;
 use crate::status::{CLOSED, MEMORY, NO_ROOM, NOT_ASCENDING, OK};
 use cedar_walk::Numbered;
 use cedarwood::{Layout, Trie, Walked};
+use either_layout::{AnyCedar, on_layout};
 use std::alloc::{AllocError, Global};
 
 /// Whether the key of a node, for which a buffer has just the room, begins with a prefix. It is written there.
@@ -233,28 +233,20 @@ fn page_below<L: Layout, const SLOTS: usize>(
     }
 }
 
-impl AnyCedar {
-    fn entries_below(
-        &self,
-        alloc: Global,
-        prefix: &[u8],
-        behind: &[u8],
-        found: &mut [Found],
-        keys: &mut [u8],
-        count: &mut usize,
-        needed: &mut usize,
-    ) -> u32
-        ensures { PageBelow prefix.now behind.now found.old found.new keys.old keys.new count.old count.new needed.old needed.new result self.now }
-    {
-        match self {
-            AnyCedar::Default(cedar) => {
-                page_below(cedar, alloc, prefix, behind, found, keys, count, needed)
-            }
-            AnyCedar::Reduced(cedar) => {
-                page_below(cedar, alloc, prefix, behind, found, keys, count, needed)
-            }
-        }
-    }
+/// `page_below` of a dictionary of either layout.
+fn entries_below(
+    cedar: &AnyCedar,
+    alloc: Global,
+    prefix: &[u8],
+    behind: &[u8],
+    found: &mut [Found],
+    keys: &mut [u8],
+    count: &mut usize,
+    needed: &mut usize,
+) -> u32
+    ensures { PageBelow prefix.now behind.now found.old found.new keys.old keys.new count.old count.new needed.old needed.new result cedar.now }
+{
+    on_layout!(cedar, cedar => page_below(cedar, alloc, prefix, behind, found, keys, count, needed))
 }
 
 /// Writes a page of the entries below a prefix, behind a key: those whose keys begin with the prefix and come after `behind`, in iteration
@@ -294,9 +286,14 @@ pub extern "C" fn cedar_entries_below(
     if !handle.is_open() {
         return CLOSED;
     }
-    handle
-        .shown
-        .see()
-        .dictionary()
-        .entries_below(alloc, prefix, behind, found, keys, count, needed)
+    entries_below(
+        handle.shown.see().dictionary(),
+        alloc,
+        prefix,
+        behind,
+        found,
+        keys,
+        count,
+        needed,
+    )
 }

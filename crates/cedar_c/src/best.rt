@@ -2,17 +2,17 @@
 
 ghost use Rattle.std.specs.Prelude.{◌++◌, ◌<◌, ◌^◌, ◌↔◌, ◌≡◌, ◌≤◌, ◌⊎◌, drop, IfSome, length};
 ghost use Rattle.std.specs.Prelude.{map, None};
-ghost use Rattle.cedar_c.specs.Words.{best_below, dictionary_in, found_entry, keys_in};
+ghost use Rattle.cedar_c.specs.Words.{best_below, found_entry, inner_dictionary, keys_in};
 ghost use Rattle.cedar_c.specs.Words.{LacksRoomForKeys, order_if, shown_in, shown_tree, spots_of};
 ghost use Rattle.cedar_c.specs.Words.{WritesEntries, WritesNothing};
 
-use crate::any::AnyCedar;
 use crate::reading::Reading;
 use crate::save::copy_whole;
 use crate::scans::Found;
 use crate::status::{CLOSED, MEMORY, NO_ROOM, OK};
 use cedar_complete::{ByValue, best_with_prefix};
 use cedarwood::{Layout, Trie};
+use either_layout::{AnyCedar, on_layout};
 use std::alloc::Global;
 
 /// The bytes of the keys of some entries, one key after another, or `None` if an allocation is refused.
@@ -94,21 +94,17 @@ fn best_of<L: Layout, const SLOTS: usize>(
     best_with_prefix(alloc, trie, prefix, most, order_if(lowest_first)).ok()
 }
 
-impl AnyCedar {
-    fn best(
-        &self,
-        alloc: Global,
-        prefix: &[u8],
-        lowest_first: bool,
-        most: usize,
-    ) -> Option<Vec<(i32, Vec<u8, Global>), Global>>
-        ensures { IfSome result (λ found. map found_entry found.items ≡ best_below (dictionary_in self.now).state.tree prefix.now lowest_first most) }
-    {
-        match self {
-            AnyCedar::Default(cedar) => best_of(cedar, alloc, prefix, lowest_first, most),
-            AnyCedar::Reduced(cedar) => best_of(cedar, alloc, prefix, lowest_first, most),
-        }
-    }
+/// `best_of` a dictionary of either layout.
+fn best_entries(
+    cedar: &AnyCedar,
+    alloc: Global,
+    prefix: &[u8],
+    lowest_first: bool,
+    most: usize,
+) -> Option<Vec<(i32, Vec<u8, Global>), Global>>
+    ensures { IfSome result (λ found. map found_entry found.items ≡ best_below (inner_dictionary cedar.now).state.tree prefix.now lowest_first most) }
+{
+    on_layout!(cedar, cedar => best_of(cedar, alloc, prefix, lowest_first, most))
 }
 
 /// Writes the best of the entries whose keys begin with a prefix, in their order, as many as there are elements at the most: by value, the
@@ -148,11 +144,13 @@ pub extern "C" fn cedar_best(
     if !handle.is_open() {
         return CLOSED;
     }
-    let best = handle
-        .shown
-        .see()
-        .dictionary()
-        .best(alloc, prefix, lowest_first, found.len());
+    let best = best_entries(
+        handle.shown.see().dictionary(),
+        alloc,
+        prefix,
+        lowest_first,
+        found.len(),
+    );
     match best {
         Some(entries) => tell_entries(entries.as_slice(), alloc, found, keys, count, needed),
         None => MEMORY,

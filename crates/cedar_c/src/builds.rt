@@ -3,16 +3,16 @@
 ghost use Rattle.std.specs.Prelude.{◌*◌, ◌≡◌, ◌≤◌, ◌⊎◌, Err, false, IfErr, IfOk, IfSome};
 ghost use Rattle.std.specs.Prelude.{length, None, Some, true};
 ghost use Rattle.cedar_c.specs.Words.{AnyCedar, asc, build_fault, content, default_layout};
-ghost use Rattle.cedar_c.specs.Words.{dictionary_in, entries_in, entries_of, IsSlotLimit, IsSorted};
-ghost use Rattle.cedar_c.specs.Words.{layout_if, layout_in, layout_of, MayWantSlots, most_slots};
+ghost use Rattle.cedar_c.specs.Words.{entries_in, entries_of, inner_dictionary, inner_layout};
+ghost use Rattle.cedar_c.specs.Words.{IsSorted, layout_for, layout_in, MayWantSlots, most_slots};
 ghost use Rattle.cedar_c.specs.Words.{OpensBuilt, prefixes, reduced_layout, TellsFault};
 ghost use Rattle.cedar_c.specs.Words.{TellsPosition};
 
-use crate::any::AnyCedar;
 use crate::handle::Handle;
 use crate::pairs::{Pair, take_pairs};
 use crate::status::{INVALID_MAX_TRIAL, MEMORY, OK, SLOT_LIMIT, tell};
-use cedarwood::{CedarBuilder, CedarError, Layout, Trie};
+use cedarwood::{CedarBuilder, CedarError};
+use either_layout::AnyCedar;
 use std::alloc::Global;
 
 /// Which dictionary a build makes: of which layout, and of pairs that come sorted or in any order.
@@ -22,64 +22,40 @@ struct Wanted {
     is_sorted: bool,
 }
 
-/// A dictionary of some pairs with these settings, which come sorted or in any order.
-fn build_taken<L: Layout, const SLOTS: usize>(
+/// A dictionary of some pairs with these settings.
+fn build_taken(
     alloc: Global,
-    is_sorted: bool,
+    wanted: Wanted,
     settings: CedarBuilder,
     pairs: &[(&[u8], i32)],
-) -> Result<Trie<L, SLOTS, Global>, CedarError>
-    requires limit { IsSlotLimit SLOTS }
-    ensures faulty { IfSome (build_fault is_sorted (entries_of pairs.now)) (λ e. result ≡ Err e) }
-    ensures made { IfOk result (IsSorted L.kind settings (entries_of pairs.now)) }
-    ensures refused { build_fault is_sorted (entries_of pairs.now) ≡ None
-        → IfErr result (λ e. (e ≡ CedarError.Memory) ⊎ ((e ≡ CedarError.SlotLimit) × (SLOTS ≤ 256 * length (prefixes (asc (entries_of pairs.now)))))) }
+) -> Result<AnyCedar, CedarError>
+    ensures faulty { IfSome (build_fault wanted.is_sorted (entries_of pairs.now)) (λ e. result ≡ Err e) }
+    ensures made { IfOk result (λ a. IsSorted (inner_layout a) settings (entries_of pairs.now) (inner_dictionary a)) }
+    ensures layout { IfOk result (λ a. inner_layout a ≡ layout_for wanted.is_reduced) }
+    ensures refused { build_fault wanted.is_sorted (entries_of pairs.now) ≡ None
+        → IfErr result (λ e. (e ≡ CedarError.Memory) ⊎ ((e ≡ CedarError.SlotLimit) × (most_slots ≤ 256 * length (prefixes (asc (entries_of pairs.now)))))) }
 {
-    if is_sorted {
-        return Trie::from_sorted_bytes_with(alloc, settings, pairs);
+    if wanted.is_sorted {
+        return AnyCedar::from_sorted_bytes(alloc, wanted.is_reduced, settings, pairs);
     }
-    Trie::from_pairs_bytes_with(alloc, settings, pairs)
+    AnyCedar::from_pairs_bytes(alloc, wanted.is_reduced, settings, pairs)
 }
 
 /// The same of C's pairs.
-fn make_of_pairs<L: Layout, const SLOTS: usize>(
+fn of_pairs(
     alloc: Global,
-    is_sorted: bool,
+    wanted: Wanted,
     settings: CedarBuilder,
     pairs: &[Pair<'_>],
-) -> Result<Trie<L, SLOTS, Global>, CedarError>
-    requires limit { IsSlotLimit SLOTS }
-    ensures faulty { IfSome (build_fault is_sorted (entries_in pairs.now)) (λ e. (result ≡ Err e) ⊎ (result ≡ Err CedarError.Memory)) }
-    ensures made { IfOk result (IsSorted L.kind settings (entries_in pairs.now)) }
-    ensures refused { build_fault is_sorted (entries_in pairs.now) ≡ None
-        → IfErr result (λ e. (e ≡ CedarError.Memory) ⊎ ((e ≡ CedarError.SlotLimit) × MayWantSlots SLOTS pairs.now)) }
+) -> Result<AnyCedar, CedarError>
+    ensures faulty { IfSome (build_fault wanted.is_sorted (entries_in pairs.now)) (λ e. (result ≡ Err e) ⊎ (result ≡ Err CedarError.Memory)) }
+    ensures made { IfOk result (λ a. IsSorted (inner_layout a) settings (entries_in pairs.now) (inner_dictionary a)) }
+    ensures layout { IfOk result (λ a. inner_layout a ≡ layout_for wanted.is_reduced) }
+    ensures refused { build_fault wanted.is_sorted (entries_in pairs.now) ≡ None → IfErr result (λ e. (e ≡ CedarError.Memory) ⊎ ((e ≡ CedarError.SlotLimit) × MayWantSlots most_slots pairs.now)) }
 {
     match take_pairs(alloc, pairs) {
-        Some(taken) => build_taken(alloc, is_sorted, settings, taken.as_slice()),
+        Some(taken) => build_taken(alloc, wanted, settings, taken.as_slice()),
         None => Err(CedarError::Memory),
-    }
-}
-
-impl AnyCedar {
-    /// A dictionary of some pairs with these settings.
-    #[tactic(auto, using(cedarwood::proofs::DictionaryLemmas::default_limit))]
-    fn of_pairs(
-        alloc: Global,
-        wanted: Wanted,
-        settings: CedarBuilder,
-        pairs: &[Pair<'_>],
-    ) -> Result<AnyCedar, CedarError>
-        ensures faulty { IfSome (build_fault wanted.is_sorted (entries_in pairs.now)) (λ e. (result ≡ Err e) ⊎ (result ≡ Err CedarError.Memory)) }
-        ensures made { IfOk result (λ a. IsSorted (layout_of a) settings (entries_in pairs.now) (dictionary_in a)) }
-        ensures layout { IfOk result (λ a. layout_of a ≡ layout_if wanted.is_reduced) }
-        ensures refused { build_fault wanted.is_sorted (entries_in pairs.now) ≡ None → IfErr result (λ e. (e ≡ CedarError.Memory) ⊎ ((e ≡ CedarError.SlotLimit) × MayWantSlots most_slots pairs.now)) }
-    {
-        if wanted.is_reduced {
-            let cedar = make_of_pairs(alloc, wanted.is_sorted, settings, pairs)?;
-            return Ok(AnyCedar::Reduced(cedar));
-        }
-        let cedar = make_of_pairs(alloc, wanted.is_sorted, settings, pairs)?;
-        Ok(AnyCedar::Default(cedar))
     }
 }
 
@@ -91,11 +67,11 @@ fn make_on_heap(
     pairs: &[Pair<'_>],
 ) -> Result<Box<AnyCedar, Global>, CedarError>
     ensures faulty { IfSome (build_fault wanted.is_sorted (entries_in pairs.now)) (λ e. (result ≡ Err e) ⊎ (result ≡ Err CedarError.Memory)) }
-    ensures made { IfOk result (λ b. IsSorted (layout_of b.value) settings (entries_in pairs.now) (dictionary_in b.value)) }
-    ensures layout { IfOk result (λ b. layout_of b.value ≡ layout_if wanted.is_reduced) }
+    ensures made { IfOk result (λ b. IsSorted (inner_layout b.value) settings (entries_in pairs.now) (inner_dictionary b.value)) }
+    ensures layout { IfOk result (λ b. inner_layout b.value ≡ layout_for wanted.is_reduced) }
     ensures refused { build_fault wanted.is_sorted (entries_in pairs.now) ≡ None → IfErr result (λ e. (e ≡ CedarError.Memory) ⊎ ((e ≡ CedarError.SlotLimit) × MayWantSlots most_slots pairs.now)) }
 {
-    let cedar = AnyCedar::of_pairs(alloc, wanted, settings, pairs)?;
+    let cedar = of_pairs(alloc, wanted, settings, pairs)?;
     match Box::new(alloc, cedar) {
         Ok(cedar) => Ok(cedar),
         Err(_) => Err(CedarError::Memory),
@@ -111,8 +87,8 @@ fn renew(
     pairs: &[Pair<'_>],
     position: &mut usize,
 ) -> u32
-    ensures made { result ≡ OK → (a : AnyCedar) × (content handle.new ≡ Some a) × IsSorted (layout_of a) settings (entries_in pairs.now) (dictionary_in a) }
-    ensures layout { result ≡ OK → layout_in handle.new ≡ Some (layout_if wanted.is_reduced) }
+    ensures made { result ≡ OK → (a : AnyCedar) × (content handle.new ≡ Some a) × IsSorted (inner_layout a) settings (entries_in pairs.now) (inner_dictionary a) }
+    ensures layout { result ≡ OK → layout_in handle.new ≡ Some (layout_for wanted.is_reduced) }
     ensures faulty { IfSome (build_fault wanted.is_sorted (entries_in pairs.now)) (TellsFault position.old position.new result) }
     ensures refused { build_fault wanted.is_sorted (entries_in pairs.now) ≡ None → (result ≡ OK) ⊎ (result ≡ MEMORY) ⊎ ((result ≡ SLOT_LIMIT) × MayWantSlots most_slots pairs.now) }
     ensures kept { (result ≡ OK) ⊎ (content handle.new ≡ content handle.old) }
@@ -138,7 +114,7 @@ fn renew_with(
     pairs: &[Pair<'_>],
     position: &mut usize,
 ) -> u32
-    ensures opens { OpensBuilt (layout_if wanted.is_reduced) wanted.is_sorted ordered max_trial pairs.now handle.old handle.new position.old position.new result }
+    ensures opens { OpensBuilt (layout_for wanted.is_reduced) wanted.is_sorted ordered max_trial pairs.now handle.old handle.new position.old position.new result }
 {
     match CedarBuilder::new().ordered(ordered).max_trial(max_trial) {
         Ok(settings) => renew(handle, alloc, wanted, settings, pairs, position),

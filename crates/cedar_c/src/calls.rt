@@ -3,32 +3,32 @@
 ghost use Rattle.std.specs.Prelude.{◌↔◌, ◌≡◌, ◌⊎◌, IfSome, IsSome, IsTrue};
 ghost use Rattle.std.specs.Prelude.{None, option_map, pos, Some, true};
 ghost use Rattle.cedar_c.specs.Words.{after_erase, AnyCedar, ChangesBy, content, default_layout};
-ghost use Rattle.cedar_c.specs.Words.{dictionary_in, ErasesUnder, IsCleared, IsEmpty};
-ghost use Rattle.cedar_c.specs.Words.{IsErasedUnder, KeepsSlots, layout_if, layout_in, layout_of};
+ghost use Rattle.cedar_c.specs.Words.{ErasesUnder, inner_dictionary, inner_layout, IsCleared};
+ghost use Rattle.cedar_c.specs.Words.{IsEmpty, KeepsSlots, layout_for, layout_in};
 ghost use Rattle.cedar_c.specs.Words.{longest_front, match_of, number_at, OpensNew, reduced_layout};
 ghost use Rattle.cedar_c.specs.Words.{shown_in, shown_tree, state_in, StoresValue, tree_in};
 
-use crate::any::AnyCedar;
 use crate::handle::Handle;
 use crate::reading::Reading;
 use crate::status::{CLOSED, INVALID_MAX_TRIAL, MEMORY, OK, tell};
 use crate::walks::Match;
 use cedarwood::{CedarBuilder, Layout, Trie};
+use either_layout::{AnyCedar, on_layout};
 use std::alloc::Global;
 
 /// An empty dictionary with these settings on the heap.
 fn make(alloc: Global, is_reduced: bool, settings: CedarBuilder) -> Option<Box<AnyCedar, Global>>
-    ensures made { IfSome result (λ b. IsEmpty settings (dictionary_in b.value)) }
-    ensures layout { IfSome result (λ b. layout_of b.value ≡ layout_if is_reduced) }
+    ensures made { IfSome result (λ b. IsEmpty settings (inner_dictionary b.value)) }
+    ensures layout { IfSome result (λ b. inner_layout b.value ≡ layout_for is_reduced) }
 {
-    let cedar = AnyCedar::new(alloc, is_reduced, settings)?;
+    let cedar = AnyCedar::with(alloc, is_reduced, settings).ok()?;
     Box::new(alloc, cedar).ok()
 }
 
 /// Opens a handle with an empty dictionary of these settings.
 fn renew(handle: &mut Handle, alloc: Global, is_reduced: bool, settings: CedarBuilder) -> u32
-    ensures made { result ≡ OK → (a : AnyCedar) × (content handle.new ≡ Some a) × IsEmpty settings (dictionary_in a) }
-    ensures layout { result ≡ OK → layout_in handle.new ≡ Some (layout_if is_reduced) }
+    ensures made { result ≡ OK → (a : AnyCedar) × (content handle.new ≡ Some a) × IsEmpty settings (inner_dictionary a) }
+    ensures layout { result ≡ OK → layout_in handle.new ≡ Some (layout_for is_reduced) }
     ensures refused { (result ≡ OK) ⊎ ((result ≡ MEMORY) × (content handle.new ≡ content handle.old)) }
 {
     match make(alloc, is_reduced, settings) {
@@ -100,7 +100,7 @@ fn renew_with(
     ordered: bool,
     max_trial: i32,
 ) -> u32
-    ensures opens { OpensNew (layout_if is_reduced) ordered max_trial handle.old handle.new result }
+    ensures opens { OpensNew (layout_for is_reduced) ordered max_trial handle.old handle.new result }
 {
     match CedarBuilder::new().ordered(ordered).max_trial(max_trial) {
         Ok(settings) => renew(handle, alloc, is_reduced, settings),
@@ -213,34 +213,30 @@ pub extern "C" fn cedar_get(handle: &mut Reading, key: &[u8], value: &mut i32) -
     ensures value { IfSome (number_at (shown_tree handle.old) key.now) (λ v. value.new ≡ v) }
     ensures absent { number_at (shown_tree handle.old) key.now ≡ None → value.new ≡ value.old }
 
-    //= Look-ups, figures, walks, scans, tokens, saves and lists of keys don't change the handle. [also cedar_len, cedar_used_slots,
-    //  cedar_capacity, cedar_spare_blocks, cedar_search_limit, cedar_is_reduced, cedar_prefixes, cedar_predictions, cedar_prefixes_from,
-    //  cedar_predictions_from, cedar_scan, cedar_segment, cedar_keywords, cedar_cheapest, cedar_save, cedar_keys, cedar_contains,
-    //  cedar_longest_prefix, cedar_clone, cedar_entries_from, cedar_entries_below, cedar_first_predictions, cedar_best,
-    //  cedar_floor, cedar_ceiling, cedar_next_near, cedar_next_fitting]
+    //= Look-ups, figures, walks, scans, tokens, saves and lists of keys don't change the handle. [also cedar_len, cedar_count_prefix,
+    //  cedar_used_slots, cedar_capacity, cedar_spare_blocks, cedar_search_limit, cedar_is_reduced, cedar_prefixes, cedar_predictions,
+    //  cedar_prefixes_from, cedar_predictions_from, cedar_scan, cedar_segment, cedar_keywords, cedar_cheapest, cedar_cheapest_by, cedar_save,
+    //  cedar_keys, cedar_contains, cedar_longest_prefix, cedar_clone, cedar_entries_from, cedar_entries_below, cedar_first_predictions,
+    //  cedar_best, cedar_floor, cedar_ceiling, cedar_next_near, cedar_next_fitting]
     ensures kept { handle.new ≡ handle.old }
 {
     if !handle.is_open() {
         return false;
     }
-    handle.shown.see().dictionary().get(key, value)
-}
-
-impl AnyCedar {
-    fn get(&self, key: &[u8], value: &mut i32) -> bool
-        ensures answer { IsTrue result ↔ IsSome (number_at (dictionary_in self.now).state.tree key.now) }
-        ensures value { IfSome (number_at (dictionary_in self.now).state.tree key.now) (λ v. value.new ≡ v) }
-        ensures absent { number_at (dictionary_in self.now).state.tree key.now ≡ None → value.new ≡ value.old }
-    {
-        match self {
-            AnyCedar::Default(cedar) => get(cedar, key, value),
-            AnyCedar::Reduced(cedar) => get(cedar, key, value),
-        }
-    }
+    get(handle.shown.see().dictionary(), key, value)
 }
 
 /// Writes the value at a key, and returns whether the key is held.
-fn get<L: Layout, const SLOTS: usize>(
+fn get(cedar: &AnyCedar, key: &[u8], value: &mut i32) -> bool
+    ensures answer { IsTrue result ↔ IsSome (number_at (inner_dictionary cedar.now).state.tree key.now) }
+    ensures value { IfSome (number_at (inner_dictionary cedar.now).state.tree key.now) (λ v. value.new ≡ v) }
+    ensures absent { number_at (inner_dictionary cedar.now).state.tree key.now ≡ None → value.new ≡ value.old }
+{
+    on_layout!(cedar, cedar => get_in(cedar, key, value))
+}
+
+/// The same of a dictionary of one layout.
+fn get_in<L: Layout, const SLOTS: usize>(
     trie: &Trie<L, SLOTS, Global>,
     key: &[u8],
     value: &mut i32,
@@ -300,26 +296,6 @@ pub extern "C" fn cedar_longest_prefix(handle: &mut Reading, text: &[u8], found:
     }
 }
 
-impl AnyCedar {
-    pub(crate) fn contains_key_bytes(&self, key: &[u8]) -> bool
-        ensures { IsTrue result ↔ IsSome (number_at (dictionary_in self.now).state.tree key.now) }
-    {
-        match self {
-            AnyCedar::Default(cedar) => cedar.contains_key_bytes(key),
-            AnyCedar::Reduced(cedar) => cedar.contains_key_bytes(key),
-        }
-    }
-
-    fn longest_match_bytes(&self, text: &[u8]) -> Option<(i32, usize)>
-        ensures { result ≡ longest_front (dictionary_in self.now).state.tree text.now }
-    {
-        match self {
-            AnyCedar::Default(cedar) => cedar.longest_match_bytes(text),
-            AnyCedar::Reduced(cedar) => cedar.longest_match_bytes(text),
-        }
-    }
-}
-
 /// Opens a handle with a copy of another one's dictionary. If the handle is open, the new one replaces the old one. A change of one doesn't
 /// show in the other.
 ///
@@ -339,7 +315,7 @@ pub extern "C" fn cedar_clone(original: &mut Reading, alloc: Global, handle: &mu
     if !original.is_open() {
         return CLOSED;
     }
-    let copy = original.shown.see().dictionary().boxed_copy(alloc);
+    let copy = boxed_copy(original.shown.see().dictionary(), alloc);
     match copy {
         Some(cedar) => {
             let _ = handle.take(alloc);
@@ -350,17 +326,12 @@ pub extern "C" fn cedar_clone(original: &mut Reading, alloc: Global, handle: &mu
     }
 }
 
-impl AnyCedar {
-    /// An equal dictionary on the heap, or `None` if an allocation is refused.
-    fn boxed_copy(&self, alloc: Global) -> Option<Box<AnyCedar, Global>>
-        ensures { IfSome result (λ b. b.value ≡ self.now) }
-    {
-        let copy = match self {
-            AnyCedar::Default(cedar) => AnyCedar::Default(cedar.clone().ok()?),
-            AnyCedar::Reduced(cedar) => AnyCedar::Reduced(cedar.clone().ok()?),
-        };
-        Box::new(alloc, copy).ok()
-    }
+/// An equal dictionary on the heap, or `None` if an allocation is refused.
+fn boxed_copy(cedar: &AnyCedar, alloc: Global) -> Option<Box<AnyCedar, Global>>
+    ensures { IfSome result (λ b. b.value ≡ cedar.now) }
+{
+    let copy = cedar.clone().ok()?;
+    Box::new(alloc, copy).ok()
 }
 
 /// Removes each key that begins with a prefix, and writes how many these were; the empty prefix removes all. It neither allocates nor frees
@@ -391,7 +362,7 @@ pub extern "C" fn cedar_erase_prefix(handle: &mut Handle, prefix: &[u8], erased:
 pub extern "C" fn cedar_clear(handle: &mut Handle)
     //= `cedar_clear` removes all keys. Layout, settings and slots don't change. A closed handle stays closed. [with closed, layout; by
     //  cleared, IsCleared]
-    ensures cleared { IsSome (content handle.old) → ChangesBy (λ a b. IsCleared (dictionary_in a) (dictionary_in b)) handle.old handle.new }
+    ensures cleared { IsSome (content handle.old) → ChangesBy (λ a b. IsCleared (inner_dictionary a) (inner_dictionary b)) handle.old handle.new }
     ensures closed { content handle.old ≡ None → content handle.new ≡ None }
     ensures layout { layout_in handle.new ≡ layout_in handle.old }
 {
@@ -399,26 +370,4 @@ pub extern "C" fn cedar_clear(handle: &mut Handle)
         return;
     }
     handle.held.lend().clear();
-}
-
-impl AnyCedar {
-    fn erase_prefix_bytes(&mut self, prefix: &[u8]) -> usize
-        ensures erased { IsErasedUnder (dictionary_in self.old) (dictionary_in self.new) prefix.now result }
-        ensures layout { layout_of self.new ≡ layout_of self.old }
-    {
-        match self {
-            AnyCedar::Default(cedar) => cedar.erase_prefix_bytes(prefix),
-            AnyCedar::Reduced(cedar) => cedar.erase_prefix_bytes(prefix),
-        }
-    }
-
-    fn clear(&mut self)
-        ensures cleared { IsCleared (dictionary_in self.old) (dictionary_in self.new) }
-        ensures layout { layout_of self.new ≡ layout_of self.old }
-    {
-        match self {
-            AnyCedar::Default(cedar) => cedar.clear(),
-            AnyCedar::Reduced(cedar) => cedar.clear(),
-        }
-    }
 }

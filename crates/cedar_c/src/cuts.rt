@@ -2,15 +2,15 @@
 
 ghost use Rattle.std.specs.Prelude.{◌++◌, ◌<◌, ◌↔◌, ◌≡◌, ◌≤◌, ◌⊎◌, drop, IfSome};
 ghost use Rattle.std.specs.Prelude.{length, map, None, set};
-ghost use Rattle.cedar_c.specs.Words.{dictionary_in, found_token, IsLeastCut, LacksRoomForCut};
+ghost use Rattle.cedar_c.specs.Words.{found_token, inner_dictionary, IsLeastCut, LacksRoomForCut};
 ghost use Rattle.cedar_c.specs.Words.{prices, shown_in, shown_tree, WritesLeastCut};
 
-use crate::any::AnyCedar;
 use crate::reading::Reading;
 use crate::scans::Found;
 use crate::status::{CLOSED, MEMORY, NO_ROOM, OK};
 use cedar_words::{cheapest, cheapest_by_characters};
 use cedarwood::{Layout, Trie};
+use either_layout::{AnyCedar, on_layout};
 use std::alloc::Global;
 
 /// Cuts a whole text into keys and single bytes whose costs have the least sum, writes these tokens into the first elements of a buffer,
@@ -50,49 +50,49 @@ pub extern "C" fn cedar_cheapest(
     if !handle.is_open() {
         return CLOSED;
     }
-    handle
-        .shown
-        .see()
-        .dictionary()
-        .cheapest(alloc, text, unknown, by_characters, found, needed)
+    write_cheapest(
+        handle.shown.see().dictionary(),
+        alloc,
+        text,
+        unknown,
+        by_characters,
+        found,
+        needed,
+    )
 }
 
-impl AnyCedar {
-    /// Writes the tokens of a text's cut of least cost into the first elements of a buffer, and how many they are.
-    fn cheapest(
-        &self,
-        alloc: Global,
-        text: &[u8],
-        unknown: u32,
-        by_characters: bool,
-        found: &mut [Found],
-        needed: &mut usize,
-    ) -> u32
-        ensures cut { result ≡ OK → WritesLeastCut (dictionary_in self.now).state.tree (prices by_characters unknown text.now) text.now found.old found.new needed.new }
-        ensures room { result ≡ NO_ROOM → LacksRoomForCut (dictionary_in self.now).state.tree (prices by_characters unknown text.now) text.now found.old needed.new }
-        ensures refused { (result ≡ OK) ⊎ (((result ≡ MEMORY) ⊎ (result ≡ NO_ROOM)) × (found.new ≡ found.old)) }
-        ensures stays { (result ≡ OK) ⊎ (result ≡ NO_ROOM) ⊎ (needed.new ≡ needed.old) }
-    {
-        match self.least_cut(alloc, text, unknown, by_characters) {
-            Some(tokens) => write_whole(tokens.as_slice(), found, needed),
-            None => MEMORY,
-        }
+/// Writes the tokens of a text's cut of least cost into the first elements of a buffer, and how many they are.
+fn write_cheapest(
+    cedar: &AnyCedar,
+    alloc: Global,
+    text: &[u8],
+    unknown: u32,
+    by_characters: bool,
+    found: &mut [Found],
+    needed: &mut usize,
+) -> u32
+    ensures cut { result ≡ OK → WritesLeastCut (inner_dictionary cedar.now).state.tree (prices by_characters unknown text.now) text.now found.old found.new needed.new }
+    ensures room { result ≡ NO_ROOM → LacksRoomForCut (inner_dictionary cedar.now).state.tree (prices by_characters unknown text.now) text.now found.old needed.new }
+    ensures refused { (result ≡ OK) ⊎ (((result ≡ MEMORY) ⊎ (result ≡ NO_ROOM)) × (found.new ≡ found.old)) }
+    ensures stays { (result ≡ OK) ⊎ (result ≡ NO_ROOM) ⊎ (needed.new ≡ needed.old) }
+{
+    match least_cut(cedar, alloc, text, unknown, by_characters) {
+        Some(tokens) => write_whole(tokens.as_slice(), found, needed),
+        None => MEMORY,
     }
+}
 
-    fn least_cut(
-        &self,
-        alloc: Global,
-        text: &[u8],
-        unknown: u32,
-        by_characters: bool,
-    ) -> Option<Vec<(usize, usize, Option<i32>), Global>>
-        ensures { IfSome result (λ tokens. IsLeastCut (dictionary_in self.now).state.tree (prices by_characters unknown text.now) text.now tokens.items) }
-    {
-        match self {
-            AnyCedar::Default(cedar) => either_cut(cedar, alloc, text, unknown, by_characters),
-            AnyCedar::Reduced(cedar) => either_cut(cedar, alloc, text, unknown, by_characters),
-        }
-    }
+/// `either_cut` of a dictionary of either layout.
+fn least_cut(
+    cedar: &AnyCedar,
+    alloc: Global,
+    text: &[u8],
+    unknown: u32,
+    by_characters: bool,
+) -> Option<Vec<(usize, usize, Option<i32>), Global>>
+    ensures { IfSome result (λ tokens. IsLeastCut (inner_dictionary cedar.now).state.tree (prices by_characters unknown text.now) text.now tokens.items) }
+{
+    on_layout!(cedar, cedar => either_cut(cedar, alloc, text, unknown, by_characters))
 }
 
 /// The tokens of a text's cut of least cost, or `None` if an allocation is refused.
@@ -113,7 +113,7 @@ fn either_cut<L: Layout, const SLOTS: usize>(
 }
 
 /// Writes some tokens into the first elements of a buffer, if it has room for all, and how many they are.
-fn write_whole(
+pub(crate) fn write_whole(
     tokens: &[(usize, usize, Option<i32>)],
     found: &mut [Found],
     needed: &mut usize,

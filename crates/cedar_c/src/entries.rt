@@ -7,12 +7,12 @@ ghost use Rattle.cedar_c.specs.Words.{entries_left, IsNumberedBelow, IsRangePlac
 ghost use Rattle.cedar_c.specs.Words.{number_at, PageOf, shown_in, starts_with, TellsEntries};
 ghost use Rattle.cedar_c.specs.Words.{TellsPage, tree_of, visited_key, WritesNothing, WritesPage};
 
-use crate::any::AnyCedar;
 use crate::reading::Reading;
 use crate::scans::Found;
 use crate::status::{CLOSED, NO_ROOM, NOT_ASCENDING, OK};
 use cedar_walk::Numbered;
 use cedarwood::{Layout, Trie, Walked};
+use either_layout::{AnyCedar, on_layout};
 use std::alloc::Global;
 
 /// What a page has: how many entries are written, and the node of the one behind them, if one is left.
@@ -209,23 +209,19 @@ fn entries_of<L: Layout, const SLOTS: usize>(
     tell_page(trie, &behind[..0], first, prefix, found, keys, count, need)
 }
 
-impl AnyCedar {
-    fn entries_from(
-        &self,
-        prefix: &[u8],
-        behind: &[u8],
-        found: &mut [Found],
-        keys: &mut [u8],
-        count: &mut usize,
-        need: &mut usize,
-    ) -> u32
-        ensures { PageOf prefix.now behind.now found.old found.new keys.old keys.new count.old count.new need.old need.new result self.now }
-    {
-        match self {
-            AnyCedar::Default(cedar) => entries_of(cedar, prefix, behind, found, keys, count, need),
-            AnyCedar::Reduced(cedar) => entries_of(cedar, prefix, behind, found, keys, count, need),
-        }
-    }
+/// `entries_of` a dictionary of either layout.
+fn entries_from(
+    cedar: &AnyCedar,
+    prefix: &[u8],
+    behind: &[u8],
+    found: &mut [Found],
+    keys: &mut [u8],
+    count: &mut usize,
+    need: &mut usize,
+) -> u32
+    ensures { PageOf prefix.now behind.now found.old found.new keys.old keys.new count.old count.new need.old need.new result cedar.now }
+{
+    on_layout!(cedar, cedar => entries_of(cedar, prefix, behind, found, keys, count, need))
 }
 
 /// Writes a page of the entries whose keys begin with a prefix and come after `behind`, in iteration order: where their keys begin, how
@@ -264,9 +260,13 @@ pub extern "C" fn cedar_entries_from(
     if !handle.is_open() {
         return CLOSED;
     }
-    handle
-        .shown
-        .see()
-        .dictionary()
-        .entries_from(prefix, behind, found, keys, count, need)
+    entries_from(
+        handle.shown.see().dictionary(),
+        prefix,
+        behind,
+        found,
+        keys,
+        count,
+        need,
+    )
 }

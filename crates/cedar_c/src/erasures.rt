@@ -2,12 +2,12 @@
 
 ghost use Rattle.std.specs.Prelude.{◌++◌, ◌+◌, ◌≡◌, drop, IfSome, length, None};
 ghost use Rattle.std.specs.Prelude.{option_map, set, take};
-ghost use Rattle.cedar_c.specs.Words.{content, dictionary_in, held_in_turn, KeepsSlots};
-ghost use Rattle.cedar_c.specs.Words.{keys_erased, layout_of, named_keys, state_in, tree_in, walk};
+ghost use Rattle.cedar_c.specs.Words.{content, held_in_turn, inner_dictionary, inner_layout};
+ghost use Rattle.cedar_c.specs.Words.{KeepsSlots, keys_erased, named_keys, state_in, tree_in, walk};
 
-use crate::any::AnyCedar;
 use crate::handle::Handle;
 use cedarwood::{CACHED_SLOTS, Layout, Trie};
+use either_layout::{AnyCedar, on_layout};
 use std::alloc::Global;
 
 /// How many keys are looked up in step before they are removed.
@@ -67,21 +67,17 @@ fn pass_in_step<L: Layout, const SLOTS: usize>(trie: &Trie<L, SLOTS, Global>, ke
     trie.exact_match_search_batch(&lanes[..count], &mut [None; LANES]);
 }
 
-impl AnyCedar {
-    fn erase_all(&mut self, keys: &[Key<'_>], held: &mut [bool]) -> usize
-        ensures count { result + length (walk (dictionary_in self.new).state.tree) ≡ length (walk (dictionary_in self.old).state.tree) }
-        ensures held { held.new ≡ take (length held.old) (held_in_turn (dictionary_in self.old).state (named_keys keys.now)) ++ drop (length keys.now) held.old }
-        ensures after { (dictionary_in self.new).state ≡ keys_erased (dictionary_in self.old).state (named_keys keys.now) }
-        ensures size { ((dictionary_in self.new).size ≡ (dictionary_in self.old).size) × ((dictionary_in self.new).capacity ≡ (dictionary_in self.old).capacity) }
-        ensures max_trial { (dictionary_in self.new).max_trial ≡ (dictionary_in self.old).max_trial }
-        ensures search_limit { (dictionary_in self.new).search_limit ≡ (dictionary_in self.old).search_limit }
-        ensures layout { layout_of self.new ≡ layout_of self.old }
-    {
-        match self {
-            AnyCedar::Default(cedar) => erase_all(cedar, keys, held),
-            AnyCedar::Reduced(cedar) => erase_all(cedar, keys, held),
-        }
-    }
+/// The same of a dictionary of either layout.
+fn erase_keys(cedar: &mut AnyCedar, keys: &[Key<'_>], held: &mut [bool]) -> usize
+    ensures count { result + length (walk (inner_dictionary cedar.new).state.tree) ≡ length (walk (inner_dictionary cedar.old).state.tree) }
+    ensures held { held.new ≡ take (length held.old) (held_in_turn (inner_dictionary cedar.old).state (named_keys keys.now)) ++ drop (length keys.now) held.old }
+    ensures after { (inner_dictionary cedar.new).state ≡ keys_erased (inner_dictionary cedar.old).state (named_keys keys.now) }
+    ensures size { ((inner_dictionary cedar.new).size ≡ (inner_dictionary cedar.old).size) × ((inner_dictionary cedar.new).capacity ≡ (inner_dictionary cedar.old).capacity) }
+    ensures max_trial { (inner_dictionary cedar.new).max_trial ≡ (inner_dictionary cedar.old).max_trial }
+    ensures search_limit { (inner_dictionary cedar.new).search_limit ≡ (inner_dictionary cedar.old).search_limit }
+    ensures layout { inner_layout cedar.new ≡ inner_layout cedar.old }
+{
+    on_layout!(cedar, cedar => erase_all(cedar, keys, held))
 }
 
 /// Removes some keys, one after another, and returns how many of them were held. `held[i]` becomes whether `keys[i]` was held then, for as
@@ -103,5 +99,5 @@ pub extern "C" fn cedar_erase_all(handle: &mut Handle, keys: &[Key<'_>], held: &
     if !handle.is_open() {
         return 0;
     }
-    handle.held.lend().erase_all(keys, held)
+    erase_keys(handle.held.lend(), keys, held)
 }

@@ -1,27 +1,20 @@
 //! A dictionary's file, in memory of the caller's.
 
-ghost use Rattle.std.specs.Prelude.{◌≡◌, ◌≢◌, ℕ, IfErr, IfOk, IfSome, IsErrAnd, None, slice_get};
-ghost use Rattle.cedar_c.specs.Words.{default_layout, dictionary_in, early_refusal, file_status};
-ghost use Rattle.cedar_c.specs.Words.{header_answer, is_reduced_byte, IsFileOf, IsOnTable};
-ghost use Rattle.cedar_c.specs.Words.{IsSlotLimit, IsTableFile, LacksOrCorrupt, layout_byte};
-ghost use Rattle.cedar_c.specs.Words.{layout_if, layout_named, layout_of, most_slots, OpensLoaded};
+ghost use Rattle.std.specs.Prelude.{◌≡◌, ◌≢◌, IfErr, IfOk, IfSome, IsErrAnd, None};
+ghost use Rattle.cedar_c.specs.Words.{default_layout, early_refusal, file_layout, file_status};
+ghost use Rattle.cedar_c.specs.Words.{header_answer, inner_dictionary, inner_layout, IsFileOf};
+ghost use Rattle.cedar_c.specs.Words.{IsOnTable, layout_byte, layout_for, most_slots, OpensLoaded};
 ghost use Rattle.cedar_c.specs.Words.{reduced_layout, refusal_of, TellsHeader, TellsJust};
 ghost use Rattle.cedar_c.specs.Words.{TellsNoTable};
 
-use crate::any::AnyCedar;
 use crate::handle::Handle;
 use crate::status::{
     FILE_BYTE_ORDER, FILE_CORRUPT, FILE_HEADER, FILE_LAYOUT, FILE_MAGIC, FILE_MEMORY_LIMIT,
     FILE_TRAILING, FILE_TRUNCATED, FILE_UNREAD, FILE_VERSION, MEMORY, OK, OTHER,
 };
-use cedarwood::{CedarPersistenceError, Layout, Trie};
+use cedarwood::CedarPersistenceError;
+use either_layout::{AnyCedar, names_reduced};
 use std::alloc::Global;
-
-/// Where a file has the byte of its layout.
-const LAYOUT_PLACE: usize = 13;
-
-/// The byte of the reduced layout.
-const REDUCED_LAYOUT: u8 = 1;
 
 /// Opens a handle with the dictionary of a file's bytes, which replaces the one that it has. It allocates at most `memory_limit` bytes.
 ///
@@ -78,8 +71,8 @@ pub extern "C" fn cedar_load_any(
     memory_limit: usize,
 ) -> u32
     //= `cedar_load_any` does what `cedar_load_reduced` does if the file's byte names the reduced layout, and otherwise what `cedar_load`
-    //  does. [by OpensLoaded, layout_named]
-    ensures opens { OpensLoaded (layout_named bytes.now) memory_limit bytes.now handle.old handle.new result }
+    //  does. [by OpensLoaded, file_layout]
+    ensures opens { OpensLoaded (file_layout bytes.now) memory_limit bytes.now handle.old handle.new result }
 {
     renew(handle, alloc, names_reduced(bytes), bytes, memory_limit)
 }
@@ -92,7 +85,7 @@ fn renew(
     bytes: &[u8],
     memory_limit: usize,
 ) -> u32
-    ensures opens { OpensLoaded (layout_if is_reduced) memory_limit bytes.now handle.old handle.new result }
+    ensures opens { OpensLoaded (layout_for is_reduced) memory_limit bytes.now handle.old handle.new result }
 {
     match load_on_heap(alloc, is_reduced, bytes, memory_limit) {
         Ok(cedar) => {
@@ -104,16 +97,6 @@ fn renew(
     }
 }
 
-/// Whether a file's byte names the reduced layout.
-fn names_reduced(bytes: &[u8]) -> bool
-    ensures { result ≡ is_reduced_byte (slice_get bytes.now 13) }
-{
-    match bytes.get(LAYOUT_PLACE) {
-        Some(byte) => *byte == REDUCED_LAYOUT,
-        None => false,
-    }
-}
-
 /// The dictionary that a file's bytes are of, on the heap.
 fn load_on_heap(
     alloc: Global,
@@ -121,16 +104,16 @@ fn load_on_heap(
     bytes: &[u8],
     memory_limit: usize,
 ) -> Result<Box<AnyCedar, Global>, u32>
-    ensures loaded { IfOk result (λ b. IsFileOf (dictionary_in b.value).table bytes.now) }
-    ensures layout { IfOk result (λ b. layout_of b.value ≡ layout_if is_reduced) }
+    ensures loaded { IfOk result (λ b. IsFileOf (inner_dictionary b.value).table bytes.now) }
+    ensures layout { IfOk result (λ b. inner_layout b.value ≡ layout_for is_reduced) }
     ensures refused { IfErr result (λ status. status ≢ OK) }
-    ensures header { IfSome (header_answer (layout_byte (layout_if is_reduced)) most_slots memory_limit bytes.now) (λ r. IsErrAnd result (TellsHeader r)) }
-    ensures early { IfSome (early_refusal (layout_byte (layout_if is_reduced)) most_slots memory_limit bytes.now) (λ r. IsErrAnd result (TellsJust r)) }
-    ensures behind { header_answer (layout_byte (layout_if is_reduced)) most_slots memory_limit bytes.now ≡ None → IfErr result (TellsNoTable bytes.now) }
-    ensures stands { IfOk result (λ b. IsOnTable most_slots (dictionary_in b.value)) }
+    ensures header { IfSome (header_answer (layout_byte (layout_for is_reduced)) most_slots memory_limit bytes.now) (λ r. IsErrAnd result (TellsHeader r)) }
+    ensures early { IfSome (early_refusal (layout_byte (layout_for is_reduced)) most_slots memory_limit bytes.now) (λ r. IsErrAnd result (TellsJust r)) }
+    ensures behind { header_answer (layout_byte (layout_for is_reduced)) most_slots memory_limit bytes.now ≡ None → IfErr result (TellsNoTable bytes.now) }
+    ensures stands { IfOk result (λ b. IsOnTable most_slots (inner_dictionary b.value)) }
     ensures read { IfErr result (λ status. status ≢ FILE_UNREAD) }
 {
-    match AnyCedar::load_file(alloc, is_reduced, bytes, memory_limit) {
+    match load_file(alloc, is_reduced, bytes, memory_limit) {
         Ok(cedar) => match Box::new(alloc, cedar) {
             Ok(cedar) => Ok(cedar),
             Err(_) => Err(MEMORY),
@@ -139,58 +122,27 @@ fn load_on_heap(
     }
 }
 
-impl AnyCedar {
-    /// The dictionary that a file's bytes are of.
-    #[tactic(auto, using(cedarwood::proofs::DictionaryLemmas::default_limit))]
-    fn load_file(
-        alloc: Global,
-        is_reduced: bool,
-        bytes: &[u8],
-        memory_limit: usize,
-    ) -> Result<AnyCedar, u32>
-        ensures loaded { IfOk result (λ a. IsFileOf (dictionary_in a).table bytes.now) }
-        ensures layout { IfOk result (λ a. layout_of a ≡ layout_if is_reduced) }
-        ensures refused { IfErr result (λ status. status ≢ OK) }
-        ensures header { IfSome (header_answer (layout_byte (layout_if is_reduced)) most_slots memory_limit bytes.now) (λ r. IsErrAnd result (TellsHeader r)) }
-        ensures early { IfSome (early_refusal (layout_byte (layout_if is_reduced)) most_slots memory_limit bytes.now) (λ r. IsErrAnd result (TellsJust r)) }
-        ensures behind { header_answer (layout_byte (layout_if is_reduced)) most_slots memory_limit bytes.now ≡ None → IfErr result (TellsNoTable bytes.now) }
-        ensures stands { IfOk result (λ a. IsOnTable most_slots (dictionary_in a)) }
-        ensures read { IfErr result (λ status. status ≢ FILE_UNREAD) }
-    {
-        if is_reduced {
-            match load(alloc, bytes, memory_limit) {
-                Ok(cedar) => Ok(AnyCedar::Reduced(cedar)),
-                Err(status) => Err(status),
-            }
-        } else {
-            match load(alloc, bytes, memory_limit) {
-                Ok(cedar) => Ok(AnyCedar::Default(cedar)),
-                Err(status) => Err(status),
-            }
-        }
-    }
-}
-
 /// The dictionary that a file's bytes are of, if they are of one of this layout.
-fn load<L: Layout, const SLOTS: usize>(
+fn load_file(
     alloc: Global,
+    is_reduced: bool,
     bytes: &[u8],
     memory_limit: usize,
-) -> Result<Trie<L, SLOTS, Global>, u32>
-    requires limit { IsSlotLimit SLOTS }
-    ensures loaded { IfOk result (λ d. (version : ℕ) × IsTableFile version SLOTS d.table bytes.now) }
+) -> Result<AnyCedar, u32>
+    ensures loaded { IfOk result (λ a. IsFileOf (inner_dictionary a).table bytes.now) }
+    ensures layout { IfOk result (λ a. inner_layout a ≡ layout_for is_reduced) }
     ensures refused { IfErr result (λ status. status ≢ OK) }
-    ensures header { IfSome (header_answer (layout_byte L.kind) SLOTS memory_limit bytes.now) (λ r. IsErrAnd result (TellsHeader r)) }
-    ensures early { IfSome (early_refusal (layout_byte L.kind) SLOTS memory_limit bytes.now) (λ r. IsErrAnd result (TellsJust r)) }
-    ensures behind { header_answer (layout_byte L.kind) SLOTS memory_limit bytes.now ≡ None → IfErr result (LacksOrCorrupt SLOTS bytes.now) }
-    ensures stands { IfOk result (IsOnTable SLOTS) }
+    ensures header { IfSome (header_answer (layout_byte (layout_for is_reduced)) most_slots memory_limit bytes.now) (λ r. IsErrAnd result (TellsHeader r)) }
+    ensures early { IfSome (early_refusal (layout_byte (layout_for is_reduced)) most_slots memory_limit bytes.now) (λ r. IsErrAnd result (TellsJust r)) }
+    ensures behind { header_answer (layout_byte (layout_for is_reduced)) most_slots memory_limit bytes.now ≡ None → IfErr result (TellsNoTable bytes.now) }
+    ensures stands { IfOk result (λ a. IsOnTable most_slots (inner_dictionary a)) }
     ensures read { IfErr result (λ status. status ≢ FILE_UNREAD) }
 {
     let mut left = bytes;
-    match Trie::load_from_reader_with_limit(alloc, &mut left, memory_limit) {
-        Ok(trie) => {
-            trie.stands_on_its_table();
-            Ok(trie)
+    match AnyCedar::load_as(alloc, is_reduced, &mut left, memory_limit) {
+        Ok(cedar) => {
+            cedar.stands_on_its_table();
+            Ok(cedar)
         }
         Err(error) => Err(tell_refusal(error)),
     }

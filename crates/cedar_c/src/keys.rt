@@ -1,13 +1,13 @@
 //! The keys themselves, written into a buffer of the caller's.
 
 ghost use Rattle.std.specs.Prelude.{◌++◌, ◌<◌, ◌↔◌, ◌≡◌, ◌≤◌, ◌⊎◌, drop, IfSome, length, None};
-ghost use Rattle.cedar_c.specs.Words.{dictionary_in, keys_in, shown_in, shown_tree, walk};
+ghost use Rattle.cedar_c.specs.Words.{inner_dictionary, keys_in, shown_in, shown_tree, walk};
 
-use crate::any::AnyCedar;
 use crate::reading::Reading;
 use crate::save::copy_whole;
 use crate::status::{CLOSED, MEMORY, NO_ROOM, OK};
 use cedarwood::{Layout, Trie};
+use either_layout::{AnyCedar, on_layout};
 use std::alloc::Global;
 
 /// Writes the bytes of all keys into the first elements of a buffer, one key after another in iteration order, and how many bytes they are:
@@ -37,22 +37,18 @@ pub extern "C" fn cedar_keys(
     if !handle.is_open() {
         return CLOSED;
     }
-    let keys = handle.shown.see().dictionary().keys(alloc);
+    let keys = list_keys(handle.shown.see().dictionary(), alloc);
     match keys {
         Some(keys) => copy_whole(keys.as_slice(), buffer, needed),
         None => MEMORY,
     }
 }
 
-impl AnyCedar {
-    fn keys(&self, alloc: Global) -> Option<Vec<u8, Global>>
-        ensures { IfSome result (λ keys. keys.items ≡ keys_in (walk (dictionary_in self.now).state.tree)) }
-    {
-        match self {
-            AnyCedar::Default(cedar) => keys_of(cedar, alloc),
-            AnyCedar::Reduced(cedar) => keys_of(cedar, alloc),
-        }
-    }
+/// `keys_of` a dictionary of either layout.
+fn list_keys(cedar: &AnyCedar, alloc: Global) -> Option<Vec<u8, Global>>
+    ensures { IfSome result (λ keys. keys.items ≡ keys_in (walk (inner_dictionary cedar.now).state.tree)) }
+{
+    on_layout!(cedar, cedar => keys_of(cedar, alloc))
 }
 
 /// The bytes of all keys, one key after another in iteration order, or `None` if an allocation is refused.

@@ -1,13 +1,13 @@
 //! The keywords of a text, of which a buffer takes as many as it has room for.
 
 ghost use Rattle.std.specs.Prelude.{◌<◌, ◌≡◌, ◌≤◌, ◌⊎◌, IsSome, length, None, take};
-ghost use Rattle.cedar_c.specs.Words.{dictionary_in, found_keywords, shown_in};
-ghost use Rattle.cedar_c.specs.Words.{shown_tree, WritesOn, WritesPiece};
+ghost use Rattle.cedar_c.specs.Words.{found_keywords, inner_dictionary, shown_in, shown_tree};
+ghost use Rattle.cedar_c.specs.Words.{WritesOn, WritesPiece};
 
-use crate::any::AnyCedar;
 use crate::reading::Reading;
 use crate::scans::{Found, put_at};
 use cedar_words::LongestPrefix;
+use either_layout::{AnyCedar, on_layout};
 
 /// Writes the keywords of a text from a position on, as far as there is room.
 fn keywords<T: LongestPrefix>(trie: &T, text: &[u8], next: &mut usize, found: &mut [Found]) -> usize
@@ -52,18 +52,14 @@ fn pass_token<T: LongestPrefix>(
     }
 }
 
-impl AnyCedar {
-    fn keywords(&self, text: &[u8], next: &mut usize, found: &mut [Found]) -> usize
-        ensures told { WritesPiece (found_keywords (dictionary_in self.now).state.tree) text.now next.old next.new (take result found.new) }
-        ensures full { (length text.now ≤ next.new) ⊎ (result ≡ length found.new) }
-        ensures within { (result ≤ length found.new) × (next.old ≤ next.new) }
-        ensures ends { (next.new ≤ length text.now) ⊎ (next.new ≡ next.old) }
-    {
-        match self {
-            AnyCedar::Default(cedar) => keywords(cedar, text, next, found),
-            AnyCedar::Reduced(cedar) => keywords(cedar, text, next, found),
-        }
-    }
+/// `keywords` of a dictionary of either layout.
+fn find_keywords(cedar: &AnyCedar, text: &[u8], next: &mut usize, found: &mut [Found]) -> usize
+    ensures told { WritesPiece (found_keywords (inner_dictionary cedar.now).state.tree) text.now next.old next.new (take result found.new) }
+    ensures full { (length text.now ≤ next.new) ⊎ (result ≡ length found.new) }
+    ensures within { (result ≤ length found.new) × (next.old ≤ next.new) }
+    ensures ends { (next.new ≤ length text.now) ⊎ (next.new ≡ next.old) }
+{
+    on_layout!(cedar, cedar => keywords(cedar, text, next, found))
 }
 
 /// Writes the keywords of a text from a position on, leftmost longest: of the keys that begin first the longest, and so on from its end. It
@@ -89,5 +85,5 @@ pub extern "C" fn cedar_keywords(
         *next = text.len().max(*next);
         return 0;
     }
-    handle.shown.see().dictionary().keywords(text, next, found)
+    find_keywords(handle.shown.see().dictionary(), text, next, found)
 }

@@ -5,7 +5,6 @@
 //! read take the same words as a [`reading::Reading`].
 #![tactic(auto)]
 
-mod any;
 mod below;
 mod best;
 mod builds;
@@ -22,6 +21,7 @@ mod keys;
 mod keywords;
 mod loose;
 mod matching;
+mod models;
 mod neighbours;
 mod pages;
 mod pairs;

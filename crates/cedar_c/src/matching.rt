@@ -1,11 +1,10 @@
 //! The next entry behind a key that is near a query or fits a pattern.
 
 ghost use Rattle.std.specs.Prelude.{◌↔◌, ◌≡◌, IfSome, None};
-ghost use Rattle.cedar_c.specs.Words.{dictionary_in, edits_if, entry_told, IsHeadOf, is_near};
+ghost use Rattle.cedar_c.specs.Words.{edits_if, entry_told, inner_dictionary, IsHeadOf, is_near};
 ghost use Rattle.cedar_c.specs.Words.{is_wanted_near, shown_in, TellsFitting, TellsWanted};
 ghost use Rattle.cedar_c.specs.Words.{wanted_behind};
 
-use crate::any::AnyCedar;
 use crate::entries::is_ordered;
 use crate::neighbours::{bound_at, tell_entry};
 use crate::reading::Reading;
@@ -13,6 +12,7 @@ use crate::status::{CLOSED, MEMORY, NOT_ASCENDING, PATTERN_TOO_LONG};
 use byte_automata::{Automaton, Beginning, Pattern, Within};
 use cedar_complete::{KeyRange, next_matching};
 use cedarwood::{Layout, Trie};
+use either_layout::{AnyCedar, on_layout};
 use std::alloc::Global;
 use std::ops::Bound;
 
@@ -102,66 +102,36 @@ fn fitting_of<L: Layout, const SLOTS: usize>(
     }
 }
 
-impl AnyCedar {
-    fn next_near(
-        &self,
-        alloc: Global,
-        text: &[u8],
-        two_edits: bool,
-        is_beginning: bool,
-        behind: &[u8],
-        buffer: &mut [u8],
-        value: &mut i32,
-        needed: &mut usize,
-    ) -> u32
-        ensures { TellsWanted (is_wanted_near is_beginning (edits_if two_edits) text.now) (dictionary_in self.now).state behind.now buffer.old buffer.new value.old value.new needed.old needed.new result }
-    {
-        match self {
-            AnyCedar::Default(cedar) => near_of(
-                cedar,
-                alloc,
-                text,
-                two_edits,
-                is_beginning,
-                behind,
-                buffer,
-                value,
-                needed,
-            ),
-            AnyCedar::Reduced(cedar) => near_of(
-                cedar,
-                alloc,
-                text,
-                two_edits,
-                is_beginning,
-                behind,
-                buffer,
-                value,
-                needed,
-            ),
-        }
-    }
+/// `near_of` a dictionary of either layout.
+fn next_near(
+    cedar: &AnyCedar,
+    alloc: Global,
+    text: &[u8],
+    two_edits: bool,
+    is_beginning: bool,
+    behind: &[u8],
+    buffer: &mut [u8],
+    value: &mut i32,
+    needed: &mut usize,
+) -> u32
+    ensures { TellsWanted (is_wanted_near is_beginning (edits_if two_edits) text.now) (inner_dictionary cedar.now).state behind.now buffer.old buffer.new value.old value.new needed.old needed.new result }
+{
+    on_layout!(cedar, cedar => near_of(cedar, alloc, text, two_edits, is_beginning, behind, buffer, value, needed))
+}
 
-    fn next_fitting(
-        &self,
-        alloc: Global,
-        pattern: &[u8],
-        behind: &[u8],
-        buffer: &mut [u8],
-        value: &mut i32,
-        needed: &mut usize,
-    ) -> u32
-        ensures { TellsFitting (dictionary_in self.now).state pattern.now behind.now buffer.old buffer.new value.old value.new needed.old needed.new result }
-    {
-        match self {
-            AnyCedar::Default(cedar) => {
-                fitting_of(cedar, alloc, pattern, behind, buffer, value, needed)
-            }
-            AnyCedar::Reduced(cedar) => {
-                fitting_of(cedar, alloc, pattern, behind, buffer, value, needed)
-            }
-        }
-    }
+/// `fitting_of` a dictionary of either layout.
+fn next_fitting(
+    cedar: &AnyCedar,
+    alloc: Global,
+    pattern: &[u8],
+    behind: &[u8],
+    buffer: &mut [u8],
+    value: &mut i32,
+    needed: &mut usize,
+) -> u32
+    ensures { TellsFitting (inner_dictionary cedar.now).state pattern.now behind.now buffer.old buffer.new value.old value.new needed.old needed.new result }
+{
+    on_layout!(cedar, cedar => fitting_of(cedar, alloc, pattern, behind, buffer, value, needed))
 }
 
 /// Writes the first entry behind a key whose own key is near a query: one edit away at the most, or two if `two_edits`, or it begins with
@@ -188,14 +158,15 @@ pub extern "C" fn cedar_next_near(
     //= The next entry that is near is the first one behind a key, or of all if no key is given, whose key is one edit of bytes away from the
     //  query at the most, or two if the flag says so, or begins with what is. It is written, or refused, as a ceiling is. [by near,
     //  TellsWanted, wanted_behind, is_wanted_near]
-    ensures near { IfSome (shown_in handle.old) (λ a. TellsWanted (is_wanted_near is_beginning (edits_if two_edits) query.now) (dictionary_in a).state behind.now buffer.old buffer.new value.old value.new needed.old needed.new result) }
+    ensures near { IfSome (shown_in handle.old) (λ a. TellsWanted (is_wanted_near is_beginning (edits_if two_edits) query.now) (inner_dictionary a).state behind.now buffer.old buffer.new value.old value.new needed.old needed.new result) }
     ensures closed_stays { result ≡ CLOSED → (buffer.new ≡ buffer.old) × (value.new ≡ value.old) × (needed.new ≡ needed.old) }
     ensures kept { handle.new ≡ handle.old }
 {
     if !handle.is_open() {
         return CLOSED;
     }
-    handle.shown.see().dictionary().next_near(
+    next_near(
+        handle.shown.see().dictionary(),
         alloc,
         query,
         two_edits,
@@ -226,16 +197,20 @@ pub extern "C" fn cedar_next_fitting(
 
     //= The next entry that fits a pattern is found and written in this way, if the pattern has at most 63 bytes. If it has more, that is the
     //  error, and nothing is written. [by fitting, TellsFitting, wanted_behind, fits]
-    ensures fitting { IfSome (shown_in handle.old) (λ a. TellsFitting (dictionary_in a).state pattern.now behind.now buffer.old buffer.new value.old value.new needed.old needed.new result) }
+    ensures fitting { IfSome (shown_in handle.old) (λ a. TellsFitting (inner_dictionary a).state pattern.now behind.now buffer.old buffer.new value.old value.new needed.old needed.new result) }
     ensures closed_stays { result ≡ CLOSED → (buffer.new ≡ buffer.old) × (value.new ≡ value.old) × (needed.new ≡ needed.old) }
     ensures kept { handle.new ≡ handle.old }
 {
     if !handle.is_open() {
         return CLOSED;
     }
-    handle
-        .shown
-        .see()
-        .dictionary()
-        .next_fitting(alloc, pattern, behind, buffer, value, needed)
+    next_fitting(
+        handle.shown.see().dictionary(),
+        alloc,
+        pattern,
+        behind,
+        buffer,
+        value,
+        needed,
+    )
 }

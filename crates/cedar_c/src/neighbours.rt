@@ -1,17 +1,17 @@
 //! The entries next to a key: the last one before it, and the first one behind it.
 
 ghost use Rattle.std.specs.Prelude.{◌↔◌, ◌≡◌, IfSome, None};
-ghost use Rattle.cedar_c.specs.Words.{bound_if, bound_map, dictionary_in, entries_onwards};
-ghost use Rattle.cedar_c.specs.Words.{entries_upto, entry_told, IsHeadOf, IsLastOf, shown_in};
+ghost use Rattle.cedar_c.specs.Words.{bound_if, bound_map, entries_onwards, entries_upto};
+ghost use Rattle.cedar_c.specs.Words.{entry_told, inner_dictionary, IsHeadOf, IsLastOf, shown_in};
 ghost use Rattle.cedar_c.specs.Words.{TellsEntry, TellsNeighbour};
 
-use crate::any::AnyCedar;
 use crate::entries::is_ordered;
 use crate::reading::Reading;
 use crate::save::copy_whole;
 use crate::status::{CLOSED, MEMORY, NO_ROOM, NOT_ASCENDING, OK};
 use cedar_complete::{KeyRange, first_in, last_in};
 use cedarwood::{Layout, Trie};
+use either_layout::{AnyCedar, on_layout};
 use std::alloc::Global;
 use std::ops::Bound;
 
@@ -119,48 +119,34 @@ fn ceiling_of<L: Layout, const SLOTS: usize>(
     }
 }
 
-impl AnyCedar {
-    fn floor(
-        &self,
-        alloc: Global,
-        key: &[u8],
-        is_included: bool,
-        buffer: &mut [u8],
-        value: &mut i32,
-        needed: &mut usize,
-    ) -> u32
-        ensures { TellsNeighbour (dictionary_in self.now).state (IsLastOf (entries_upto (dictionary_in self.now).state.tree (bound_if is_included key.now))) buffer.old buffer.new value.old value.new needed.old needed.new result }
-    {
-        match self {
-            AnyCedar::Default(cedar) => {
-                floor_of(cedar, alloc, key, is_included, buffer, value, needed)
-            }
-            AnyCedar::Reduced(cedar) => {
-                floor_of(cedar, alloc, key, is_included, buffer, value, needed)
-            }
-        }
-    }
+/// `floor_of` a dictionary of either layout.
+fn write_floor(
+    cedar: &AnyCedar,
+    alloc: Global,
+    key: &[u8],
+    is_included: bool,
+    buffer: &mut [u8],
+    value: &mut i32,
+    needed: &mut usize,
+) -> u32
+    ensures { TellsNeighbour (inner_dictionary cedar.now).state (IsLastOf (entries_upto (inner_dictionary cedar.now).state.tree (bound_if is_included key.now))) buffer.old buffer.new value.old value.new needed.old needed.new result }
+{
+    on_layout!(cedar, cedar => floor_of(cedar, alloc, key, is_included, buffer, value, needed))
+}
 
-    fn ceiling(
-        &self,
-        alloc: Global,
-        key: &[u8],
-        is_included: bool,
-        buffer: &mut [u8],
-        value: &mut i32,
-        needed: &mut usize,
-    ) -> u32
-        ensures { TellsNeighbour (dictionary_in self.now).state (IsHeadOf (entries_onwards (dictionary_in self.now).state.tree (bound_if is_included key.now))) buffer.old buffer.new value.old value.new needed.old needed.new result }
-    {
-        match self {
-            AnyCedar::Default(cedar) => {
-                ceiling_of(cedar, alloc, key, is_included, buffer, value, needed)
-            }
-            AnyCedar::Reduced(cedar) => {
-                ceiling_of(cedar, alloc, key, is_included, buffer, value, needed)
-            }
-        }
-    }
+/// `ceiling_of` a dictionary of either layout.
+fn write_ceiling(
+    cedar: &AnyCedar,
+    alloc: Global,
+    key: &[u8],
+    is_included: bool,
+    buffer: &mut [u8],
+    value: &mut i32,
+    needed: &mut usize,
+) -> u32
+    ensures { TellsNeighbour (inner_dictionary cedar.now).state (IsHeadOf (entries_onwards (inner_dictionary cedar.now).state.tree (bound_if is_included key.now))) buffer.old buffer.new value.old value.new needed.old needed.new result }
+{
+    on_layout!(cedar, cedar => ceiling_of(cedar, alloc, key, is_included, buffer, value, needed))
 }
 
 /// Writes the last entry before a key, or at it if `is_included`: the key into the first elements of a buffer, its value, and how many
@@ -188,18 +174,22 @@ pub extern "C" fn cedar_floor(
     //= It is refused exactly if the handle is closed, with `NOT_ASCENDING` if labels don't ascend, with `NO_ROOM` if its key has more bytes
     //  than there is room for, and otherwise with `MEMORY`. Then nothing else is written. [with closed, closed_stays; also cedar_ceiling,
     //  cedar_next_near, cedar_next_fitting]
-    ensures floor { IfSome (shown_in handle.old) (λ a. TellsNeighbour (dictionary_in a).state (IsLastOf (entries_upto (dictionary_in a).state.tree (bound_if is_included key.now))) buffer.old buffer.new value.old value.new needed.old needed.new result) }
+    ensures floor { IfSome (shown_in handle.old) (λ a. TellsNeighbour (inner_dictionary a).state (IsLastOf (entries_upto (inner_dictionary a).state.tree (bound_if is_included key.now))) buffer.old buffer.new value.old value.new needed.old needed.new result) }
     ensures closed_stays { result ≡ CLOSED → (buffer.new ≡ buffer.old) × (value.new ≡ value.old) × (needed.new ≡ needed.old) }
     ensures kept { handle.new ≡ handle.old }
 {
     if !handle.is_open() {
         return CLOSED;
     }
-    handle
-        .shown
-        .see()
-        .dictionary()
-        .floor(alloc, key, is_included, buffer, value, needed)
+    write_floor(
+        handle.shown.see().dictionary(),
+        alloc,
+        key,
+        is_included,
+        buffer,
+        value,
+        needed,
+    )
 }
 
 /// Writes the first entry behind a key, or at it if `is_included`, as `cedar_floor` writes the last one before it. If `key` is empty, it is
@@ -221,16 +211,20 @@ pub extern "C" fn cedar_ceiling(
 
     //= The ceiling of a key is the first entry behind it, or at it if that is included, and of no key the first one of all. It is written
     //  as a floor is. [by ceiling, TellsNeighbour, entries_onwards, IsHeadOf]
-    ensures ceiling { IfSome (shown_in handle.old) (λ a. TellsNeighbour (dictionary_in a).state (IsHeadOf (entries_onwards (dictionary_in a).state.tree (bound_if is_included key.now))) buffer.old buffer.new value.old value.new needed.old needed.new result) }
+    ensures ceiling { IfSome (shown_in handle.old) (λ a. TellsNeighbour (inner_dictionary a).state (IsHeadOf (entries_onwards (inner_dictionary a).state.tree (bound_if is_included key.now))) buffer.old buffer.new value.old value.new needed.old needed.new result) }
     ensures closed_stays { result ≡ CLOSED → (buffer.new ≡ buffer.old) × (value.new ≡ value.old) × (needed.new ≡ needed.old) }
     ensures kept { handle.new ≡ handle.old }
 {
     if !handle.is_open() {
         return CLOSED;
     }
-    handle
-        .shown
-        .see()
-        .dictionary()
-        .ceiling(alloc, key, is_included, buffer, value, needed)
+    write_ceiling(
+        handle.shown.see().dictionary(),
+        alloc,
+        key,
+        is_included,
+        buffer,
+        value,
+        needed,
+    )
 }

@@ -1,13 +1,13 @@
 //! Walks of a dictionary in pieces: a call goes on where the one before it ended.
 
 ghost use Rattle.std.specs.Prelude.{◌+◌, ◌<◌, ◌^◌, ◌≡◌, [], drop, false, IsTrue, length, take};
-ghost use Rattle.cedar_c.specs.Words.{all_longer, dictionary_in, filled_matches, Fit, front};
-ghost use Rattle.cedar_c.specs.Words.{front_keys, predict, predicted_keys, shown_tree};
+ghost use Rattle.cedar_c.specs.Words.{all_longer, filled_matches, Fit, front, front_keys};
+ghost use Rattle.cedar_c.specs.Words.{inner_dictionary, predict, predicted_keys, shown_tree};
 
-use crate::any::AnyCedar;
 use crate::reading::Reading;
 use crate::walks::{Finds, Match, put_at};
 use cedarwood::{Layout, Trie};
+use either_layout::{AnyCedar, on_layout};
 use std::alloc::Global;
 
 /// Passes over the first of what a walk finds, and returns whether it finds so many.
@@ -114,38 +114,30 @@ fn go_on_predictions<L: Layout, const SLOTS: usize>(
     )
 }
 
-impl AnyCedar {
-    fn prefixes_from(&self, text: &[u8], next: &mut usize, matches: &mut [Match]) -> usize
-        ensures count { result ≡ length (take (length matches.old) (drop next.old (front (dictionary_in self.now).state.tree text.now))) }
-        ensures filled { matches.new ≡ filled_matches matches.old (drop next.old (front_keys (dictionary_in self.now).state.tree text.now)) }
-        ensures next { next.new ≡ next.old + result }
-    {
-        match self {
-            AnyCedar::Default(cedar) => go_on_prefixes(cedar, text, next, matches),
-            AnyCedar::Reduced(cedar) => go_on_prefixes(cedar, text, next, matches),
-        }
-    }
+/// `go_on_prefixes` of a dictionary of either layout.
+fn prefixes_from(cedar: &AnyCedar, text: &[u8], next: &mut usize, matches: &mut [Match]) -> usize
+    ensures count { result ≡ length (take (length matches.old) (drop next.old (front (inner_dictionary cedar.now).state.tree text.now))) }
+    ensures filled { matches.new ≡ filled_matches matches.old (drop next.old (front_keys (inner_dictionary cedar.now).state.tree text.now)) }
+    ensures next { next.new ≡ next.old + result }
+{
+    on_layout!(cedar, cedar => go_on_prefixes(cedar, text, next, matches))
+}
 
-    fn first_predictions(&self, text: &[u8], matches: &mut [Match]) -> usize
-        ensures count { result ≡ length (take (length matches.old) (predict (dictionary_in self.now).state.tree text.now)) }
-        ensures filled { matches.new ≡ filled_matches matches.old (predicted_keys (dictionary_in self.now).state.tree text.now) }
-    {
-        match self {
-            AnyCedar::Default(cedar) => fill_first_predictions(cedar, text, matches),
-            AnyCedar::Reduced(cedar) => fill_first_predictions(cedar, text, matches),
-        }
-    }
+/// `fill_first_predictions` of a dictionary of either layout.
+fn first_predictions(cedar: &AnyCedar, text: &[u8], matches: &mut [Match]) -> usize
+    ensures count { result ≡ length (take (length matches.old) (predict (inner_dictionary cedar.now).state.tree text.now)) }
+    ensures filled { matches.new ≡ filled_matches matches.old (predicted_keys (inner_dictionary cedar.now).state.tree text.now) }
+{
+    on_layout!(cedar, cedar => fill_first_predictions(cedar, text, matches))
+}
 
-    fn predictions_from(&self, text: &[u8], next: &mut usize, matches: &mut [Match]) -> usize
-        ensures count { result ≡ length (take (length matches.old) (drop next.old (predict (dictionary_in self.now).state.tree text.now))) }
-        ensures filled { matches.new ≡ filled_matches matches.old (drop next.old (predicted_keys (dictionary_in self.now).state.tree text.now)) }
-        ensures next { next.new ≡ next.old + result }
-    {
-        match self {
-            AnyCedar::Default(cedar) => go_on_predictions(cedar, text, next, matches),
-            AnyCedar::Reduced(cedar) => go_on_predictions(cedar, text, next, matches),
-        }
-    }
+/// `go_on_predictions` of a dictionary of either layout.
+fn predictions_from(cedar: &AnyCedar, text: &[u8], next: &mut usize, matches: &mut [Match]) -> usize
+    ensures count { result ≡ length (take (length matches.old) (drop next.old (predict (inner_dictionary cedar.now).state.tree text.now))) }
+    ensures filled { matches.new ≡ filled_matches matches.old (drop next.old (predicted_keys (inner_dictionary cedar.now).state.tree text.now)) }
+    ensures next { next.new ≡ next.old + result }
+{
+    on_layout!(cedar, cedar => go_on_predictions(cedar, text, next, matches))
 }
 
 /// As `cedar_prefixes`, without the first `next` of them: it returns how many it wrote, and sets `next` to where the same call goes on.
@@ -166,11 +158,7 @@ pub extern "C" fn cedar_prefixes_from(
     if !handle.is_open() {
         return 0;
     }
-    handle
-        .shown
-        .see()
-        .dictionary()
-        .prefixes_from(text, next, matches)
+    prefixes_from(handle.shown.see().dictionary(), text, next, matches)
 }
 
 /// As `cedar_predictions`, without the first `next` of them: it returns how many it wrote, and sets `next` to where the same call goes on.
@@ -189,11 +177,7 @@ pub extern "C" fn cedar_predictions_from(
     if !handle.is_open() {
         return 0;
     }
-    handle
-        .shown
-        .see()
-        .dictionary()
-        .predictions_from(text, next, matches)
+    predictions_from(handle.shown.see().dictionary(), text, next, matches)
 }
 
 /// As `cedar_predictions`, but it returns how many keys it wrote, and goes no further than these.
@@ -211,9 +195,5 @@ pub extern "C" fn cedar_first_predictions(
     if !handle.is_open() {
         return 0;
     }
-    handle
-        .shown
-        .see()
-        .dictionary()
-        .first_predictions(text, matches)
+    first_predictions(handle.shown.see().dictionary(), text, matches)
 }

@@ -2,16 +2,16 @@
 
 ghost use Rattle.std.specs.Prelude.{◌↔◌, ◌≡◌, ◌⊎◌, Err, IfErr, IfSome, IsSome, map, None};
 ghost use Rattle.std.specs.Prelude.{OnErr, OnOk, option_map};
-ghost use Rattle.cedar_c.specs.Words.{all_stored, content, dictionary_in, entries_in, first_fault};
-ghost use Rattle.cedar_c.specs.Words.{HoldsFront, HoldsPart, IsShortage, layout_in, layout_of};
-ghost use Rattle.cedar_c.specs.Words.{most_slots, RefusesAll, search_limit_in, size_in, state_in};
-ghost use Rattle.cedar_c.specs.Words.{StoresFront, StoresPart, taken_pair, TellsPosition};
+ghost use Rattle.cedar_c.specs.Words.{all_stored, content, entries_in, first_fault, HoldsFront};
+ghost use Rattle.cedar_c.specs.Words.{HoldsPart, inner_dictionary, inner_layout, IsShortage};
+ghost use Rattle.cedar_c.specs.Words.{layout_in, most_slots, RefusesAll, search_limit_in, size_in};
+ghost use Rattle.cedar_c.specs.Words.{state_in, StoresFront, StoresPart, taken_pair, TellsPosition};
 ghost use Rattle.cedar_c.specs.Words.{trials_in};
 
-use crate::any::AnyCedar;
 use crate::handle::Handle;
 use crate::status::{CLOSED, MEMORY, OK, SLOT_LIMIT, tell};
 use cedarwood::{CedarError, Layout, Trie};
+use either_layout::{AnyCedar, on_layout};
 use std::alloc::Global;
 
 /// A key and its value.
@@ -58,23 +58,19 @@ fn store_all<L: Layout, const SLOTS: usize>(
     }
 }
 
-impl AnyCedar {
-    fn store_all(&mut self, alloc: Global, pairs: &[Pair<'_>]) -> Result<(), CedarError>
-        ensures stored { OnOk result ((dictionary_in self.new).state ≡ all_stored (dictionary_in self.old).state (entries_in pairs.now)) }
-        ensures faulty { IfSome (first_fault (entries_in pairs.now)) (λ e. ((result ≡ Err e) ⊎ (result ≡ Err CedarError.Memory)) × (self.new ≡ self.old)) }
-        ensures front { StoresFront (dictionary_in self.old).state (dictionary_in self.new).state (entries_in pairs.now) }
-        ensures refused { first_fault (entries_in pairs.now) ≡ None → IfErr result IsShortage }
-        ensures layout { layout_of self.new ≡ layout_of self.old }
-        ensures limit { result ≡ Err CedarError.SlotLimit → (dictionary_in self.new).size ≡ most_slots }
-        ensures part { OnErr result ((self.new ≡ self.old) ⊎ StoresPart (dictionary_in self.old).state (dictionary_in self.new).state (entries_in pairs.now)) }
-        ensures max_trial { (dictionary_in self.new).max_trial ≡ (dictionary_in self.old).max_trial }
-        ensures search_limit { (dictionary_in self.new).search_limit ≡ (dictionary_in self.old).search_limit }
-    {
-        match self {
-            AnyCedar::Default(cedar) => store_all(cedar, alloc, pairs),
-            AnyCedar::Reduced(cedar) => store_all(cedar, alloc, pairs),
-        }
-    }
+/// The same of a dictionary of either layout.
+fn store_pairs(cedar: &mut AnyCedar, alloc: Global, pairs: &[Pair<'_>]) -> Result<(), CedarError>
+    ensures stored { OnOk result ((inner_dictionary cedar.new).state ≡ all_stored (inner_dictionary cedar.old).state (entries_in pairs.now)) }
+    ensures faulty { IfSome (first_fault (entries_in pairs.now)) (λ e. ((result ≡ Err e) ⊎ (result ≡ Err CedarError.Memory)) × (cedar.new ≡ cedar.old)) }
+    ensures front { StoresFront (inner_dictionary cedar.old).state (inner_dictionary cedar.new).state (entries_in pairs.now) }
+    ensures refused { first_fault (entries_in pairs.now) ≡ None → IfErr result IsShortage }
+    ensures layout { inner_layout cedar.new ≡ inner_layout cedar.old }
+    ensures limit { result ≡ Err CedarError.SlotLimit → (inner_dictionary cedar.new).size ≡ most_slots }
+    ensures part { OnErr result ((cedar.new ≡ cedar.old) ⊎ StoresPart (inner_dictionary cedar.old).state (inner_dictionary cedar.new).state (entries_in pairs.now)) }
+    ensures max_trial { (inner_dictionary cedar.new).max_trial ≡ (inner_dictionary cedar.old).max_trial }
+    ensures search_limit { (inner_dictionary cedar.new).search_limit ≡ (inner_dictionary cedar.old).search_limit }
+{
+    on_layout!(cedar, cedar => store_all(cedar, alloc, pairs))
 }
 
 /// Stores some pairs, one after another: the last value of a key counts. All are tested first.
@@ -111,7 +107,7 @@ pub extern "C" fn cedar_update_all(
     if !handle.is_open() {
         return CLOSED;
     }
-    let answer = handle.held.lend().store_all(alloc, pairs);
+    let answer = store_pairs(handle.held.lend(), alloc, pairs);
     match answer {
         Ok(()) => OK,
         Err(error) => tell(error, position),

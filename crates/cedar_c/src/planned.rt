@@ -5,14 +5,13 @@ ghost use Rattle.std.specs.Prelude.{◌≡◌, ◌≢◌, ◌⊎◌, ◌↔◌, 
 ghost use Rattle.std.specs.Prelude.{IsFalse, IsSome, IsTrue, None, Some, length, option_map, take};
 ghost use Rattle.std.specs.Prelude.{true};
 ghost use Rattle.cedar_c.specs.Words.{AddsChange, after_erase, after_put, content, CutsNone};
-ghost use Rattle.cedar_c.specs.Words.{damage_of, dictionary_in, end_of, erase_at, fault, format_if};
-ghost use Rattle.cedar_c.specs.Words.{format_in, HasExtent, IsErasurePlan, IsOpening, IsPutPlan};
-ghost use Rattle.cedar_c.specs.Words.{LacksChange, LacksRecord, layout_if, layout_in, layout_of};
-ghost use Rattle.cedar_c.specs.Words.{LoadCause, MayCut, number_at, Plain, PlansAppend};
+ghost use Rattle.cedar_c.specs.Words.{damage_of, end_of, erase_at, fault, format_if, format_in};
+ghost use Rattle.cedar_c.specs.Words.{HasExtent, inner_dictionary, inner_layout, IsErasurePlan};
+ghost use Rattle.cedar_c.specs.Words.{IsOpening, IsPutPlan, LacksChange, LacksRecord, layout_for};
+ghost use Rattle.cedar_c.specs.Words.{layout_in, LoadCause, MayCut, number_at, Plain, PlansAppend};
 ghost use Rattle.cedar_c.specs.Words.{position_of, put_at, record_count, state_in, state_of};
 ghost use Rattle.cedar_c.specs.Words.{status_of, store_status, TellsWhy, tree_in, works_of};
 
-use crate::any::AnyCedar;
 use crate::handle::Handle;
 use crate::records::{format_if, place, write_erasure, write_put};
 use crate::status::{
@@ -23,6 +22,7 @@ use cedar_plan::{HEADER, Plan, plan_append, plan_opening};
 use cedar_salvage::may_cut_records;
 use cedar_store::{DurableError, count_records, words_of};
 use cedarwood::{CedarError, check_pair};
+use either_layout::AnyCedar;
 use std::alloc::Global;
 
 /// Opens a handle with the dictionary that a file's bytes represent. If the handle is open, the new one replaces the old one. The file was
@@ -48,7 +48,7 @@ pub extern "C" fn cedar_plan_open(
 ) -> u32
     //= A store that is opened has the dictionary that the file's bytes represent, of the layout that was given. [with layout]
     ensures stands { result ≡ OK → (state_of bytes.now ≡ state_in handle.new) × IsSome (content handle.new) }
-    ensures layout { result ≡ OK → layout_in handle.new ≡ Some (layout_if is_reduced) }
+    ensures layout { result ≡ OK → layout_in handle.new ≡ Some (layout_for is_reduced) }
 
     //= Once the plan of an opening is carried out, the file is at rest, on the disk, represents that dictionary, and has as many records as
     //  before. A crash at any moment, even if a step fails, leaves a file that represents it. [by IsOpening]
@@ -146,7 +146,8 @@ pub extern "C" fn cedar_plan_put(
     if !handle.is_open() {
         return CLOSED;
     }
-    handle.held.lend().plan_put(
+    plan_put(
+        handle.held.lend(),
         alloc,
         key,
         value,
@@ -202,10 +203,16 @@ pub extern "C" fn cedar_plan_erase(
     if !handle.is_open() {
         return CLOSED;
     }
-    handle
-        .held
-        .lend()
-        .plan_erase(alloc, key, format_if(is_summed), end, buffer, plan, held)
+    plan_erase(
+        handle.held.lend(),
+        alloc,
+        key,
+        format_if(is_summed),
+        end,
+        buffer,
+        plan,
+        held,
+    )
 }
 
 /// The number of why a file wasn't read as a dictionary. It writes where a damaged record begins.
@@ -254,12 +261,12 @@ fn replay_on_heap(
     is_reduced: bool,
     bytes: &[u8],
 ) -> Result<(Box<AnyCedar, Global>, Extent), DurableError>
-    ensures stands { IfOk result (λ found. state_of bytes.now ≡ Some (dictionary_in found.0.value).state) }
+    ensures stands { IfOk result (λ found. state_of bytes.now ≡ Some (inner_dictionary found.0.value).state) }
     ensures extent { IfOk result (λ found. HasExtent bytes.now found.1) }
-    ensures layout { IfOk result (λ found. layout_of found.0.value ≡ layout_if is_reduced) }
+    ensures layout { IfOk result (λ found. inner_layout found.0.value ≡ layout_for is_reduced) }
     ensures cause { IfErr result (λ e. LoadCause bytes.now e) }
 {
-    match AnyCedar::replay_file(alloc, is_reduced, bytes) {
+    match replay_file(alloc, is_reduced, bytes) {
         Ok((cedar, extent)) => match Box::new(alloc, cedar) {
             Ok(cedar) => Ok((cedar, extent)),
             Err(_) => Err(DurableError::Refused(CedarError::Memory)),
@@ -268,114 +275,112 @@ fn replay_on_heap(
     }
 }
 
-impl AnyCedar {
-    /// The dictionary that a file's bytes represent, and how far the file goes.
-    #[tactic(auto, using(cedarwood::proofs::DictionaryLemmas::default_limit))]
-    fn replay_file(
-        alloc: Global,
-        is_reduced: bool,
-        bytes: &[u8],
-    ) -> Result<(AnyCedar, Extent), DurableError>
-        ensures stands { IfOk result (λ found. state_of bytes.now ≡ Some (dictionary_in found.0).state) }
-        ensures extent { IfOk result (λ found. HasExtent bytes.now found.1) }
-        ensures layout { IfOk result (λ found. layout_of found.0 ≡ layout_if is_reduced) }
-        ensures cause { IfErr result (λ e. LoadCause bytes.now e) }
-    {
-        if is_reduced {
-            match words_of(alloc, bytes) {
-                Ok((cedar, extent)) => Ok((AnyCedar::Reduced(cedar), extent)),
-                Err(error) => Err(error),
-            }
-        } else {
-            match words_of(alloc, bytes) {
-                Ok((cedar, extent)) => Ok((AnyCedar::Default(cedar), extent)),
-                Err(error) => Err(error),
-            }
+/// The dictionary that a file's bytes represent, and how far the file goes.
+#[tactic(auto, using(cedarwood::proofs::DictionaryLemmas::default_limit))]
+fn replay_file(
+    alloc: Global,
+    is_reduced: bool,
+    bytes: &[u8],
+) -> Result<(AnyCedar, Extent), DurableError>
+    ensures stands { IfOk result (λ found. state_of bytes.now ≡ Some (inner_dictionary found.0).state) }
+    ensures extent { IfOk result (λ found. HasExtent bytes.now found.1) }
+    ensures layout { IfOk result (λ found. inner_layout found.0 ≡ layout_for is_reduced) }
+    ensures cause { IfErr result (λ e. LoadCause bytes.now e) }
+{
+    if is_reduced {
+        match words_of(alloc, bytes) {
+            Ok((cedar, extent)) => Ok((AnyCedar::Reduced(cedar), extent)),
+            Err(error) => Err(error),
+        }
+    } else {
+        match words_of(alloc, bytes) {
+            Ok((cedar, extent)) => Ok((AnyCedar::Default(cedar), extent)),
+            Err(error) => Err(error),
         }
     }
+}
 
-    /// As `cedar_plan_put`, of an open handle.
-    fn plan_put(
-        &mut self,
-        alloc: Global,
-        key: &[u8],
-        value: i32,
-        format: Format,
-        end: &mut usize,
-        buffer: &mut [u8],
-        plan: &mut Plan,
-        held: &mut bool,
-        before: &mut i32,
-        position: &mut usize,
-    ) -> u32
-        ensures open { result ≢ CLOSED }
-        ensures stored { result ≡ OK → (dictionary_in self.new).state ≡ after_put (dictionary_in self.old).state key.now value }
-        ensures kept { (result ≡ OK) ⊎ ((dictionary_in self.new).state ≡ (dictionary_in self.old).state) }
-        ensures held { result ≡ OK → IsTrue held.new ↔ IsSome (number_at (dictionary_in self.old).state.tree key.now) }
-        ensures before { result ≡ OK → IfSome (number_at (dictionary_in self.old).state.tree key.now) (λ v. before.new ≡ v) }
-        ensures untold { (result ≡ OK) ⊎ ((held.new ≡ held.old) × (before.new ≡ before.old) × (end.new ≡ end.old) × (plan.new ≡ plan.old)) }
-        ensures layout { layout_of self.new ≡ layout_of self.old }
-        ensures planned { result ≡ OK → IsPutPlan (works_of buffer.new plan.new) format end.old end.new (dictionary_in self.old).state key.now value }
-        ensures recorded { result ≡ OK → format ≡ Plain → AddsChange (put_at key.now value) (take (length key.now + 10) buffer.new) }
-        ensures faulty { IfSome (fault key.now value) (λ e. (result ≡ status_of e) × (position.new ≡ position_of position.old e)) }
-        ensures refused { fault key.now value ≡ None → LacksChange format end.old (length key.now + 5) (length buffer.old) result }
-    {
-        if let Err(error) = check_pair(key, value) {
-            return tell(error, position);
-        }
-        let size = match write_put(alloc, format, *end, key, value, buffer) {
-            Ok(size) => size,
-            Err(status) => return status,
-        };
-        match self.insert_bytes(key, value) {
-            Ok(number) => {
-                *held = number.is_some();
-                if let Some(number) = number {
-                    *before = number;
-                }
-                go_on(size, end, plan);
-                OK
-            }
-            Err(error) => tell(error, position),
-        }
+/// As `cedar_plan_put`, of an open handle.
+fn plan_put(
+    cedar: &mut AnyCedar,
+    alloc: Global,
+    key: &[u8],
+    value: i32,
+    format: Format,
+    end: &mut usize,
+    buffer: &mut [u8],
+    plan: &mut Plan,
+    held: &mut bool,
+    before: &mut i32,
+    position: &mut usize,
+) -> u32
+    ensures open { result ≢ CLOSED }
+    ensures stored { result ≡ OK → (inner_dictionary cedar.new).state ≡ after_put (inner_dictionary cedar.old).state key.now value }
+    ensures kept { (result ≡ OK) ⊎ ((inner_dictionary cedar.new).state ≡ (inner_dictionary cedar.old).state) }
+    ensures held { result ≡ OK → IsTrue held.new ↔ IsSome (number_at (inner_dictionary cedar.old).state.tree key.now) }
+    ensures before { result ≡ OK → IfSome (number_at (inner_dictionary cedar.old).state.tree key.now) (λ v. before.new ≡ v) }
+    ensures untold { (result ≡ OK) ⊎ ((held.new ≡ held.old) × (before.new ≡ before.old) × (end.new ≡ end.old) × (plan.new ≡ plan.old)) }
+    ensures layout { inner_layout cedar.new ≡ inner_layout cedar.old }
+    ensures planned { result ≡ OK → IsPutPlan (works_of buffer.new plan.new) format end.old end.new (inner_dictionary cedar.old).state key.now value }
+    ensures recorded { result ≡ OK → format ≡ Plain → AddsChange (put_at key.now value) (take (length key.now + 10) buffer.new) }
+    ensures faulty { IfSome (fault key.now value) (λ e. (result ≡ status_of e) × (position.new ≡ position_of position.old e)) }
+    ensures refused { fault key.now value ≡ None → LacksChange format end.old (length key.now + 5) (length buffer.old) result }
+{
+    if let Err(error) = check_pair(key, value) {
+        return tell(error, position);
     }
-
-    /// As `cedar_plan_erase`, of an open handle.
-    fn plan_erase(
-        &mut self,
-        alloc: Global,
-        key: &[u8],
-        format: Format,
-        end: &mut usize,
-        buffer: &mut [u8],
-        plan: &mut Plan,
-        held: &mut bool,
-    ) -> u32
-        ensures open { result ≢ CLOSED }
-        ensures erased { result ≡ OK → IsTrue held.new → (dictionary_in self.new).state ≡ after_erase (dictionary_in self.old).state key.now }
-        ensures missed { result ≡ OK → IsFalse held.new → ((dictionary_in self.new).state ≡ (dictionary_in self.old).state) × (end.new ≡ end.old) × (plan.new ≡ plan.old) }
-        ensures kept { (result ≡ OK) ⊎ ((dictionary_in self.new).state ≡ (dictionary_in self.old).state) }
-        ensures held { result ≡ OK → IsTrue held.new ↔ IsSome (number_at (dictionary_in self.old).state.tree key.now) }
-        ensures untold { (result ≡ OK) ⊎ ((held.new ≡ held.old) × (end.new ≡ end.old) × (plan.new ≡ plan.old)) }
-        ensures layout { layout_of self.new ≡ layout_of self.old }
-        ensures planned { result ≡ OK → IsTrue held.new
-            → IsErasurePlan (works_of buffer.new plan.new) format end.old end.new (dictionary_in self.old).state key.now }
-        ensures recorded { result ≡ OK → IsTrue held.new → format ≡ Plain → AddsChange (erase_at key.now) (take (length key.now + 6) buffer.new) }
-        ensures refused { (result ≡ OK) ⊎ LacksRecord format end.old (length key.now + 1) (length buffer.old) result }
-    {
-        if !self.contains_key_bytes(key) {
-            *held = false;
-            return OK;
-        }
-        match write_erasure(alloc, format, *end, key, buffer) {
-            Ok(size) => {
-                self.erase_bytes(key);
-                go_on(size, end, plan);
-                *held = true;
-                OK
+    let size = match write_put(alloc, format, *end, key, value, buffer) {
+        Ok(size) => size,
+        Err(status) => return status,
+    };
+    match cedar.insert_bytes(key, value) {
+        Ok(number) => {
+            *held = number.is_some();
+            if let Some(number) = number {
+                *before = number;
             }
-            Err(status) => status,
+            go_on(size, end, plan);
+            OK
         }
+        Err(error) => tell(error, position),
+    }
+}
+
+/// As `cedar_plan_erase`, of an open handle.
+fn plan_erase(
+    cedar: &mut AnyCedar,
+    alloc: Global,
+    key: &[u8],
+    format: Format,
+    end: &mut usize,
+    buffer: &mut [u8],
+    plan: &mut Plan,
+    held: &mut bool,
+) -> u32
+    ensures open { result ≢ CLOSED }
+    ensures erased { result ≡ OK → IsTrue held.new → (inner_dictionary cedar.new).state ≡ after_erase (inner_dictionary cedar.old).state key.now }
+    ensures missed { result ≡ OK → IsFalse held.new → ((inner_dictionary cedar.new).state ≡ (inner_dictionary cedar.old).state) × (end.new ≡ end.old) × (plan.new ≡ plan.old) }
+    ensures kept { (result ≡ OK) ⊎ ((inner_dictionary cedar.new).state ≡ (inner_dictionary cedar.old).state) }
+    ensures held { result ≡ OK → IsTrue held.new ↔ IsSome (number_at (inner_dictionary cedar.old).state.tree key.now) }
+    ensures untold { (result ≡ OK) ⊎ ((held.new ≡ held.old) × (end.new ≡ end.old) × (plan.new ≡ plan.old)) }
+    ensures layout { inner_layout cedar.new ≡ inner_layout cedar.old }
+    ensures planned { result ≡ OK → IsTrue held.new
+        → IsErasurePlan (works_of buffer.new plan.new) format end.old end.new (inner_dictionary cedar.old).state key.now }
+    ensures recorded { result ≡ OK → IsTrue held.new → format ≡ Plain → AddsChange (erase_at key.now) (take (length key.now + 6) buffer.new) }
+    ensures refused { (result ≡ OK) ⊎ LacksRecord format end.old (length key.now + 1) (length buffer.old) result }
+{
+    if !cedar.contains_key_bytes(key) {
+        *held = false;
+        return OK;
+    }
+    match write_erasure(alloc, format, *end, key, buffer) {
+        Ok(size) => {
+            cedar.erase_bytes(key);
+            go_on(size, end, plan);
+            *held = true;
+            OK
+        }
+        Err(status) => status,
     }
 }
 

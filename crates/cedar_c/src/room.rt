@@ -1,16 +1,16 @@
 //! Memory allocated ahead, memory freed, and how many blocks a search for places tries.
 
-ghost use Rattle.std.specs.Prelude.{◌*◌, ◌+◌, ◌-◌, ◌<◌, ◌↔◌, ◌≡◌, ◌≤◌, ◌⊎◌, IsSome, None, OnErr};
-ghost use Rattle.cedar_c.specs.Words.{capacity_after, capacity_in, ChangesBy, content};
-ghost use Rattle.cedar_c.specs.Words.{dictionary_in, HasToGrow, IsShrunk, layout_in, layout_of};
-ghost use Rattle.cedar_c.specs.Words.{marks_in, most_slots, search_limit_in, SetsSearchLimit};
-ghost use Rattle.cedar_c.specs.Words.{shown_figure, Shrinks, size_in, state_in, trials_in};
+ghost use Rattle.std.specs.Prelude.{◌*◌, ◌+◌, ◌-◌, ◌<◌, ◌↔◌, ◌≡◌, ◌≤◌, ◌⊎◌, IsSome, None};
+ghost use Rattle.cedar_c.specs.Words.{capacity_after, capacity_in, ChangesBy, content, HasToGrow};
+ghost use Rattle.cedar_c.specs.Words.{inner_dictionary, inner_layout, layout_in, marks_in};
+ghost use Rattle.cedar_c.specs.Words.{most_slots, search_limit_in, SetsSearchLimit, shown_figure};
+ghost use Rattle.cedar_c.specs.Words.{Shrinks, size_in, state_in, trials_in};
 
-use crate::any::AnyCedar;
 use crate::handle::Handle;
 use crate::reading::Reading;
 use crate::status::{CLOSED, MEMORY, OK, SLOT_LIMIT};
 use cedarwood::CedarError;
+use either_layout::AnyCedar;
 
 /// Allocates ahead for `blocks` blocks of 256 slots more than are in use, so that an update of a key of as many bytes, or of several keys
 /// of as many bytes together, needs no memory. If so many are spare already, nothing changes.
@@ -44,33 +44,31 @@ pub extern "C" fn cedar_reserve(handle: &mut Handle, blocks: usize) -> u32
     if !handle.is_open() {
         return CLOSED;
     }
-    handle.held.lend().reserve(blocks)
+    reserve(handle.held.lend(), blocks)
 }
 
-impl AnyCedar {
-    /// Allocates ahead for so many blocks more than are in use, and returns what was lacking.
-    fn reserve(&mut self, blocks: usize) -> u32
-        ensures state { (dictionary_in self.new).state ≡ (dictionary_in self.old).state }
-        ensures marked { (dictionary_in self.new).marked ≡ (dictionary_in self.old).marked }
-        ensures max_trial { (dictionary_in self.new).max_trial ≡ (dictionary_in self.old).max_trial }
-        ensures search_limit { (dictionary_in self.new).search_limit ≡ (dictionary_in self.old).search_limit }
-        ensures layout { layout_of self.new ≡ layout_of self.old }
-        ensures size { (dictionary_in self.new).size ≡ (dictionary_in self.old).size }
-        ensures capacity { result ≡ OK → (dictionary_in self.new).capacity ≡ capacity_after blocks (dictionary_in self.old).size (dictionary_in self.old).capacity }
-        ensures spare { result ≡ OK → 256 * blocks ≤ (dictionary_in self.new).capacity - (dictionary_in self.new).size }
-        ensures enough { 256 * blocks ≤ (dictionary_in self.old).capacity - (dictionary_in self.old).size → (self.new ≡ self.old) × (result ≡ OK) }
-        ensures limit { (result ≡ SLOT_LIMIT) ↔ (most_slots < (dictionary_in self.old).size + 256 * blocks) }
-        ensures memory { result ≡ MEMORY → HasToGrow (dictionary_in self.old).size (dictionary_in self.old).capacity blocks }
-        ensures refused { (result ≡ OK) ⊎ (((result ≡ MEMORY) ⊎ (result ≡ SLOT_LIMIT)) × (self.new ≡ self.old)) }
-    {
-        match self.try_reserve(blocks) {
-            Ok(()) => OK,
-            Err(error) => match error {
-                CedarError::SlotLimit => SLOT_LIMIT,
-                // It has no other error than these two.
-                _ => MEMORY,
-            },
-        }
+/// Allocates ahead for so many blocks more than are in use, and returns what was lacking.
+fn reserve(cedar: &mut AnyCedar, blocks: usize) -> u32
+    ensures state { (inner_dictionary cedar.new).state ≡ (inner_dictionary cedar.old).state }
+    ensures marked { (inner_dictionary cedar.new).marked ≡ (inner_dictionary cedar.old).marked }
+    ensures max_trial { (inner_dictionary cedar.new).max_trial ≡ (inner_dictionary cedar.old).max_trial }
+    ensures search_limit { (inner_dictionary cedar.new).search_limit ≡ (inner_dictionary cedar.old).search_limit }
+    ensures layout { inner_layout cedar.new ≡ inner_layout cedar.old }
+    ensures size { (inner_dictionary cedar.new).size ≡ (inner_dictionary cedar.old).size }
+    ensures capacity { result ≡ OK → (inner_dictionary cedar.new).capacity ≡ capacity_after blocks (inner_dictionary cedar.old).size (inner_dictionary cedar.old).capacity }
+    ensures spare { result ≡ OK → 256 * blocks ≤ (inner_dictionary cedar.new).capacity - (inner_dictionary cedar.new).size }
+    ensures enough { 256 * blocks ≤ (inner_dictionary cedar.old).capacity - (inner_dictionary cedar.old).size → (cedar.new ≡ cedar.old) × (result ≡ OK) }
+    ensures limit { (result ≡ SLOT_LIMIT) ↔ (most_slots < (inner_dictionary cedar.old).size + 256 * blocks) }
+    ensures memory { result ≡ MEMORY → HasToGrow (inner_dictionary cedar.old).size (inner_dictionary cedar.old).capacity blocks }
+    ensures refused { (result ≡ OK) ⊎ (((result ≡ MEMORY) ⊎ (result ≡ SLOT_LIMIT)) × (cedar.new ≡ cedar.old)) }
+{
+    match cedar.try_reserve(blocks) {
+        Ok(()) => OK,
+        Err(error) => match error {
+            CedarError::SlotLimit => SLOT_LIMIT,
+            // It has no other error than these two.
+            _ => MEMORY,
+        },
     }
 }
 
@@ -104,25 +102,12 @@ pub extern "C" fn cedar_shrink(handle: &mut Handle) -> u32
     }
 }
 
-impl AnyCedar {
-    fn shrink_to_fit(&mut self) -> Result<(), CedarError>
-        ensures shrunk { IsShrunk (layout_of self.old) most_slots (dictionary_in self.old) (dictionary_in self.new) result }
-        ensures unchanged { OnErr result (self.new ≡ self.old) }
-        ensures layout { layout_of self.new ≡ layout_of self.old }
-    {
-        match self {
-            AnyCedar::Default(cedar) => cedar.shrink_to_fit(),
-            AnyCedar::Reduced(cedar) => cedar.shrink_to_fit(),
-        }
-    }
-}
-
 /// Lets one search for places try `blocks` blocks of slots at most. On a closed handle it does nothing.
 #[unsafe(no_mangle)]
 pub extern "C" fn cedar_set_search_limit(handle: &mut Handle, blocks: usize)
     //= `cedar_set_search_limit` sets how many blocks one search tries at most, and changes nothing else that a contract sees. A closed
     //  handle stays closed. [with closed, layout; by set, SetsSearchLimit]
-    ensures set { IsSome (content handle.old) → ChangesBy (λ a b. SetsSearchLimit (dictionary_in a) (dictionary_in b) blocks) handle.old handle.new }
+    ensures set { IsSome (content handle.old) → ChangesBy (λ a b. SetsSearchLimit (inner_dictionary a) (inner_dictionary b) blocks) handle.old handle.new }
     ensures closed { content handle.old ≡ None → content handle.new ≡ None }
     ensures layout { layout_in handle.new ≡ layout_in handle.old }
 {
@@ -143,25 +128,4 @@ pub extern "C" fn cedar_search_limit(handle: &mut Reading) -> usize
         return 0;
     }
     handle.shown.see().dictionary().search_limit()
-}
-
-impl AnyCedar {
-    fn set_search_limit(&mut self, blocks: usize)
-        ensures set { SetsSearchLimit (dictionary_in self.old) (dictionary_in self.new) blocks }
-        ensures layout { layout_of self.new ≡ layout_of self.old }
-    {
-        match self {
-            AnyCedar::Default(cedar) => cedar.set_search_limit(blocks),
-            AnyCedar::Reduced(cedar) => cedar.set_search_limit(blocks),
-        }
-    }
-
-    fn search_limit(&self) -> usize
-        ensures { result ≡ (dictionary_in self.now).search_limit }
-    {
-        match self {
-            AnyCedar::Default(cedar) => cedar.search_limit(),
-            AnyCedar::Reduced(cedar) => cedar.search_limit(),
-        }
-    }
 }

@@ -2,13 +2,11 @@
 
 ghost use Rattle.std.specs.Prelude.{◌++◌, ◌<◌, ◌↔◌, ◌≡◌, ◌≤◌, ◌⊎◌, drop, IfSome, length, None};
 ghost use Rattle.std.specs.Prelude.{take};
-ghost use Rattle.cedar_c.specs.Words.{file_in, minor_of, shown_in, table_bytes};
+ghost use Rattle.cedar_c.specs.Words.{file_in, inner_dictionary, shown_in, table_bytes};
 
-use crate::any::AnyCedar;
 use crate::reading::Reading;
 use crate::status::{CLOSED, NO_ROOM, OK};
-use cedarwood::{Layout, Trie};
-use std::alloc::Global;
+use either_layout::AnyCedar;
 
 /// Writes the dictionary's file into the first elements of a buffer, and how many bytes it has. The file lists the slots and blocks that
 /// are in use, or all of them if `is_full`, as format 1.0 does. It allocates nothing, and without room it looks at no slot.
@@ -40,84 +38,52 @@ pub extern "C" fn cedar_save(
     if !handle.is_open() {
         return CLOSED;
     }
-    handle
-        .shown
-        .see()
-        .dictionary()
-        .save(is_full, buffer, needed)
-}
-
-impl AnyCedar {
-    /// Writes the dictionary's file into the first elements of a buffer, and how many bytes it has.
-    fn save(&self, is_full: bool, buffer: &mut [u8], needed: &mut usize) -> u32
-        ensures saved { result ≡ OK → buffer.new ≡ file_in is_full self.now ++ drop needed.new buffer.old }
-        ensures needed { needed.new ≡ length (file_in is_full self.now) }
-        ensures room { (result ≡ OK → needed.new ≤ length buffer.old) × (result ≡ NO_ROOM → length buffer.old < needed.new) }
-        ensures refused { (result ≡ OK) ⊎ ((result ≡ NO_ROOM) × (buffer.new ≡ buffer.old)) }
-    {
-        match self {
-            AnyCedar::Default(cedar) => save_either(cedar, is_full, buffer, needed),
-            AnyCedar::Reduced(cedar) => save_either(cedar, is_full, buffer, needed),
-        }
-    }
+    save_into(handle.shown.see().dictionary(), is_full, buffer, needed)
 }
 
 /// Writes a dictionary's file in either version into the first elements of a buffer, if it has room for all, and how many bytes it has.
-fn save_either<L: Layout, const SLOTS: usize>(
-    trie: &Trie<L, SLOTS, Global>,
-    is_full: bool,
-    buffer: &mut [u8],
-    needed: &mut usize,
-) -> u32
-    ensures saved { result ≡ OK → buffer.new ≡ table_bytes (minor_of is_full) trie.now.table ++ drop needed.new buffer.old }
-    ensures needed { needed.new ≡ length (table_bytes (minor_of is_full) trie.now.table) }
+fn save_into(cedar: &AnyCedar, is_full: bool, buffer: &mut [u8], needed: &mut usize) -> u32
+    ensures saved { result ≡ OK → buffer.new ≡ file_in is_full cedar.now ++ drop needed.new buffer.old }
+    ensures needed { needed.new ≡ length (file_in is_full cedar.now) }
     ensures room { (result ≡ OK → needed.new ≤ length buffer.old) × (result ≡ NO_ROOM → length buffer.old < needed.new) }
     ensures refused { (result ≡ OK) ⊎ ((result ≡ NO_ROOM) × (buffer.new ≡ buffer.old)) }
 {
     if is_full {
-        save_v1_0(trie, buffer, needed)
+        save_v1_0(cedar, buffer, needed)
     } else {
-        save_v1_1(trie, buffer, needed)
+        save_v1_1(cedar, buffer, needed)
     }
 }
 
 /// The same in format 1.1.
-fn save_v1_1<L: Layout, const SLOTS: usize>(
-    trie: &Trie<L, SLOTS, Global>,
-    buffer: &mut [u8],
-    needed: &mut usize,
-) -> u32
-    ensures saved { result ≡ OK → buffer.new ≡ table_bytes 1 trie.now.table ++ drop needed.new buffer.old }
-    ensures needed { needed.new ≡ length (table_bytes 1 trie.now.table) }
+fn save_v1_1(cedar: &AnyCedar, buffer: &mut [u8], needed: &mut usize) -> u32
+    ensures saved { result ≡ OK → buffer.new ≡ table_bytes 1 (inner_dictionary cedar.now).table ++ drop needed.new buffer.old }
+    ensures needed { needed.new ≡ length (table_bytes 1 (inner_dictionary cedar.now).table) }
     ensures room { (result ≡ OK → needed.new ≤ length buffer.old) × (result ≡ NO_ROOM → length buffer.old < needed.new) }
     ensures refused { (result ≡ OK) ⊎ ((result ≡ NO_ROOM) × (buffer.new ≡ buffer.old)) }
 {
-    let len = trie.saved_len();
+    let len = cedar.saved_len();
     *needed = len;
     if buffer.len() < len {
         return NO_ROOM;
     }
-    *needed = trie.save_to_slice(buffer);
+    *needed = cedar.save_to_slice(buffer);
     OK
 }
 
 /// The same in format 1.0.
-fn save_v1_0<L: Layout, const SLOTS: usize>(
-    trie: &Trie<L, SLOTS, Global>,
-    buffer: &mut [u8],
-    needed: &mut usize,
-) -> u32
-    ensures saved { result ≡ OK → buffer.new ≡ table_bytes 0 trie.now.table ++ drop needed.new buffer.old }
-    ensures needed { needed.new ≡ length (table_bytes 0 trie.now.table) }
+fn save_v1_0(cedar: &AnyCedar, buffer: &mut [u8], needed: &mut usize) -> u32
+    ensures saved { result ≡ OK → buffer.new ≡ table_bytes 0 (inner_dictionary cedar.now).table ++ drop needed.new buffer.old }
+    ensures needed { needed.new ≡ length (table_bytes 0 (inner_dictionary cedar.now).table) }
     ensures room { (result ≡ OK → needed.new ≤ length buffer.old) × (result ≡ NO_ROOM → length buffer.old < needed.new) }
     ensures refused { (result ≡ OK) ⊎ ((result ≡ NO_ROOM) × (buffer.new ≡ buffer.old)) }
 {
-    let len = trie.saved_v1_0_len();
+    let len = cedar.saved_v1_0_len();
     *needed = len;
     if buffer.len() < len {
         return NO_ROOM;
     }
-    *needed = trie.save_v1_0_to_slice(buffer);
+    *needed = cedar.save_v1_0_to_slice(buffer);
     OK
 }
 

@@ -2,14 +2,14 @@
 
 ghost use Rattle.std.specs.Prelude.{◌++◌, ◌+◌, ◌<◌, ◌^◌, ◌∷◌, ◌≡◌, ◌≤◌, ◌⊎◌, drop, IfSome};
 ghost use Rattle.std.specs.Prelude.{IsSome, length, map, None, set, take};
-ghost use Rattle.cedar_c.specs.Words.{dictionary_in, Fit, found_spot, found_spots, found_tokens};
-ghost use Rattle.cedar_c.specs.Words.{front, shown_in, shown_tree, Tree, WritesPiece};
+ghost use Rattle.cedar_c.specs.Words.{Fit, found_spot, found_spots, found_tokens, front};
+ghost use Rattle.cedar_c.specs.Words.{inner_dictionary, shown_in, shown_tree, Tree, WritesPiece};
 
-use crate::any::AnyCedar;
 use crate::reading::Reading;
 use crate::walks::Finds;
 use cedar_words::LongestPrefix;
 use cedarwood::{Layout, Trie};
+use either_layout::{AnyCedar, on_layout};
 use std::alloc::Allocator;
 
 /// A key or token at a position of a text.
@@ -148,30 +148,24 @@ fn token_at<T: LongestPrefix>(trie: &T, text: &[u8], place: usize) -> Found
     }
 }
 
-impl AnyCedar {
-    fn scan(&self, text: &[u8], next: &mut usize, found: &mut [Found]) -> usize
-        ensures told { WritesPiece (found_spots (dictionary_in self.now).state.tree) text.now next.old next.new (take result found.new) }
-        ensures full { (length text.now ≤ next.new) ⊎ (length found.new < result + length (front (dictionary_in self.now).state.tree (drop next.new text.now))) }
-        ensures within { (result ≤ length found.new) × (next.old ≤ next.new) }
-        ensures ends { (next.new ≤ length text.now) ⊎ (next.new ≡ next.old) }
-    {
-        match self {
-            AnyCedar::Default(cedar) => scan(cedar, text, next, found),
-            AnyCedar::Reduced(cedar) => scan(cedar, text, next, found),
-        }
-    }
+/// `scan` of a dictionary of either layout.
+fn scan_from(cedar: &AnyCedar, text: &[u8], next: &mut usize, found: &mut [Found]) -> usize
+    ensures told { WritesPiece (found_spots (inner_dictionary cedar.now).state.tree) text.now next.old next.new (take result found.new) }
+    ensures full { (length text.now ≤ next.new) ⊎ (length found.new < result + length (front (inner_dictionary cedar.now).state.tree (drop next.new text.now))) }
+    ensures within { (result ≤ length found.new) × (next.old ≤ next.new) }
+    ensures ends { (next.new ≤ length text.now) ⊎ (next.new ≡ next.old) }
+{
+    on_layout!(cedar, cedar => scan(cedar, text, next, found))
+}
 
-    fn cut(&self, text: &[u8], next: &mut usize, found: &mut [Found]) -> usize
-        ensures told { WritesPiece (found_tokens (dictionary_in self.now).state.tree) text.now next.old next.new (take result found.new) }
-        ensures full { (length text.now ≤ next.new) ⊎ (result ≡ length found.new) }
-        ensures within { (result ≤ length found.new) × (next.old ≤ next.new) }
-        ensures ends { (next.new ≤ length text.now) ⊎ (next.new ≡ next.old) }
-    {
-        match self {
-            AnyCedar::Default(cedar) => cut(cedar, text, next, found),
-            AnyCedar::Reduced(cedar) => cut(cedar, text, next, found),
-        }
-    }
+/// `cut` of a dictionary of either layout.
+fn cut_from(cedar: &AnyCedar, text: &[u8], next: &mut usize, found: &mut [Found]) -> usize
+    ensures told { WritesPiece (found_tokens (inner_dictionary cedar.now).state.tree) text.now next.old next.new (take result found.new) }
+    ensures full { (length text.now ≤ next.new) ⊎ (result ≡ length found.new) }
+    ensures within { (result ≤ length found.new) × (next.old ≤ next.new) }
+    ensures ends { (next.new ≤ length text.now) ⊎ (next.new ≡ next.old) }
+{
+    on_layout!(cedar, cedar => cut(cedar, text, next, found))
 }
 
 /// Writes the keys in a text from a position on: position after position, and at each the shortest first. Those of a position are written by
@@ -203,7 +197,7 @@ pub extern "C" fn cedar_scan(
         *next = text.len().max(*next);
         return 0;
     }
-    handle.shown.see().dictionary().scan(text, next, found)
+    scan_from(handle.shown.see().dictionary(), text, next, found)
 }
 
 /// Writes the tokens of a text from a position on, where one begins: at each position the longest key that begins there, or otherwise one
@@ -228,5 +222,5 @@ pub extern "C" fn cedar_segment(
         *next = text.len().max(*next);
         return 0;
     }
-    handle.shown.see().dictionary().cut(text, next, found)
+    cut_from(handle.shown.see().dictionary(), text, next, found)
 }

@@ -4,7 +4,7 @@ ghost use Rattle.std.specs.Prelude.{◌≡◌, ℕ, Option, Some, IsSome};
 ghost use Rattle.cedar_c.specs.FieldWords.{any_code, AnyCedar, coded_option};
 ghost use Rattle.cedar_c.specs.FieldWords.{held_lends, shown_owns};
 
-use crate::any::AnyCedar;
+use either_layout::AnyCedar;
 use std::marker::{Model, Send};
 
 /// A pointer to a dictionary that isn't changed while it is read, or to none. It has a lifetime of its own, for which the dictionary

@@ -1,13 +1,13 @@
 //! Walks of a dictionary, written into a buffer of the caller's.
 
 ghost use Rattle.std.specs.Prelude.{◌+◌, ◌<◌, ◌^◌, ◌∷◌, ◌≡◌, [], length, List, MatchOption, ℕ, ℤ};
-ghost use Rattle.cedar_c.specs.Words.{all_longer, dictionary_in, filled_from, filled_matches};
-ghost use Rattle.cedar_c.specs.Words.{Fit, front, front_keys, longer, predict};
+ghost use Rattle.cedar_c.specs.Words.{all_longer, filled_from, filled_matches, Fit, front};
+ghost use Rattle.cedar_c.specs.Words.{front_keys, inner_dictionary, longer, predict};
 ghost use Rattle.cedar_c.specs.Words.{predicted_keys, shown_tree};
 
-use crate::any::AnyCedar;
 use crate::reading::Reading;
 use cedarwood::{Layout, PrefixIter, PrefixPredictIter, Trie, Walked};
+use either_layout::{AnyCedar, on_layout};
 use std::alloc::Global;
 
 /// A key that a walk found: its value, and how many bytes it has.
@@ -108,26 +108,20 @@ fn fill_predictions<L: Layout, const SLOTS: usize>(
     )
 }
 
-impl AnyCedar {
-    fn prefixes(&self, text: &[u8], matches: &mut [Match]) -> usize
-        ensures count { result ≡ length (front (dictionary_in self.now).state.tree text.now) }
-        ensures filled { matches.new ≡ filled_matches matches.old (front_keys (dictionary_in self.now).state.tree text.now) }
-    {
-        match self {
-            AnyCedar::Default(cedar) => fill_prefixes(cedar, text, matches),
-            AnyCedar::Reduced(cedar) => fill_prefixes(cedar, text, matches),
-        }
-    }
+/// `fill_prefixes` of a dictionary of either layout.
+fn write_prefixes(cedar: &AnyCedar, text: &[u8], matches: &mut [Match]) -> usize
+    ensures count { result ≡ length (front (inner_dictionary cedar.now).state.tree text.now) }
+    ensures filled { matches.new ≡ filled_matches matches.old (front_keys (inner_dictionary cedar.now).state.tree text.now) }
+{
+    on_layout!(cedar, cedar => fill_prefixes(cedar, text, matches))
+}
 
-    fn predictions(&self, text: &[u8], matches: &mut [Match]) -> usize
-        ensures count { result ≡ length (predict (dictionary_in self.now).state.tree text.now) }
-        ensures filled { matches.new ≡ filled_matches matches.old (predicted_keys (dictionary_in self.now).state.tree text.now) }
-    {
-        match self {
-            AnyCedar::Default(cedar) => fill_predictions(cedar, text, matches),
-            AnyCedar::Reduced(cedar) => fill_predictions(cedar, text, matches),
-        }
-    }
+/// `fill_predictions` of a dictionary of either layout.
+fn write_predictions(cedar: &AnyCedar, text: &[u8], matches: &mut [Match]) -> usize
+    ensures count { result ≡ length (predict (inner_dictionary cedar.now).state.tree text.now) }
+    ensures filled { matches.new ≡ filled_matches matches.old (predicted_keys (inner_dictionary cedar.now).state.tree text.now) }
+{
+    on_layout!(cedar, cedar => fill_predictions(cedar, text, matches))
 }
 
 /// Writes the keys that a text begins with into the first elements of a buffer, shortest first, as many as there is room for, and returns
@@ -144,7 +138,7 @@ pub extern "C" fn cedar_prefixes(handle: &mut Reading, text: &[u8], matches: &mu
     if !handle.is_open() {
         return 0;
     }
-    handle.shown.see().dictionary().prefixes(text, matches)
+    write_prefixes(handle.shown.see().dictionary(), text, matches)
 }
 
 /// Writes the keys that begin with a text into the first elements of a buffer, in iteration order, as many as there is room for, and
@@ -162,5 +156,5 @@ pub extern "C" fn cedar_predictions(
     if !handle.is_open() {
         return 0;
     }
-    handle.shown.see().dictionary().predictions(text, matches)
+    write_predictions(handle.shown.see().dictionary(), text, matches)
 }

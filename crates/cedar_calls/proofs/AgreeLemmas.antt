@@ -30,7 +30,7 @@ use Rattle.cedarwood.specs.OnTable.{IsOnTable}
 use Rattle.cedarwood.specs.SortedInput.{fault_from}
 use Rattle.cedar_calls.specs.Agreement.{AreSameCalls, IsSameCall, IsSameChange, IsSameQuestion}
 use Rattle.cedar_calls.specs.Making.{IsLoad, Joins}
-use Rattle.cedar_calls.specs.Plain.{PlainAnswer, plain_answers, at_state, batch_says, faultless_front, held_each, call_says, change_says, changed_state, counted, done, found, held, listed, IsLoadless, IsMet, kept_at_fault, matched, missing, reply_says, plain_answer, plain_load, selected, states_after, states_of, unless_fault, unloaded, numbered, walked, was}
+use Rattle.cedar_calls.specs.Plain.{PlainAnswer, plain_answers, at_state, batch_says, faultless_front, held_each, call_says, change_says, changed_state, counted, done, found, held, listed, IsLoadless, IsMet, kept_at_fault, matched, missing, reply_says, plain_answer, plain_load, selected, states_after, states_of, text_says, unless_fault, unloaded, numbered, walked, was}
 use Rattle.cedar_calls.specs.Replies.{in_order}
 use Rattle.cedar_calls.specs.Runs.{IsRun, IsStep}
 use Rattle.cedar_calls.specs.declared.call.Call.{Call}
@@ -41,6 +41,8 @@ use Rattle.cedar_calls.specs.declared.call.Question.{Question}
 use Rattle.cedar_calls.specs.declared.call.Question.TheVariants as question
 use Rattle.cedar_calls.specs.declared.answer.Answer.{Answer}
 use Rattle.cedar_calls.specs.declared.answer.Answer.TheVariants as answer
+use Rattle.cedar_calls.proofs.BufferLemmas.{buffer_alike}
+use Rattle.cedar_calls.proofs.InTextLemmas.{text_alike}
 use Rattle.cedar_calls.proofs.PlainRunLemmas.{step_goes}
 
 abbrev table_in : Dictionary → Fields
@@ -89,6 +91,9 @@ reply_alike b s (question.EntriesWith k) (question.EntriesWith l) h = ap (λ x. 
 reply_alike b s (question.EntriesFrom k) (question.EntriesFrom l) h = ap (λ x. selected (in_order s.ordered (entries_since s.tree x))) h
 reply_alike b s (question.Range k l) (question.Range x y) h =
     ap (λ z. selected (in_order s.ordered (entries_between s.tree z l.now))) h.0 ∙ ap (λ z. selected (in_order s.ordered (entries_between s.tree x.now z))) h.1
+reply_alike b s (question.CountPrefix k) (question.CountPrefix l) h = ap (λ x. counted (length (entries_with s.tree x))) h
+reply_alike b s (question.InBuffer q) (question.InBuffer r) h = buffer_alike s.tree q r h
+reply_alike b s (question.InText k q) (question.InText l r) h = ap (λ x. text_says s.tree x q) h.0 ∙ text_alike s.tree l.now q r h.1
 reply_alike b s question.Len question.Len h = refl
 reply_alike b s (question.Figure f) (question.Figure g) h = ap (λ x. reply_says b s (question.Figure x)) h
 reply_alike b s question.IsEmpty question.IsEmpty h = refl

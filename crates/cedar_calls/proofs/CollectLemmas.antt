@@ -5,6 +5,7 @@ use Rattle.std.specs.declared.result.Result.{Result}
 use Rattle.std.proofs.lemmas.Bool.{false≢true, true≢false}
 use Rattle.cedarwood.specs.declared.error.CedarError.{CedarError}
 use Rattle.cedarwood.specs.declared.error.CedarError.TheVariants.{Memory}
+use Rattle.cedarwood.specs.Fault.{IsShortage}
 use Rattle.cedar_calls.specs.Replies.{Collects, CollectsSome}
 
 -- what has a part that isn't empty isn't empty
@@ -33,3 +34,7 @@ pub some_listed : {X A : Type 0} (result : Result (Vec X A) CedarError) (items :
     → CollectsSome result (λ v. v.items ≡ items) items
 some_listed (Ok v) items ok err some = ok
 some_listed (Err e) items ok err some = (err, some)
+
+-- lack of memory is no fault of the call
+pub short : (e : CedarError) → e ≡ Memory → IsShortage e
+short e h = subst IsShortage (sym h) tt

@@ -3,6 +3,8 @@ mod TextLemmas
 mod PlaceLemmas
 mod CollectLemmas
 mod RunLemmas
+mod BufferLemmas
+mod InTextLemmas
 mod PlainLemmas
 mod PlainRunLemmas
 mod KeyLemmas

@@ -29,6 +29,9 @@ use Rattle.cedar_calls.specs.declared.answer.Changed.{Changed}
 use Rattle.cedar_calls.specs.declared.answer.Changed.TheVariants as changed
 use Rattle.cedar_calls.specs.declared.answer.Reply.{Reply}
 use Rattle.cedar_calls.specs.declared.answer.Reply.TheVariants as reply
+use Rattle.cedar_calls.proofs.BufferLemmas.{buffer_goes}
+use Rattle.cedar_calls.proofs.CollectLemmas.{short}
+use Rattle.cedar_calls.proofs.InTextLemmas.{text_goes}
 use Rattle.cedar_calls.proofs.TextLemmas.{texts_are}
 
 pub bool_same : (b c : Bool) → ((b ≡ true) ↔ (c ≡ true)) → b ≡ c
@@ -176,9 +179,6 @@ change_goes layout slots d d' (change.Reserve n) (changed.Reserved (Err e)) h me
 change_goes layout slots d d' (change.SetSearchLimit n) changed.SearchLimitSet h met = (refl, ap (λ (x : Dictionary). x.state) h)
 change_goes layout slots d d' c a h met = absurd h
 
-pub short : (e : CedarError) → e ≡ Memory → IsShortage e
-short e h = subst IsShortage (sym h) tt
-
 same_use : (by_default : Bool) (layout : LayoutKind) (n m : ℕ) → (by_default ≡ true → layout ≡ default_layout) → (layout ≡ default_layout → n ≡ m) → comparable_count by_default n ≡ comparable_count by_default m
 same_use true layout n m h same = ap Some (same (h refl))
 same_use false layout n m h same = refl
@@ -209,6 +209,9 @@ reply_goes b layout slots d (question.EntriesFrom key) (reply.Range (Ok o)) k h 
 reply_goes b layout slots d (question.EntriesFrom key) (reply.Range (Err e)) k h met = absurd (met (short e h.0))
 reply_goes b layout slots d (question.Range from to) (reply.Range (Ok o)) k h met = ap selected h
 reply_goes b layout slots d (question.Range from to) (reply.Range (Err e)) k h met = absurd (met (short e h.0))
+reply_goes b layout slots d (question.CountPrefix prefix) (reply.Count n) k h met = ap counted h
+reply_goes b layout slots d (question.InBuffer q) (reply.InBuffer a) k h met = buffer_goes d.state.tree q a h met
+reply_goes b layout slots d (question.InText text q) (reply.InText a) k h met = text_goes d.state.tree text.now q a h met
 reply_goes b layout slots d question.Len (reply.Len n) k h met = ap counted h
 reply_goes b layout slots d (question.Figure UsedSlots) (reply.Figure n) k h met = ap slots_held_of_tree (same_use b layout n (slots_of_tree d.state.tree) k h.1)
 reply_goes b layout slots d (question.Figure Capacity) (reply.Figure n) k h met = refl

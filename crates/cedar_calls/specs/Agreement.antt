@@ -12,6 +12,11 @@ use Rattle.cedar_calls.specs.declared.call.Change.{Change}
 use Rattle.cedar_calls.specs.declared.call.Change.TheVariants as change
 use Rattle.cedar_calls.specs.declared.call.Question.{Question}
 use Rattle.cedar_calls.specs.declared.call.Question.TheVariants as question
+use Rattle.cedar_calls.specs.declared.call.BufferQuery.{BufferQuery}
+use Rattle.cedar_calls.specs.declared.call.BufferQuery.TheVariants as buffer_query
+use Rattle.cedar_calls.specs.declared.call.TextQuery.{TextQuery}
+use Rattle.cedar_calls.specs.declared.call.TextQuery.TheVariants as text_query
+use Rattle.cedar_calls.specs.declared.model.ModelTables.{ModelTables}
 use Rattle.cedar_calls.specs.declared.answer.Answer.{Answer}
 
 -- two changes are the same, whatever `max_trial` and search limit they set and wherever their bytes lie
@@ -31,6 +36,24 @@ IsSameChange (change.Reserve n) (change.Reserve m) = n ≡ m
 IsSameChange (change.SetSearchLimit n) (change.SetSearchLimit m) = Unit {0}
 IsSameChange c d = ⊥
 
+-- the same question about entries in a buffer, whatever room that has and wherever its bytes lie
+abbrev pub IsSameBufferQuery : BufferQuery → BufferQuery → Type 0
+IsSameBufferQuery (buffer_query.First room) (buffer_query.First other) = Unit {0}
+IsSameBufferQuery (buffer_query.Last room) (buffer_query.Last other) = Unit {0}
+IsSameBufferQuery (buffer_query.EntriesWith k room) (buffer_query.EntriesWith l other) = k.now ≡ l.now
+IsSameBufferQuery (buffer_query.ByCursor k) (buffer_query.ByCursor l) = k.now ≡ l.now
+IsSameBufferQuery q r = ⊥
+
+-- the same model, wherever its tables lie
+abbrev pub AreSameTables : ModelTables → ModelTables → Type 0
+AreSameTables m n = (m.costs.now ≡ n.costs.now) × (m.beyond ≡ n.beyond) × (m.runs.now ≡ n.runs.now)
+
+-- the same question about a text, wherever its tables lie
+abbrev pub IsSameTextQuery : TextQuery → TextQuery → Type 0
+IsSameTextQuery (text_query.CheapestBy m) (text_query.CheapestBy n) = AreSameTables m n
+IsSameTextQuery (text_query.Lattice m) (text_query.Lattice n) = AreSameTables m n
+IsSameTextQuery q r = q ≡ r
+
 -- two questions are the same, wherever their bytes lie
 abbrev pub IsSameQuestion : Question → Question → Type 0
 IsSameQuestion (question.Exact k) (question.Exact l) = k.now ≡ l.now
@@ -47,6 +70,9 @@ IsSameQuestion question.TextEntries question.TextEntries = Unit {0}
 IsSameQuestion (question.EntriesWith k) (question.EntriesWith l) = k.now ≡ l.now
 IsSameQuestion (question.EntriesFrom k) (question.EntriesFrom l) = k.now ≡ l.now
 IsSameQuestion (question.Range a b) (question.Range c d) = (a.now ≡ c.now) × (b.now ≡ d.now)
+IsSameQuestion (question.CountPrefix k) (question.CountPrefix l) = k.now ≡ l.now
+IsSameQuestion (question.InBuffer q) (question.InBuffer r) = IsSameBufferQuery q r
+IsSameQuestion (question.InText k q) (question.InText l r) = (k.now ≡ l.now) × IsSameTextQuery q r
 IsSameQuestion question.Len question.Len = Unit {0}
 IsSameQuestion (question.Figure f) (question.Figure g) = f ≡ g
 IsSameQuestion question.IsEmpty question.IsEmpty = Unit {0}

@@ -1,5 +1,6 @@
 pub mod Making
 pub mod Changes
+pub mod Texts
 pub mod Replies
 pub mod Runs
 pub mod Plain

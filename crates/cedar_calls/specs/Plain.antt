@@ -1,14 +1,15 @@
 -- What runs return as far as trees go: places, bytes and settings but the order have no part in it.
-use Rattle.std.specs.Prelude.{◌≡◌, Bool, true, false, ℕ, ℤ, List, [], ◌∷◌, ◌++◌, ◌+◌, length, map}
+use Rattle.std.specs.Prelude.{◌≡◌, Bool, true, false, ℕ, ℤ, List, [], ◌∷◌, ◌++◌, ◌+◌, drop, length, map}
 use Rattle.std.specs.Prelude.{slice_get, slice_set, Option, option_map, Some, None, is_some}
-use Rattle.std.specs.Prelude.{string_bytes, if◌then◌else◌, Result, Ok, Err}
+use Rattle.std.specs.Prelude.{string_bytes, if◌then◌else◌, Result, Ok, Err, unsigned_abs}
 use Rattle.std.specs.List.{AllByRecursion, remove}
 use Rattle.std.specs.Str.{is_utf8}
-use Rattle.cedarwood.specs.Tree.{empty_tree, number_at}
+use Rattle.cedarwood.specs.Tree.{empty_tree, number_at, Tree}
 use Rattle.cedarwood.specs.Queries.{Entry, asc, exact, front, predict, slots_of_tree, walk}
 use Rattle.cedarwood.specs.State.{State, after_erase, after_put}
 use Rattle.cedarwood.specs.declared.batches.RefusedPair.{RefusedPair}
 use Rattle.cedarwood.specs.declared.error.CedarError.{CedarError}
+use Rattle.cedarwood.specs.declared.error.CedarError.TheVariants.{Memory}
 use Rattle.cedarwood.specs.Words.{entries_of, keys_of}
 use Rattle.cedarwood.specs.Ranges.{entries_since, entries_with, longest_front}
 use Rattle.cedarwood.specs.RangeWalks.{entries_between}
@@ -22,8 +23,15 @@ use Rattle.cedarwood.specs.Builds.{all_stored, first_fault}
 use Rattle.cedarwood.specs.Dictionary.{Dictionary}
 use Rattle.cedarwood.specs.Fault.{fault, IsShortage}
 use Rattle.cedarwood.specs.SortedInput.{sorted_fault}
+use Rattle.cedar_scan.specs.Words.{earliest, overlapping}
+use Rattle.cedar_words.specs.declared.edges.Edge.{Edge}
+use Rattle.cedar_words.specs.Runs.{cost_in_table}
+use Rattle.cedar_words.specs.Words.{byte_run, character_price, edges_from}
+use Rattle.cedar_words.specs.Words.{keywords_from, keywords_in, longest}
+use Rattle.cedar_words.specs.Words.{segments, Spot, spots_from, Token, tokens_behind}
 use Rattle.cedar_calls.specs.Replies.{in_order}
 use Rattle.cedar_calls.specs.Runs.{IsRun}
+use Rattle.cedar_calls.specs.Texts.{model_cut_of, run_in_table}
 use Rattle.cedar_calls.specs.declared.call.Call.{Call}
 use Rattle.cedar_calls.specs.declared.call.Call.TheVariants as call
 use Rattle.cedar_calls.specs.declared.call.Change.{Change}
@@ -31,12 +39,20 @@ use Rattle.cedar_calls.specs.declared.call.Change.TheVariants as change
 use Rattle.cedar_calls.specs.declared.call.Figure.TheVariants.{UsedSlots}
 use Rattle.cedar_calls.specs.declared.call.Question.{Question}
 use Rattle.cedar_calls.specs.declared.call.Question.TheVariants as question
+use Rattle.cedar_calls.specs.declared.call.BufferQuery.{BufferQuery}
+use Rattle.cedar_calls.specs.declared.call.BufferQuery.TheVariants as buffer_query
+use Rattle.cedar_calls.specs.declared.call.TextQuery.{TextQuery}
+use Rattle.cedar_calls.specs.declared.call.TextQuery.TheVariants as text_query
 use Rattle.cedar_calls.specs.declared.answer.Answer.{Answer}
 use Rattle.cedar_calls.specs.declared.answer.Answer.TheVariants as answer
 use Rattle.cedar_calls.specs.declared.answer.Changed.{Changed}
 use Rattle.cedar_calls.specs.declared.answer.Changed.TheVariants as changed
 use Rattle.cedar_calls.specs.declared.answer.Reply.{Reply}
 use Rattle.cedar_calls.specs.declared.answer.Reply.TheVariants as reply
+use Rattle.cedar_calls.specs.declared.answer.BufferReply.{BufferReply}
+use Rattle.cedar_calls.specs.declared.answer.BufferReply.TheVariants as buffer_reply
+use Rattle.cedar_calls.specs.declared.answer.TextReply.{TextReply}
+use Rattle.cedar_calls.specs.declared.answer.TextReply.TheVariants as text_reply
 
 -- an answer as far as trees decide it
 pub data PlainAnswer : Type 0 where
@@ -56,6 +72,9 @@ pub data PlainAnswer : Type 0 where
   selected : Option (List Entry) → PlainAnswer
   ended : Option Entry → PlainAnswer
   worded : List (Option Entry) → PlainAnswer
+  cut_into : List Token → PlainAnswer
+  spotted : List Spot → PlainAnswer
+  edged : List Edge → PlainAnswer
   counted : ℕ → PlainAnswer
   slots_held_of_tree : Option ℕ → PlainAnswer
   measured : ℕ → Option ℕ → PlainAnswer
@@ -98,6 +117,20 @@ abbrev pub plain_figure : Bool → Question → ℕ → PlainAnswer
 plain_figure by_default (question.Figure UsedSlots) n = slots_held_of_tree (comparable_count by_default n)
 plain_figure by_default q n = unsaid
 
+-- what a question about entries in a buffer returned
+abbrev pub plain_buffer_reply : {A : Type 0} → BufferReply A → PlainAnswer
+plain_buffer_reply buffer_reply.NoBuffer = refused Memory
+plain_buffer_reply (buffer_reply.End result) = plain_result (λ o. ended (option_map (λ e. (e.0.items, e.1)) o)) result
+plain_buffer_reply (buffer_reply.Entries result) = plain_result (λ v. walked (map (λ e. (e.0.items, e.1)) v.items)) result
+
+-- what a question about a text returned
+abbrev pub plain_text_reply : {A : Type 0} → TextReply A → PlainAnswer
+plain_text_reply (text_reply.Longest result) = found result
+plain_text_reply (text_reply.Fronts result) = plain_result (λ v. listed v.items) result
+plain_text_reply (text_reply.Tokens result) = plain_result (λ v. cut_into v.items) result
+plain_text_reply (text_reply.Keys result) = plain_result (λ v. spotted v.items) result
+plain_text_reply (text_reply.Edges result) = plain_result (λ v. edged v.items) result
+
 -- what a question returned, as far as trees decide it. The bytes of a file depend on places
 abbrev pub plain_reply : {A : Type 0} → Bool → Question → Reply A → PlainAnswer
 plain_reply by_default q (reply.Exact result) = found result
@@ -111,7 +144,10 @@ plain_reply by_default q (reply.Entries result) = plain_result (λ v. walked (ma
 plain_reply by_default q (reply.Range result) = plain_result (λ o. selected (option_map (λ v. map (λ e. (e.0.items, e.1)) v.items) o)) result
 plain_reply by_default q (reply.End result) = plain_result (λ o. ended (option_map (λ e. (e.0.items, e.1)) o)) result
 plain_reply by_default q (reply.TextEntries result) = plain_result (λ v. worded (map (option_map (λ e. (string_bytes e.0, e.1))) v.items)) result
+plain_reply by_default q (reply.InBuffer result) = plain_buffer_reply result
+plain_reply by_default q (reply.InText result) = plain_text_reply result
 plain_reply by_default q (reply.Len n) = counted n
+plain_reply by_default q (reply.Count n) = counted n
 plain_reply by_default q (reply.Figure n) = plain_figure by_default q n
 plain_reply by_default q (reply.IsEmpty result) = held result
 plain_reply by_default q (reply.Stats stats) = measured stats.entries (comparable_count by_default stats.used_node_slots)
@@ -221,6 +257,30 @@ changed_state s (change.SetSearchLimit n) = s
 abbrev pub text_entries_of : List Entry → List (Option Entry)
 text_entries_of es = map (λ e. if is_utf8 e.0 then Some e else None) es
 
+-- what a question about entries in a buffer returns
+abbrev pub buffer_says : Tree → BufferQuery → PlainAnswer
+buffer_says tree (buffer_query.First room) = ended (first_entry tree)
+buffer_says tree (buffer_query.Last room) = ended (last_entry tree)
+buffer_says tree (buffer_query.EntriesWith prefix room) = walked (entries_with tree prefix.now)
+buffer_says tree (buffer_query.ByCursor prefix) = walked (entries_with tree prefix.now)
+
+-- what a question about a text returns
+abbrev pub text_says : Tree → List ℕ → TextQuery → PlainAnswer
+text_says tree text text_query.LongestPrefix = found (longest tree text)
+text_says tree text text_query.Fronts = listed (front tree text)
+text_says tree text text_query.Segment = cut_into (segments tree text)
+text_says tree text (text_query.SegmentFrom place) = cut_into (tokens_behind tree 0 place (drop place text))
+text_says tree text text_query.LeftmostLongest = spotted (keywords_in tree text)
+text_says tree text (text_query.LeftmostLongestFrom place) = spotted (keywords_from tree place (drop place text))
+text_says tree text text_query.Matches = spotted (spots_from tree 0 text)
+text_says tree text (text_query.MatchesFrom place) = spotted (spots_from tree place (drop place text))
+text_says tree text text_query.Overlapping = spotted (overlapping tree text)
+text_says tree text text_query.Earliest = spotted (earliest tree text)
+text_says tree text (text_query.Cheapest unknown) = cut_into (model_cut_of tree unsigned_abs (λ _. byte_run unknown) text)
+text_says tree text (text_query.CheapestByCharacters unknown) = cut_into (model_cut_of tree unsigned_abs (λ place. byte_run (character_price unknown text place)) text)
+text_says tree text (text_query.CheapestBy model) = cut_into (model_cut_of tree (cost_in_table model.costs.now model.beyond) (run_in_table model.runs.now model.beyond) text)
+text_says tree text (text_query.Lattice model) = edged (edges_from tree (cost_in_table model.costs.now model.beyond) (run_in_table model.runs.now model.beyond) 0 text)
+
 -- what a question says of a state
 abbrev pub reply_says : Bool → State → Question → PlainAnswer
 reply_says by_default s (question.Exact key) = found (exact s.tree key.now)
@@ -237,6 +297,9 @@ reply_says by_default s question.TextEntries = worded (text_entries_of (walk s.t
 reply_says by_default s (question.EntriesWith prefix) = walked (entries_with s.tree prefix.now)
 reply_says by_default s (question.EntriesFrom key) = selected (in_order s.ordered (entries_since s.tree key.now))
 reply_says by_default s (question.Range from to) = selected (in_order s.ordered (entries_between s.tree from.now to.now))
+reply_says by_default s (question.CountPrefix prefix) = counted (length (entries_with s.tree prefix.now))
+reply_says by_default s (question.InBuffer q) = buffer_says s.tree q
+reply_says by_default s (question.InText text q) = text_says s.tree text.now q
 reply_says by_default s question.Len = counted (length (walk s.tree))
 reply_says by_default s (question.Figure UsedSlots) = slots_held_of_tree (comparable_count by_default (slots_of_tree s.tree))
 reply_says by_default s question.IsEmpty = held (is_none_left (walk s.tree))

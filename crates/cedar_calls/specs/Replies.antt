@@ -1,9 +1,9 @@
 -- What a question to a dictionary returns.
 use Rattle.std.specs.Prelude.{◌≡◌, Bool, true, false, ℕ, ℤ, ◌+◌, ◌-◌, ◌*◌, ◌/◌, ◌<◌, List, [], ◌∷◌}
-use Rattle.std.specs.Prelude.{length, map, Option, option_map, Some, None, is_some, IsTrue, ◌↔◌}
-use Rattle.std.specs.Prelude.{MatchResult, Result, string_bytes}
+use Rattle.std.specs.Prelude.{drop, length, map, Option, option_map, Some, None, is_some, IsTrue, ◌↔◌}
+use Rattle.std.specs.Prelude.{IfSome, MatchResult, Result, string_bytes, Vec}
 use Rattle.std.specs.Str.{IsUtf8}
-use Rattle.cedarwood.specs.Tree.{number_at}
+use Rattle.cedarwood.specs.Tree.{number_at, Tree}
 use Rattle.cedarwood.specs.Queries.{Entry, exact, front, predict, slots_of_tree, walk}
 use Rattle.cedarwood.specs.declared.error.CedarError.{CedarError}
 use Rattle.cedarwood.specs.declared.error.CedarError.TheVariants.{Memory}
@@ -13,6 +13,7 @@ use Rattle.cedarwood.specs.Ranges.{entries_since, entries_with, longest_front}
 use Rattle.cedarwood.specs.RangeWalks.{entries_between}
 use Rattle.cedarwood.specs.Ends.{first_entry, last_entry}
 use Rattle.cedarwood.specs.Tables.{IsTableFile}
+use Rattle.cedarwood.specs.Words.{KeyOutgrows}
 use Rattle.cedarwood.specs.Dictionary.{Dictionary, held_slots}
 use Rattle.cedarwood.specs.declared.figures.MemoryStats.{MemoryStats}
 use Rattle.cedar_calls.specs.declared.call.Figure.{Figure}
@@ -20,8 +21,22 @@ use Rattle.cedar_calls.specs.declared.call.Figure.TheVariants.{AllocatedBytes, C
 use Rattle.cedar_calls.specs.declared.call.Figure.TheVariants.{SearchLimit, SpareBlocks, UsedSlots}
 use Rattle.cedar_calls.specs.declared.call.Question.{Question}
 use Rattle.cedar_calls.specs.declared.call.Question.TheVariants as question
+use Rattle.cedar_calls.specs.declared.call.BufferQuery.{BufferQuery}
+use Rattle.cedar_calls.specs.declared.call.BufferQuery.TheVariants as buffer_query
+use Rattle.cedar_calls.specs.declared.call.TextQuery.{TextQuery}
+use Rattle.cedar_calls.specs.declared.call.TextQuery.TheVariants as text_query
 use Rattle.cedar_calls.specs.declared.answer.Reply.{Reply}
 use Rattle.cedar_calls.specs.declared.answer.Reply.TheVariants as reply
+use Rattle.cedar_calls.specs.declared.answer.BufferReply.{BufferReply}
+use Rattle.cedar_calls.specs.declared.answer.BufferReply.TheVariants as buffer_reply
+use Rattle.cedar_calls.specs.declared.answer.TextReply.{TextReply}
+use Rattle.cedar_calls.specs.declared.answer.TextReply.TheVariants as text_reply
+use Rattle.cedar_calls.specs.Texts.{IsCheapCut, run_in_table}
+use Rattle.cedar_scan.specs.Words.{earliest, overlapping}
+use Rattle.cedar_words.specs.Runs.{cost_in_table}
+use Rattle.cedar_words.specs.Words.{character_price, edges_from, IsBestCut}
+use Rattle.cedar_words.specs.Words.{keywords_from, keywords_in, longest}
+use Rattle.cedar_words.specs.Words.{segments, spots_from, tokens_behind}
 
 -- what was asked for, or there was no memory to collect it
 abbrev pub Collects : {X : Type 0} → Result X CedarError → (X → Type 0) → Type 0
@@ -67,6 +82,47 @@ pub record AreStats (layout : LayoutKind) (d : Dictionary) (stats : MemoryStats)
   pub capacity : IsFigure layout d Capacity stats.node_capacity
   pub bytes : IsFigure layout d AllocatedBytes stats.allocated_bytes
 
+-- what is collected from a list, if it isn't empty
+abbrev pub CollectsAll : {X A : Type 0} → Result (Vec X A) CedarError → List X → Type 0
+CollectsAll result items = CollectsSome result (λ found. found.items ≡ items) items
+
+-- what is returned of the entries of a tree where keys are written into a buffer: one that has no room is asked for no memory, and one that
+-- has room for the key is enough for the entry at an end
+abbrev pub IsBufferReply : {A : Type 0} → Tree → BufferQuery → BufferReply A → Type 0
+IsBufferReply tree (buffer_query.First room) buffer_reply.NoBuffer = 0 < room
+IsBufferReply tree (buffer_query.First room) (buffer_reply.End result) =
+    MatchResult result (λ found. option_map (λ e. (e.0.items, e.1)) found ≡ first_entry tree) (λ e. (e ≡ Memory) × KeyOutgrows room (walk tree))
+IsBufferReply tree (buffer_query.Last room) buffer_reply.NoBuffer = 0 < room
+IsBufferReply tree (buffer_query.Last room) (buffer_reply.End result) =
+    MatchResult result (λ found. option_map (λ e. (e.0.items, e.1)) found ≡ last_entry tree) (λ e. (e ≡ Memory) × IfSome (last_entry tree) (λ entry. room < length entry.0))
+IsBufferReply tree (buffer_query.EntriesWith prefix room) buffer_reply.NoBuffer = 0 < room
+IsBufferReply tree (buffer_query.EntriesWith prefix room) (buffer_reply.Entries result) =
+    CollectsSome result (λ found. map (λ e. (e.0.items, e.1)) found.items ≡ entries_with tree prefix.now) (entries_with tree prefix.now)
+IsBufferReply tree (buffer_query.ByCursor prefix) (buffer_reply.Entries result) =
+    CollectsSome result (λ found. map (λ e. (e.0.items, e.1)) found.items ≡ entries_with tree prefix.now) (entries_with tree prefix.now)
+IsBufferReply tree q r = ⊥
+
+-- what is returned of a text, by the keys of a tree
+abbrev pub IsTextReply : {A : Type 0} → Tree → List ℕ → TextQuery → TextReply A → Type 0
+IsTextReply tree text text_query.LongestPrefix (text_reply.Longest found) = found ≡ longest tree text
+IsTextReply tree text text_query.Fronts (text_reply.Fronts result) = CollectsAll result (front tree text)
+IsTextReply tree text text_query.Segment (text_reply.Tokens result) = CollectsAll result (segments tree text)
+IsTextReply tree text (text_query.SegmentFrom place) (text_reply.Tokens result) = CollectsAll result (tokens_behind tree 0 place (drop place text))
+IsTextReply tree text text_query.LeftmostLongest (text_reply.Keys result) = CollectsAll result (keywords_in tree text)
+IsTextReply tree text (text_query.LeftmostLongestFrom place) (text_reply.Keys result) = CollectsAll result (keywords_from tree place (drop place text))
+IsTextReply tree text text_query.Matches (text_reply.Keys result) = CollectsAll result (spots_from tree 0 text)
+IsTextReply tree text (text_query.MatchesFrom place) (text_reply.Keys result) = CollectsAll result (spots_from tree place (drop place text))
+IsTextReply tree text text_query.Overlapping (text_reply.Keys result) = CollectsSome result (λ found. found.items ≡ overlapping tree text) text
+IsTextReply tree text text_query.Earliest (text_reply.Keys result) = CollectsSome result (λ found. found.items ≡ earliest tree text) text
+IsTextReply tree text (text_query.Cheapest unknown) (text_reply.Tokens result) = CollectsSome result (λ found. IsCheapCut tree (λ _. unknown) text found.items) text
+IsTextReply tree text (text_query.CheapestByCharacters unknown) (text_reply.Tokens result) =
+    CollectsSome result (λ found. IsCheapCut tree (character_price unknown text) text found.items) text
+IsTextReply tree text (text_query.CheapestBy model) (text_reply.Tokens result) =
+    CollectsSome result (λ found. IsBestCut tree (cost_in_table model.costs.now model.beyond) (run_in_table model.runs.now model.beyond) text found.items) text
+IsTextReply tree text (text_query.Lattice model) (text_reply.Edges result) =
+    CollectsAll result (edges_from tree (cost_in_table model.costs.now model.beyond) (run_in_table model.runs.now model.beyond) 0 text)
+IsTextReply tree text q r = ⊥
+
 -- what a question returns of a dictionary of this layout with at most `slots` slots
 abbrev pub IsReply : {A : Type 0} → LayoutKind → ℕ → Dictionary → Question → Reply A → Type 0
 IsReply layout slots d (question.Exact key) (reply.Exact found) = found ≡ exact d.state.tree key.now
@@ -87,6 +143,9 @@ IsReply layout slots d (question.EntriesFrom key) (reply.Range result) =
     CollectsRange result (λ v. map (λ e. (e.0.items, e.1)) v.items) d.state.ordered (entries_since d.state.tree key.now)
 IsReply layout slots d (question.Range from to) (reply.Range result) =
     CollectsRange result (λ v. map (λ e. (e.0.items, e.1)) v.items) d.state.ordered (entries_between d.state.tree from.now to.now)
+IsReply layout slots d (question.CountPrefix prefix) (reply.Count n) = n ≡ length (entries_with d.state.tree prefix.now)
+IsReply layout slots d (question.InBuffer q) (reply.InBuffer result) = IsBufferReply d.state.tree q result
+IsReply layout slots d (question.InText text q) (reply.InText result) = IsTextReply d.state.tree text.now q result
 IsReply layout slots d question.Len (reply.Len n) = n ≡ length (walk d.state.tree)
 IsReply layout slots d (question.Figure which) (reply.Figure n) = IsFigure layout d which n
 IsReply layout slots d question.IsEmpty (reply.IsEmpty result) = IsTrue result ↔ (walk d.state.tree ≡ [])

@@ -1,5 +1,6 @@
 //! Results of calls as values.
 
+use cedar_words::Edge;
 use cedarwood::{CedarError, CedarPersistenceError, MemoryStats, RefusedPair};
 use std::alloc::Allocator;
 
@@ -77,8 +78,14 @@ pub enum Reply<A: Allocator> {
     Range(Result<Option<Vec<(Vec<u8, A>, i32), A>>, CedarError>),
     /// All keys as texts with their values, and `None` for each key that isn't UTF-8.
     TextEntries(Result<Vec<Option<(String<A>, i32)>, A>, CedarError>),
+    /// The entries, whose keys were written into a buffer.
+    InBuffer(BufferReply<A>),
+    /// What is in the text.
+    InText(TextReply<A>),
     /// The keys that are held.
     Len(usize),
+    /// How many keys begin with the prefix.
+    Count(usize),
     /// The figure.
     Figure(usize),
     /// Whether no key is held.
@@ -87,4 +94,30 @@ pub enum Reply<A: Allocator> {
     Stats(MemoryStats),
     /// The bytes of its file.
     Saved(Result<Vec<u8, A>, CedarError>),
+}
+
+/// What a question about entries in a buffer returned.
+#[derive(Drop)]
+pub enum BufferReply<A: Allocator> {
+    /// There was no memory for the buffer's first room.
+    NoBuffer,
+    /// The key and the value of the first entry, or of the last one. It is `Memory` only if the key is longer than the room.
+    End(Result<Option<(Vec<u8, A>, i32)>, CedarError>),
+    /// The keys of the entries, copied from the buffer, with their values. It is `Memory` only if there is one.
+    Entries(Result<Vec<(Vec<u8, A>, i32), A>, CedarError>),
+}
+
+/// What a question about a text returned. If there was no memory to collect a result, it is `Memory`. An empty list needs none.
+#[derive(Drop)]
+pub enum TextReply<A: Allocator> {
+    /// The value of the longest key that the text begins with, and one less than the key's bytes.
+    Longest(Option<(i32, usize)>),
+    /// The same of each key that it begins with.
+    Fronts(Result<Vec<(i32, usize), A>, CedarError>),
+    /// For each token where it begins, how many bytes it has, and its value if it has one.
+    Tokens(Result<Vec<(usize, usize, Option<i32>), A>, CedarError>),
+    /// For each key in the text where it begins, how many bytes it has, and its value.
+    Keys(Result<Vec<(usize, usize, i32), A>, CedarError>),
+    /// The tokens that cuts may have, with their costs.
+    Edges(Result<Vec<Edge, A>, CedarError>),
 }

@@ -1,5 +1,6 @@
 //! Calls as values.
 
+use crate::ModelTables;
 use cedarwood::CedarBuilder;
 
 /// A call. A dictionary is named by its index: those that a run begins with come first, and each further one comes after all others. If
@@ -120,6 +121,12 @@ pub enum Question<'a> {
     EntriesFrom { key: &'a [u8] },
     /// Which of these are before another key?
     Range { from: &'a [u8], to: &'a [u8] },
+    /// How many keys begin with the prefix?
+    CountPrefix { prefix: &'a [u8] },
+    /// Which entries, with their keys in a buffer?
+    InBuffer { ask: BufferQuery<'a> },
+    /// What is in the text, by the keys that are held?
+    InText { text: &'a [u8], ask: TextQuery<'a> },
     /// How many keys are held?
     Len,
     /// How many slots, blocks or bytes?
@@ -132,6 +139,52 @@ pub enum Question<'a> {
     Save,
     /// The same in format 1.0.
     SaveV1_0,
+}
+
+/// A question about entries whose keys are written into one buffer, which has room for so many bytes at the beginning.
+#[derive(Clone, Copy, Debug)]
+pub enum BufferQuery<'a> {
+    /// Which is the first entry?
+    First { room: usize },
+    /// Which is the last one?
+    Last { room: usize },
+    /// Which of the entries have keys that begin with the prefix?
+    EntriesWith { prefix: &'a [u8], room: usize },
+    /// Which of them has a cursor, whose buffer has no room at first?
+    ByCursor { prefix: &'a [u8] },
+}
+
+/// A question about a text, by the keys of a dictionary.
+#[derive(Clone, Copy, Debug)]
+pub enum TextQuery<'a> {
+    /// Which is the longest key that it begins with?
+    LongestPrefix,
+    /// Which keys does it begin with?
+    Fronts,
+    /// Which are its tokens, each the longest key at its position or else one byte?
+    Segment,
+    /// Which are they from a position on?
+    SegmentFrom { place: usize },
+    /// Which are its keywords, leftmost longest, which don't overlap?
+    LeftmostLongest,
+    /// Which are they from a position on?
+    LeftmostLongestFrom { place: usize },
+    /// Which keys are in it, at each position?
+    Matches,
+    /// Which are in it from a position on?
+    MatchesFrom { place: usize },
+    /// Which keys are in it, by their ends?
+    Overlapping,
+    /// Which of those that don't overlap end first?
+    Earliest,
+    /// Which tokens cost the least together, if each byte without a value costs this?
+    Cheapest { unknown: u32 },
+    /// Which tokens do, if each character without a value costs this once?
+    CheapestByCharacters { unknown: u32 },
+    /// Which tokens do by a model of costs?
+    CheapestBy { model: ModelTables<'a> },
+    /// Which tokens may cuts by a model have, and what do they cost?
+    Lattice { model: ModelTables<'a> },
 }
 
 /// A figure of a dictionary.

@@ -8,12 +8,14 @@ use std::alloc::Allocator;
 
 /// Trees and their orders alone decide what a run returns: whatever the layout, the limit of slots, `max_trial`, the marks and the tables,
 /// calls without a load, none of which runs out of memory or slots, return what one function of the states (tree and order) gives, and
-/// leave the states that another one gives. Texts are among these results, and in the default layout how many slots are held. Results that
-/// depend on places (how many slots there are, how many bytes and blocks, a file's bytes) may be in the list, and aren't compared.
+/// leave the states that another one gives. Keys as texts are among these results; tokens, keywords, matches and cuts of a text; and in the
+/// default layout how many slots are held. Results that depend on places (how many slots there are, how many bytes and blocks, a file's
+/// bytes) may be in the list, and aren't compared.
 pub fn trees_decide<A: Allocator>(calls: &[Call<'_>], answers: &[Answer<A>])
     //= For calls without a load, of which none was refused for memory or slots, the results are one function of the states at the start
     //  (tree and order) and the calls, and the states at the end are another: layout, limit, `max_trial`, marks, sizes and tables have no
-    //  part in them. Texts are among these results, and in the default layout how many slots are held. [by TreesDecide]
+    //  part in them. Keys as texts are among these results; tokens, keywords, matches and cuts of texts; and in the default layout how
+    //  many slots are held. [by TreesDecide]
     ensures { TreesDecide calls.now answers.now }
 {}
 

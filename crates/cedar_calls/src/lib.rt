@@ -1,4 +1,4 @@
-//! Any list of public calls, on any number of dictionaries, as one theorem.
+//! Any list of calls, on any number of dictionaries, as one theorem. A [`Call`] is one of the dictionary, or one about a text by its keys.
 //!
 //! [`reserve_for_calls`] makes room, which may be refused. [`run_calls`] then makes the calls of a list one after another, and its contract
 //! says what they return and what they leave: whatever the calls are, each result is that of a labelled tree for each dictionary, which
@@ -6,17 +6,21 @@
 #![tactic(auto)]
 
 mod answer;
+mod buffers;
 mod call;
 mod change;
 mod laws;
 mod make;
+mod model;
 mod place;
 mod reply;
 mod run;
+mod texts;
 
-pub use answer::{Answer, Changed, Reply};
-pub use call::{Call, Change, Figure, Question};
+pub use answer::{Answer, BufferReply, Changed, Reply, TextReply};
+pub use call::{BufferQuery, Call, Change, Figure, Question, TextQuery};
 pub use laws::{
     keys_stand_alone, keys_stand_alone_in_runs, runs_agree, saves_load_again, trees_decide,
 };
+pub use model::ModelTables;
 pub use run::{reserve_for_calls, run_calls};

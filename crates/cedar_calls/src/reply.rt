@@ -6,7 +6,9 @@ ghost use Rattle.cedar_calls.specs.Words.{entries_between, entries_since, entrie
 ghost use Rattle.cedar_calls.specs.Words.{first_entry, front, IsFigure, IsReply, IsTableFile};
 ghost use Rattle.cedar_calls.specs.Words.{keys_of, last_entry, predict, walk};
 
+use crate::buffers::buffer_reply;
 use crate::place::places;
+use crate::texts::text_reply;
 use crate::{Figure, Question, Reply};
 use cedarwood::{CedarError, EntryError, Layout, RangeEntries, Trie, Watched};
 use std::alloc::{AllocError, Allocator};
@@ -35,6 +37,9 @@ pub(crate) fn reply<L: Layout, const SLOTS: usize, A: Allocator + Copy>(
         Question::EntriesWith { prefix } => Reply::Entries(beginning_with(trie, alloc, prefix)),
         Question::EntriesFrom { key } => Reply::Range(since(trie, alloc, key)),
         Question::Range { from, to } => Reply::Range(between(trie, alloc, from, to)),
+        Question::CountPrefix { prefix } => Reply::Count(trie.count_prefix_bytes(prefix)),
+        Question::InBuffer { ask } => Reply::InBuffer(buffer_reply(trie, alloc, ask)),
+        Question::InText { text, ask } => Reply::InText(text_reply(trie, alloc, text, ask)),
         Question::Len => Reply::Len(trie.len()),
         Question::Figure { figure } => Reply::Figure(figure_of(trie, *figure)),
         Question::IsEmpty => Reply::IsEmpty(trie.is_empty()),
@@ -183,7 +188,7 @@ fn some_texts<L: Layout, const SLOTS: usize, A: Allocator + Copy>(
 }
 
 /// Collects one more.
-fn add<T: Drop, A: Allocator>(found: &mut Vec<T, A>, item: T) -> Result<(), AllocError>
+pub(crate) fn add<T: Drop, A: Allocator>(found: &mut Vec<T, A>, item: T) -> Result<(), AllocError>
     ensures { OnOk result (found.new.items ≡ found.old.items ++ item ∷ []) }
 {
     found.push(item)?;

@@ -61,6 +61,12 @@ pub fn run_calls<L: Layout, const SLOTS: usize, A: Allocator + Copy>(
     //  or `shrink_to_fit` changes only the dictionary at its index, as the rows of `cedarwood` say. [by ChangesAt, IsChange]
     //= A query changes nothing, and returns what they say. If a result is collected it may be `Memory`, but only if there is something to
     //  collect. [by AsksAt, IsReply, CollectsSome, CollectsRange]
+    //= A query about a text changes nothing, and returns what the rows of `cedar_words` say: its tokens, keywords, matches and prefixes,
+    //  also from a position on, a cut of least cost, the best cut by a model, or the tokens that such cuts may have. If it is collected it
+    //  may be `Memory`, but only if there is something to collect, or a byte to cut. [by AsksAt, IsTextReply, CollectsAll, IsCheapCut,
+    //  IsBestCut]
+    //= A query whose keys are written into a buffer changes nothing, and returns what one without a buffer does. The first entry and the
+    //  last one are refused only if the key is longer than the room that the buffer was made with. [by AsksAt, IsBufferReply]
     //= A call on a dictionary that isn't there returns `Missing`, and all are as they were. [by MissesAt]
     //= A dictionary that is changed was valid before. [by IsStep, IsValid]
     ensures run { AddsRun L.kind SLOTS tries.old.items calls.now answers.old.items answers.new.items tries.new.items }

@@ -14,7 +14,8 @@ use Rattle.cedarwood.proofs.TreeLemmas.{number_at-put_same}
 use Rattle.cedarwood.specs.Dictionary.{Dictionary, Grows, capacity_after}
 use Rattle.cedarwood.proofs.GrowthLemmas.{grows_further, grows_none}
 use Rattle.cedar_cli.specs.Blocks.{GrowsWithin, GrowsBefore}
-use Rattle.cedar_cli.specs.Command.{Order, order_of, key_of, value_of, with_key, with_key_and_value, is_space}
+use Rattle.cedar_cli.specs.Command.{Order, order_of, key_of, with_key, with_key_and_value, is_space}
+use Rattle.device_lines.specs.Lines.{figures_number}
 use Rattle.cedar_cli.specs.declared.command.Verb.{Verb}
 use Rattle.cedar_cli.specs.declared.command.Verb.TheVariants.{Put, Erase, Exact, Segment, Prefixes, Predict, Entries, Figures}
 
@@ -75,7 +76,7 @@ put_short : (rest : List ℕ) → HasShortKey (suc (suc (length rest))) (with_ke
 put_short rest =
     let first = before_first is_space rest in
     let few : length first ≤ length rest = omega (arith, length-take (position_or_len is_space rest) rest) in
-    beside_short (value_of (after_first is_space rest)) (length rest) (key_of first) (front_short (length first) (length rest) (key_of first) few (key_short first))
+    beside_short (figures_number (after_first is_space rest)) (length rest) (key_of first) (front_short (length first) (length rest) (key_of first) few (key_short first))
 
 -- a line's key has half as many bytes as the line, at most
 pub line_short : (line : List ℕ) → HasShortKey (length line) (order_of line)

@@ -3,15 +3,15 @@ use Rattle.std.proofs.Common.{◌≡◌, ◌≤◌, ◌<◌, inl, suc, ℕ, List
 use Rattle.std.specs.Prelude.{Result, Ok, Err, IfErr, OnOk, OnErr}
 use Rattle.cedar_cli.specs.Command.{Order, order_of}
 use Rattle.cedar_cli.specs.Lines.{lines_of, HasNoNewline}
-use Rattle.text_lines.specs.Lines.{onto_first}
-use Rattle.text_lines.specs.Written.{WritesFront}
+use Rattle.device_lines.specs.Lines.{onto_first}
+use Rattle.device_lines.specs.Written.{WritesFront}
 use Rattle.cedar_cli.specs.View.{View}
 use Rattle.cedarwood.specs.Dictionary.{Dictionary}
 use Rattle.cedar_cli.specs.Script.{LineMayLackMemory, MayStop, reply, answer, answers, view_after_order, view_after, IsCutShort, Stays, Disobeys, Obeys, Finishes, Splits, Advances, Stops}
 use Rattle.cedar_cli.specs.declared.script.ScriptError.{ScriptError}
 use Rattle.cedar_cli.specs.declared.script.ScriptError.TheVariants.{Read, Write, Memory, SlotLimit}
 use Rattle.std.specs.Io.KnownBytes.{Appends, Keeps}
-use Rattle.text_lines.proofs.Bytes.{Appends-append, Appends-none, or_false}
+use Rattle.device_lines.proofs.Bytes.{Appends-append, Appends-none, or_false}
 
 -- what was appended stays where a device keeps its bytes
 pub Appends-kept : (a b c : Option (List ℕ)) (x : List ℕ) → Appends a b x → Keeps b c → Appends a c x

@@ -5,8 +5,8 @@ use Rattle.std.specs.Io.KnownBytes.{Appends}
 use Rattle.hex.specs.Hex.{encode_with, encode_lower, lower_digits}
 use Rattle.cedarwood.specs.Queries.{Entry}
 use Rattle.cedar_cli.specs.Script.{hex_entry_line, hex_entry_lines}
-use Rattle.text_lines.specs.Written.{WritesFront}
-use Rattle.text_lines.proofs.Bytes.{Appends-append, Appends-none, front_after, front_more, whole_rest}
+use Rattle.device_lines.specs.Written.{WritesFront}
+use Rattle.device_lines.proofs.Bytes.{Appends-append, Appends-none, front_after, front_more, whole_rest}
 
 hex_entry_lines-append : (a b : List Entry) → hex_entry_lines (a ++ b) ≡ hex_entry_lines a ++ hex_entry_lines b
 hex_entry_lines-append [] b = refl

@@ -3,7 +3,7 @@ use Rattle.std.proofs.Common.{◌≡◌, Ok, Err, Bool, true, false, ◌||◌, �
 use Rattle.std.specs.Prelude.{IfErr, OnOk, Result}
 use Rattle.cedar_cli.specs.Script.{AnswersOrFails}
 use Rattle.cedar_cli.specs.Statuses.{ShowsCause}
-use Rattle.text_lines.specs.Written.{WritesOrFails}
+use Rattle.device_lines.specs.Written.{WritesOrFails}
 use Rattle.cedar_cli.specs.declared.script.ScriptError.{ScriptError}
 use Rattle.cedar_cli.specs.declared.script.ScriptError.TheVariants.{Read, Write, Memory, SlotLimit}
 

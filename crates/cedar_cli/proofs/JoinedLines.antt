@@ -3,8 +3,8 @@ use Rattle.std.proofs.Common.{◌≡◌, ℕ, List, [], ◌∷◌, ◌++◌, Opt
 use Rattle.std.specs.Prelude.{codes}
 use Rattle.std.specs.Io.KnownBytes.{Appends}
 use Rattle.cedar_cli.specs.Script.{spaced_texts, joined_texts}
-use Rattle.text_lines.specs.Written.{WritesFront}
-use Rattle.text_lines.proofs.Bytes.{front_after, front_more}
+use Rattle.device_lines.specs.Written.{WritesFront}
+use Rattle.device_lines.proofs.Bytes.{front_after, front_more}
 
 spaced-append : {T : Type 0} (text : T → List ℕ) (a b : List T) → spaced_texts text (a ++ b) ≡ spaced_texts text a ++ spaced_texts text b
 spaced-append text [] b = refl

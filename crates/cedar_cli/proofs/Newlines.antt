@@ -1,12 +1,9 @@
 -- A chunk of a script, cut at its bytes 10.
 use Rattle.std.proofs.Common.{◌≡◌, ℕ, suc, List, [], ◌∷◌, ◌++◌, Option, Some, None, true, false, refl, sym, ap, subst, ◌∙◌, append_assoc, append-nil, arith, length, take, drop, get_or, ◌==◌, ◌<◌, ◌+◌, ◌-◌}
 use Rattle.std.proofs.lemmas.Bool.{eqb-true}
-use Rattle.memchr.specs.Find.{IsFirstByte, is_byte}
-use Rattle.std.proofs.lemmas.List.Sums.{position_or_len_is, split_at_first, passes_at_first}
+use Rattle.std.proofs.lemmas.List.Sums.{split_at_first, passes_at_first}
 use Rattle.std.proofs.lemmas.Grind.{common_steps}
 use Rattle.std.specs.Prelude.{Result, Ok, Err, IfErr, OnOk}
-use Rattle.std.proofs.lemmas.List.Quantifiers.{position-Some}
-use Rattle.std.specs.Prelude.{IfSome}
 use Rattle.std.specs.List.{position, position_or_len, before_first, after_first}
 use Rattle.cedar_cli.specs.Command.{order_of}
 use Rattle.cedar_cli.specs.Lines.{HasNoNewline, is_newline, lines_of}
@@ -17,7 +14,6 @@ use Rattle.cedar_cli.specs.declared.script.ScriptError.{ScriptError}
 use Rattle.cedar_cli.specs.declared.script.ScriptError.TheVariants.{Memory}
 use Rattle.cedar_cli.proofs.Bytes.{line_done, line_left, long_stop, may_stop, bytes_on, not_begun, Advances-append, Stops-append, Stops-more}
 use Rattle.cedar_cli.proofs.Text.{before_at, after_at, before_none}
-use Rattle.text_lines.proofs.Figures.{not_true}
 
 pub open_append : (a b : List ℕ) → HasNoNewline a → HasNoNewline b → HasNoNewline (a ++ b)
 open_append [] b p q = q
@@ -118,26 +114,9 @@ gone_further chunk gone rest at whole e =
     whole ∙ ap (λ l. gone ++ l) (cut_at rest at e)
     ∙ sym (append_assoc gone (take at rest ++ 10 ∷ []) (take (length rest - (at + 1)) (drop (at + 1) rest)))
 
--- the first position of a byte, as a search returns it
-pub first_byte : (b : ℕ) (text : List ℕ) (found : Option ℕ) → IsFirstByte (is_byte b) text found → found ≡ position (is_byte b) text
-first_byte b text None none = sym (rw at_end (grind (arith, common_steps))) where
-  at_end : position_or_len (is_byte b) text ≡ length text
-  at_end = position_or_len_is (is_byte b) text (length text) 0 (omega arith) (λ k low. not_true (none k (omega arith) low)) (λ out. absurd (omega arith))
-first_byte b text (Some at) first = sym (rw at_first (grind (arith, common_steps))) where
-  within : at < length text
-  within = first.0.high
-
-  at_first : position_or_len (is_byte b) text ≡ at
-  at_first = position_or_len_is (is_byte b) text at 0 (omega arith) (λ k low. not_true (first.0.before k (omega arith) low)) (λ _. first.1)
-
 -- before the first byte
 pub none_taken : (t : View) (held : Option (List ℕ)) (line : List ℕ) → Advances t t held held (line ++ []) line
 none_taken t held line = subst (λ (text : List ℕ). Advances t t held held text line) (sym (append-nil line)) (bytes_on t held line)
-
--- where a byte 10 is found, it is within the text
-pub newline_within : (text : List ℕ) (found : Option ℕ) → found ≡ position is_newline text → IfSome found (λ at. at < length text)
-newline_within text None e = tt
-newline_within text (Some at) e = (position-Some is_newline text at 0 (sym e)).0
 
 -- a line of two pieces that is longer than those that there is room for
 pub long_line_stop : (slots : ℕ) (d : Dictionary) (line piece rest : List ℕ) → HasNoNewline line → HasNoNewline piece → 8192 < length (line ++ piece)

@@ -15,12 +15,12 @@ use Rattle.cedarwood.specs.Layouts.{LayoutKind}
 use Rattle.cedarwood.specs.Dictionary.{Dictionary}
 use Rattle.cedar_cli.specs.View.{View, view_of}
 use Rattle.cedar_cli.specs.Script.{Answers, put_text, view_after_order, IsPairFault, figures_text, found_text, reply, Disobeys}
-use Rattle.text_lines.specs.Written.{WritesFront}
+use Rattle.device_lines.specs.Written.{WritesFront}
 use Rattle.cedar_cli.specs.declared.command.Verb.TheVariants.{Erase}
 use Rattle.cedar_cli.specs.declared.script.ScriptError.{ScriptError}
 use Rattle.cedar_cli.specs.declared.script.ScriptError.TheVariants.{Read, Write, Memory as NoMemory, SlotLimit as NoSlot}
 use Rattle.std.specs.Io.KnownBytes.{Appends}
-use Rattle.text_lines.proofs.Bytes.{Appends-none}
+use Rattle.device_lines.proofs.Bytes.{Appends-none}
 use Rattle.cedar_cli.proofs.Bytes.{Disobeys-on_err, Obeys-on_ok, all_stays}
 
 -- what an exact search that missed says

@@ -4,8 +4,8 @@ use Rattle.std.specs.Prelude.{OnOk, Result}
 use Rattle.cedar_cli.specs.Options.{Request}
 use Rattle.cedar_cli.specs.Statuses.{AsksForFile, EndsBy, IsReported, TellsCause, WritesOrFailed}
 use Rattle.cedarwood.specs.WatchedDevice.{device_of, has_failed}
-use Rattle.text_lines.specs.Written.{Writes}
-use Rattle.text_lines.proofs.Bytes.{Appends-append}
+use Rattle.device_lines.specs.Written.{Writes}
+use Rattle.device_lines.proofs.Bytes.{Appends-append}
 use Rattle.cedarwood.specs.Words.{Watched}
 use Rattle.cedar_cli.specs.declared.program.Fault.{Fault}
 use Rattle.cedar_cli.specs.declared.program.Fault.TheVariants.{Load, Save, Script}

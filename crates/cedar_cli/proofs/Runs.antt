@@ -8,11 +8,11 @@ use Rattle.cedar_cli.specs.Command.{order_of}
 use Rattle.cedar_cli.specs.Lines.{lines_of, HasNoNewline}
 use Rattle.cedarwood.specs.Dictionary.{Dictionary}
 use Rattle.cedar_cli.specs.Script.{MayStop, Obeys, Stays, Disobeys, Finishes, Splits, Advances, Stops, EndsEarly, IsCutShort, answers, view_after_order, view_after}
-use Rattle.text_lines.specs.Written.{AppendsFront}
+use Rattle.device_lines.specs.Written.{AppendsFront}
 use Rattle.cedar_cli.specs.View.{View}
 use Rattle.cedar_cli.specs.declared.script.ScriptError.{ScriptError}
 use Rattle.cedar_cli.specs.declared.script.ScriptError.TheVariants.{Read, Write, Memory, SlotLimit}
-use Rattle.text_lines.proofs.Bytes.{Appends-append, Appends-none}
+use Rattle.device_lines.proofs.Bytes.{Appends-append, Appends-none}
 use Rattle.cedar_cli.proofs.Bytes.{all_stays, Appends-kept, answers-append, cut_short_none, lines_of-last, Finishes-append, line_finished, write_stop}
 
 -- bytes consumed in two parts

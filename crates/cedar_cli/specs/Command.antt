@@ -1,33 +1,21 @@
 -- What a line of a script says.
-use Rattle.std.specs.Prelude.{ℕ, Bool, ◌&&◌, ◌==◌, nat_eq, int_le, if◌then◌else◌, ℤ, pos}
-use Rattle.std.specs.Prelude.{negsuc, List, [], ◌∷◌, length, Option, Some, None, ◌||◌, codes}
+use Rattle.std.specs.Prelude.{ℕ, Bool, ◌&&◌, ◌==◌, nat_eq, if◌then◌else◌}
+use Rattle.std.specs.Prelude.{List, [], ◌∷◌, length, Option, Some, None, ◌||◌, codes}
 use Rattle.std.specs.Prelude.{option_map, option_and_then, is_some}
-use Rattle.std.specs.List.{before_first, after_first, list_all}
+use Rattle.std.specs.List.{before_first, after_first}
 use Rattle.std.specs.Result.{result_ok}
-use Rattle.std.specs.Str.Parse.{without_leading_sign, signed_digits_value}
 use Rattle.hex.specs.Hex.{decode_of}
-use Rattle.text_lines.specs.Lines.{is_digit, is_filled}
+use Rattle.device_lines.specs.Lines.{figures_number}
 use Rattle.cedar_cli.specs.declared.command.BadLine.{BadLine}
 use Rattle.cedar_cli.specs.declared.command.BadLine.TheVariants.{Empty, NoKey, NoSign, NoSpace}
 use Rattle.cedar_cli.specs.declared.command.BadLine.TheVariants.{NotAlone, NoValue}
 use Rattle.cedar_cli.specs.declared.command.Verb.{Verb}
 use Rattle.cedar_cli.specs.declared.command.Verb.TheVariants.{Put, Erase, Exact, Segment, Prefixes}
-use Rattle.cedar_cli.specs.declared.command.Verb.TheVariants.{Predict, Entries, Figures}
+use Rattle.cedar_cli.specs.declared.command.Verb.TheVariants.{Predict, Count, Entries, Figures}
 
 -- what a line asks for: what to do, and with which key
 abbrev pub Order : Type 0
 Order = Verb × List ℕ
-
--- whether a number is from -2147483648 to 2147483647
-abbrev pub fits_value : ℤ → Bool
-fits_value v = int_le (negsuc 2147483647) v && int_le v (pos 2147483647)
-
--- the value that a text says: `+`, `-` or neither, and then one or more decimal digits, which lies in -2147483648 to
--- 2147483647. Leading zeros are allowed
-abbrev pub value_of : List ℕ → Option ℤ
-value_of text =
-    if is_filled (without_leading_sign text) && list_all is_digit (without_leading_sign text) && fits_value (signed_digits_value 10 text)
-    then Some (signed_digits_value 10 text) else None
 
 -- the key that a text says: `.` for the empty key, or a nonempty, even number of hexadecimal digits of either case
 abbrev pub key_of : List ℕ → Option (List ℕ)
@@ -45,13 +33,13 @@ is_space b = b == 32
 -- the order of a line with a key, a space and a value
 abbrev pub with_key_and_value : List ℕ → Option Order
 with_key_and_value text =
-    option_and_then (λ key. option_map (λ v. (Put v, key)) (value_of (after_first is_space text))) (key_of (before_first is_space text))
+    option_and_then (λ key. option_map (λ v. (Put v, key)) (figures_number (after_first is_space text))) (key_of (before_first is_space text))
 
 -- the order of a line without a key
 abbrev pub alone : ℕ → Option Order
 alone c = if c == 42 then Some (Entries, []) else if c == 35 then Some (Figures, []) else None
 
--- the order of a line: `+ K V`, `- K`, `= K`, `< K`, `> K`, `/ K`, or `*` or `#`, whose key is the empty one
+-- the order of a line: `+ K V`, `- K`, `= K`, `< K`, `> K`, `? K`, `/ K`, or `*` or `#`, whose key is the empty one
 abbrev pub order_of : List ℕ → Option Order
 order_of [] = None
 order_of (c ∷ []) = alone c
@@ -62,15 +50,16 @@ order_of (c ∷ space ∷ rest) =
     else if c == 61 then with_key Exact rest
     else if c == 60 then with_key Prefixes rest
     else if c == 62 then with_key Predict rest
+    else if c == 63 then with_key Count rest
     else if c == 47 then with_key Segment rest
     else None
     else None
 
 -- ---- why a line is no order
 
--- whether a byte is a sign that a space and a key have to follow: one of + - = < > /
+-- whether a byte is a sign that a space and a key have to follow: one of + - = < > ? /
 abbrev pub is_keyed_sign : ℕ → Bool
-is_keyed_sign c = c == 43 || c == 45 || c == 61 || c == 60 || c == 62 || c == 47
+is_keyed_sign c = c == 43 || c == 45 || c == 61 || c == 60 || c == 62 || c == 63 || c == 47
 
 -- whether a byte is a sign that has to be alone: * or #
 abbrev pub is_lone_sign : ℕ → Bool
@@ -89,7 +78,7 @@ lone_key_fault text = if is_some (key_of text) then None else Some NoKey
 abbrev pub pair_fault : List ℕ → Option BadLine
 pair_fault text =
     if is_some (key_of (before_first is_space text))
-    then (if is_some (value_of (after_first is_space text)) then None else Some NoValue) else Some NoKey
+    then (if is_some (figures_number (after_first is_space text)) then None else Some NoValue) else Some NoKey
 
 -- why a line of one byte is bad, if it is: only * and # are alone
 abbrev pub lone_fault : ℕ → Option BadLine
@@ -106,14 +95,15 @@ bad_line_of (c ∷ space ∷ rest) =
     else if c == 61 then lone_key_fault rest
     else if c == 60 then lone_key_fault rest
     else if c == 62 then lone_key_fault rest
+    else if c == 63 then lone_key_fault rest
     else if c == 47 then lone_key_fault rest
     else Some (form_fault (c ∷ space ∷ rest))
     else Some (form_fault (c ∷ space ∷ rest))
 
 -- what has to be in a line that is bad for this reason, in words
 abbrev pub bad_line_text : BadLine → List ℕ
-bad_line_text Empty = codes "it is empty, and has to begin with one of the signs + - = < > / * #"
-bad_line_text NoSign = codes "it has to begin with one of the signs + - = < > / * #"
+bad_line_text Empty = codes "it is empty, and has to begin with one of the signs + - = < > ? / * #"
+bad_line_text NoSign = codes "it has to begin with one of the signs + - = < > ? / * #"
 bad_line_text NoSpace = codes "a space and a key have to follow the sign"
 bad_line_text NoKey = codes "a key has to follow the space: . or pairs of hexadecimal digits, to the end of the line or, behind +, to the next space"
 bad_line_text NoValue = codes "a space and a number from -2147483648 to 2147483647 have to follow the key"

@@ -8,7 +8,7 @@ use Rattle.std.specs.Str.Parse.{without_leading_plus, digits_value}
 use Rattle.cedarwood.specs.Tree.{empty_tree}
 use Rattle.cedarwood.specs.Layouts.{LayoutKind, default_layout, reduced_layout}
 use Rattle.cedarwood.specs.Limits.{default_load_limit}
-use Rattle.text_lines.specs.Lines.{is_digit, is_filled}
+use Rattle.device_lines.specs.Lines.{is_digit, is_filled}
 use Rattle.cedar_cli.specs.View.{View}
 use Rattle.cedar_cli.specs.declared.options.Options.{Options}
 

@@ -5,7 +5,7 @@ use Rattle.cedarwood.specs.Layouts.{LayoutKind}
 use Rattle.cedarwood.specs.Dictionary.{Dictionary}
 use Rattle.cedar_cli.specs.declared.script.ScriptError.{ScriptError}
 use Rattle.cedar_cli.specs.Devices.{OnComing, OnInput, OnWriter}
-use Rattle.text_lines.specs.Written.{Writes, WritesUpTo}
+use Rattle.device_lines.specs.Written.{Writes, WritesUpTo}
 use Rattle.cedar_cli.specs.Lines.{lines_of}
 use Rattle.cedar_cli.specs.Options.{asked_layout, BeginsWith, Request}
 use Rattle.cedar_cli.specs.Script.{AdvancesBy, answers, EndsScript, FinishesLines, StopsIn}

@@ -8,9 +8,10 @@ use Rattle.std.specs.Io.KnownBytes.{Appends}
 use Rattle.cedarwood.specs.Tree.{number_at}
 use Rattle.cedarwood.specs.Queries.{Entry, front, predict, walk}
 use Rattle.cedarwood.specs.State.{after_erase, after_put}
+use Rattle.cedarwood.specs.Ranges.{entries_with}
 use Rattle.cedarwood.specs.Layouts.{LayoutKind}
 use Rattle.cedar_cli.specs.declared.command.Verb.TheVariants.{Put, Erase, Exact, Segment, Prefixes}
-use Rattle.cedar_cli.specs.declared.command.Verb.TheVariants.{Predict, Entries, Figures}
+use Rattle.cedar_cli.specs.declared.command.Verb.TheVariants.{Predict, Count, Entries, Figures}
 use Rattle.cedar_cli.specs.declared.script.ScriptError.{ScriptError}
 use Rattle.cedar_cli.specs.declared.script.ScriptError.TheVariants.{Read, Write, Memory, SlotLimit}
 use Rattle.cedarwood.specs.declared.error.CedarError.{CedarError}
@@ -22,7 +23,7 @@ use Rattle.cedar_words.specs.Words.{Token, segments}
 use Rattle.cedar_cli.specs.Command.{Order, order_of}
 use Rattle.cedar_cli.specs.Lines.{lines_of}
 use Rattle.cedar_cli.specs.View.{View, cut_in, holds_path, put_in, slots_held, view_of}
-use Rattle.text_lines.specs.Written.{WritesFront}
+use Rattle.device_lines.specs.Written.{WritesFront}
 
 -- the error is a pair's fault, and no want of memory or slots
 abbrev pub IsPairFault : CedarError → Type 0
@@ -101,6 +102,7 @@ reply s (Some (Exact, key)) = found_text (number_at s.state.tree key) (length ke
 reply s (Some (Segment, key)) = tokens_text (segments s.state.tree key)
 reply s (Some (Prefixes, key)) = pairs_text (front s.state.tree key)
 reply s (Some (Predict, key)) = pairs_text (predict s.state.tree key)
+reply s (Some (Count, key)) = decimal (length (entries_with s.state.tree key))
 reply s (Some (Entries, key)) = hex_entry_lines (walk s.state.tree) ++ codes "end"
 reply s (Some (Figures, key)) = figures_text (length (walk s.state.tree)) (slots_held s)
 

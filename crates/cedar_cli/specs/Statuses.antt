@@ -2,7 +2,7 @@
 use Rattle.std.specs.Prelude.{◌≡◌, ◌⊎◌, ◌++◌, ℕ, Bool, true, is_some, List, Option, codes}
 use Rattle.cedarwood.specs.WatchedDevice.{has_failed}
 use Rattle.cedarwood.specs.Words.{Watched}
-use Rattle.text_lines.specs.Written.{Writes}
+use Rattle.device_lines.specs.Written.{Writes}
 use Rattle.cedar_cli.specs.Options.{Request}
 use Rattle.cedar_cli.specs.declared.program.Fault.{Fault}
 use Rattle.cedar_cli.specs.declared.program.Fault.TheVariants.{Load, Save, Script}

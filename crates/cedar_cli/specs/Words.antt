@@ -1,7 +1,7 @@
 -- The words of clauses, from one place.
 pub use Rattle.cedar_cli.specs.Blocks.{GrowsBefore, GrowsWithin}
 pub use Rattle.cedar_cli.specs.Command.{bad_line_of, bad_line_text, form_fault, is_space, key_of}
-pub use Rattle.cedar_cli.specs.Command.{lone_key_fault, order_of, pair_fault, value_of, with_key}
+pub use Rattle.cedar_cli.specs.Command.{lone_key_fault, order_of, pair_fault, with_key}
 pub use Rattle.cedar_cli.specs.Command.{with_key_and_value}
 pub use Rattle.cedar_cli.specs.Devices.{held_by, IsToldOn, OnlyFlushFails, OnWriter}
 pub use Rattle.cedar_cli.specs.Lines.{HasLineRoom, HasNoNewline, is_newline}
@@ -22,13 +22,14 @@ pub use Rattle.cedar_cli.specs.Statuses.{AsksForFile, EndsBy, fault_text, IsRepo
 pub use Rattle.cedar_cli.specs.Statuses.{ShowsCause, TellsCause, usage_line, WritesOrFailed}
 pub use Rattle.cedar_cli.specs.View.{view_of}
 pub use Rattle.cedar_cli.specs.declared.command.BadLine.{BadLine}
+pub use Rattle.cedar_cli.specs.declared.script.ScriptError.TheVariants.{Write as Unwritten}
 pub use Rattle.cedarwood.specs.Layouts.{layout_byte}
 pub use Rattle.cedarwood.specs.Words.{IsSlotLimit}
 pub use Rattle.cedarwood.specs.Tree.{number_at}
 pub use Rattle.cedarwood.specs.Dictionary.{Grows}
 pub use Rattle.cedarwood.specs.WatchedDevice.{has_failed}
+pub use Rattle.device_lines.specs.Written.{BreaksOff, Writes, WritesBytes}
+pub use Rattle.device_lines.specs.Written.{WritesOrFails}
 pub use Rattle.hex.specs.Hex.{encode_lower}
 pub use Rattle.std.specs.List.{after_first, before_first}
 pub use Rattle.std.specs.Result.{result_err, result_ok}
-pub use Rattle.text_lines.specs.Written.{BreaksOff, Writes, WritesBytes}
-pub use Rattle.text_lines.specs.Written.{WritesOrFails}

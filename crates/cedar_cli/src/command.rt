@@ -4,11 +4,11 @@ ghost use Rattle.std.specs.Prelude.{◌*◌, ◌≡◌, ◌≤◌, IfOk, IfSome,
 ghost use Rattle.std.specs.Prelude.{take};
 ghost use Rattle.cedar_cli.specs.Words.{after_first, bad_line_of, bad_line_text, before_first};
 ghost use Rattle.cedar_cli.specs.Words.{form_fault, is_space, key_of, lone_key_fault, order_of};
-ghost use Rattle.cedar_cli.specs.Words.{pair_fault, result_err, result_ok, value_of, with_key};
+ghost use Rattle.cedar_cli.specs.Words.{pair_fault, result_err, result_ok, with_key};
 ghost use Rattle.cedar_cli.specs.Words.{with_key_and_value};
 
 use cedar_hex::decode_into;
-use memchr::memchr;
+use device_lines::{parse_number, position_of};
 
 /// What a line says to do.
 #[derive(Clone, Copy, Debug, PartialEq, Eq)]
@@ -21,6 +21,8 @@ pub(crate) enum Verb {
     Prefixes,
     /// The keys that begin with the key.
     Predict,
+    /// How many keys begin with the key.
+    Count,
     /// All entries. The key is empty.
     Entries,
     /// How many keys and slots are held. The key is empty.
@@ -64,8 +66,9 @@ impl BadLine {
         ensures { result.now ≡ bad_line_text self }
     {
         match self {
-            BadLine::Empty => "it is empty, and has to begin with one of the signs + - = < > / * #",
-            BadLine::NoSign => "it has to begin with one of the signs + - = < > / * #",
+            BadLine::Empty =>
+                "it is empty, and has to begin with one of the signs + - = < > ? / * #",
+            BadLine::NoSign => "it has to begin with one of the signs + - = < > ? / * #",
             BadLine::NoSpace => "a space and a key have to follow the sign",
             BadLine::NoKey => {
                 "a key has to follow the space: . or pairs of hexadecimal digits, to the end of the line or, behind +, to the next space"
@@ -99,6 +102,7 @@ pub(crate) fn parse_line(line: &[u8], room: &mut [u8]) -> Result<Command, BadLin
         [b'=', b' ', rest @ ..] => parse_keyed(Verb::Exact, rest, room),
         [b'<', b' ', rest @ ..] => parse_keyed(Verb::Prefixes, rest, room),
         [b'>', b' ', rest @ ..] => parse_keyed(Verb::Predict, rest, room),
+        [b'?', b' ', rest @ ..] => parse_keyed(Verb::Count, rest, room),
         [b'/', b' ', rest @ ..] => parse_keyed(Verb::Segment, rest, room),
         [b'*'] => Ok(keyless(Verb::Entries)),
         [b'#'] => Ok(keyless(Verb::Figures)),
@@ -112,7 +116,7 @@ fn form_fault(line: &[u8]) -> BadLine
 {
     match line {
         [] => BadLine::Empty,
-        [b'+' | b'-' | b'=' | b'<' | b'>' | b'/', ..] => BadLine::NoSpace,
+        [b'+' | b'-' | b'=' | b'<' | b'>' | b'?' | b'/', ..] => BadLine::NoSpace,
         [b'*' | b'#', ..] => BadLine::NotAlone,
         _ => BadLine::NoSign,
     }
@@ -138,7 +142,7 @@ fn parse_pair(text: &[u8], room: &mut [u8]) -> Result<Command, BadLine>
     let Some(key_len) = parse_key(key, room) else {
         return Err(BadLine::NoKey);
     };
-    let Some(value) = parse_value(value) else {
+    let Some(value) = parse_number(value) else {
         return Err(BadLine::NoValue);
     };
     let verb = Verb::Put(value);
@@ -163,7 +167,7 @@ fn parse_keyed(verb: Verb, text: &[u8], room: &mut [u8]) -> Result<Command, BadL
 fn position_of_space(text: &[u8]) -> Option<usize>
     ensures { result ≡ position is_space text.now }
 {
-    memchr(b' ', text)
+    position_of(b' ', text)
 }
 
 /// The bytes before the first space, and those after it.
@@ -189,12 +193,4 @@ fn parse_key(text: &[u8], room: &mut [u8]) -> Option<usize>
         b"." => Some(0),
         _ => decode_into(text, room),
     }
-}
-
-/// Reads a value.
-fn parse_value(text: &[u8]) -> Option<i32>
-    ensures { result ≡ value_of text.now }
-{
-    let text = str::from_utf8(text).ok()?;
-    text.parse().ok()
 }

@@ -9,6 +9,7 @@
 //! | `= K` | the value and the key's length in bytes, as `7 3`, or `none` |
 //! | `< K` | the prefixes of K that are held, each as `V:N`: its value, and one less than its bytes; `none` if there is none |
 //! | `> K` | the keys that begin with K, each as `V:N`: its value, and how many bytes follow K; `none` if there is none |
+//! | `? K` | how many keys begin with K, as `2` |
 //! | `*` | a line `H V` for each key in iteration order, H in lower case hexadecimal, and then `end` |
 //! | `#` | how many keys are held, and how many slots, as `2 5` |
 //! | `/ K` | the tokens of K, each as `S:L:V`: where it begins, its length in bytes and its value, `-` if it has none; `none` for the empty K |

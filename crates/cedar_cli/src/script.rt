@@ -7,13 +7,13 @@ ghost use Rattle.cedar_cli.specs.Words.{Continues, EndsInput};
 ghost use Rattle.cedar_cli.specs.Words.{FinishesAll, FinishesComing, GrowsBefore, GrowsWithin};
 ghost use Rattle.cedar_cli.specs.Words.{has_failed, HasLineRoom, HasNoNewline, held_by, is_newline};
 ghost use Rattle.cedar_cli.specs.Words.{LineMayLackMemory, OnlyFlushFails, OnWriter, order_of};
-ghost use Rattle.cedar_cli.specs.Words.{StopsOn, TellsInput, TellsText};
+ghost use Rattle.cedar_cli.specs.Words.{StopsOn, TellsInput, TellsText, Unwritten};
 
 use crate::flushes::{Flushes, flush_answers};
 use crate::reasons::{LineReports, NoReports};
 use crate::verbs::answer_line;
 use cedarwood::{Layout, Trie, Watched};
-use memchr::memchr;
+use device_lines::{WriteFault, position_of};
 use std::alloc::{AllocError, Allocator};
 use std::io::{Read, Write};
 
@@ -28,6 +28,15 @@ pub enum ScriptError {
     Memory,
     /// No slot is left in the dictionary.
     SlotLimit,
+}
+
+impl From<WriteFault> for ScriptError {
+    //= A write that failed ends a run as `Write`.
+    ghost from_gives = { λ _ error. error ≡ Unwritten };
+
+    fn from(_: WriteFault) -> ScriptError {
+        ScriptError::Write
+    }
 }
 
 /// A run ends after this many reads, as at the end of its input.
@@ -259,7 +268,7 @@ fn position_of_newline(text: &[u8]) -> Option<usize>
     ensures first { result ≡ position is_newline text.now }
     ensures within { IfSome result (λ at. at < length text.now) }
 {
-    memchr(b'\n', text)
+    position_of(b'\n', text)
 }
 
 /// Runs a line that ends with a piece and byte 10. A line of one piece is run where it is.

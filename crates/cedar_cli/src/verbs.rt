@@ -1,6 +1,6 @@
 //! The answer to one line. A line whose answer isn't written whole changes no key and no value.
 
-ghost use Rattle.std.specs.Prelude.{◌*◌, ◌++◌, ◌<◌, ◌∷◌, ◌≡◌, ◌≤◌, [], IsSome};
+ghost use Rattle.std.specs.Prelude.{◌*◌, ◌++◌, ◌<◌, ◌∷◌, ◌≡◌, ◌≤◌, [], decimal, IsSome};
 ghost use Rattle.std.specs.Prelude.{length, MatchOption, Some};
 ghost use Rattle.cedar_cli.specs.Words.{Answers, AnswersOrFails, bad_line_of, Continues};
 ghost use Rattle.cedar_cli.specs.Words.{figures_text, found_text, Grows};
@@ -12,7 +12,7 @@ use crate::answers::{write_entries, write_pairs, write_tokens};
 use crate::command::{Verb, parse_line};
 use crate::reasons::LineReports;
 use crate::script::ScriptError;
-use crate::write::{write_line, write_whole};
+use crate::write::{write_both, write_line, write_whole};
 use cedar_words::segment;
 use cedarwood::{CedarError, Layout, Trie, Watched};
 use itoa::Buffer;
@@ -84,6 +84,7 @@ fn answer_command<L: Layout, const SLOTS: usize, A: Allocator + Copy, W: Write>(
         Verb::Exact => answer_exact(trie, key, writer),
         Verb::Prefixes => answer_prefixes(trie, key, writer),
         Verb::Predict => answer_predict(trie, key, writer),
+        Verb::Count => answer_count(trie, key, writer),
         Verb::Entries => answer_entries(trie, key, writer),
         Verb::Figures => answer_figures(trie, key, writer),
         Verb::Segment => answer_segment(trie, key, writer),
@@ -177,6 +178,18 @@ fn answer_predict<L: Layout, const SLOTS: usize, A: Allocator + Copy, W: Write>(
     ensures faults { WritesOrFails ScriptError.Write (has_failed writer.old) (has_failed writer.new) result }
 {
     write_pairs(writer, &mut trie.common_prefix_predict_iter_bytes(key))
+}
+
+/// Writes how many keys begin with a prefix.
+fn answer_count<L: Layout, const SLOTS: usize, A: Allocator + Copy, W: Write>(
+    trie: &Trie<L, SLOTS, A>,
+    key: &[u8],
+    writer: &mut Watched<W>,
+) -> Result<(), ScriptError>
+    ensures answer { Answers L.kind (Some (Verb.Count, key.now)) trie.now trie.now (held_by W.contents writer.old) (held_by W.contents writer.new) result }
+    ensures faults { WritesOrFails ScriptError.Write (has_failed writer.old) (has_failed writer.new) result }
+{
+    write_count(writer, trie.count_prefix_bytes(key))
 }
 
 /// Writes all entries. The line has no key, so any key will do.
@@ -283,4 +296,12 @@ fn write_figures<W: Write>(
     let mut figures = Buffer::new();
     write_whole(writer, figures.format(keys).as_bytes())?;
     write_line(writer, b" ", figures.format(slots).as_bytes())
+}
+
+/// Writes the line of a number. It allocates nothing.
+fn write_count<W: Write>(writer: &mut Watched<W>, count: usize) -> Result<(), ScriptError>
+    ensures { WritesBytes W.contents ScriptError.Write writer.old writer.new (decimal count ++ 10 ∷ []) result }
+{
+    let mut figures = Buffer::new();
+    write_both(writer, figures.format(count).as_bytes(), b"\n")
 }

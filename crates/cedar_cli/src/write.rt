@@ -1,4 +1,4 @@
-//! Bytes written whole, or a first part of them and a fault. No other writer calls the device.
+//! Bytes written whole, or a first part of them and a fault of the script. No other writer calls the device.
 
 ghost use Rattle.std.specs.Prelude.{◌++◌, ◌∷◌, []};
 ghost use Rattle.cedar_cli.specs.Words.{WritesBytes};
@@ -15,8 +15,7 @@ pub(crate) fn write_both<W: Write>(
 ) -> Result<(), ScriptError>
     ensures { WritesBytes W.contents ScriptError.Write writer.old writer.new (first.now ++ second.now) result }
 {
-    write_whole(writer, first)?;
-    write_whole(writer, second)
+    Ok(device_lines::write_both(writer, first, second)?)
 }
 
 /// Writes a line that has two parts, and its byte 10.
@@ -27,25 +26,15 @@ pub(crate) fn write_line<W: Write>(
 ) -> Result<(), ScriptError>
     ensures { WritesBytes W.contents ScriptError.Write writer.old writer.new (first.now ++ (second.now ++ 10 ∷ [])) result }
 {
-    write_whole(writer, first)?;
-    write_whole(writer, second)?;
-    write_whole(writer, b"\n")
+    Ok(device_lines::write_line(writer, first, second)?)
 }
 
-/// Writes all of some bytes. The first fault ends it, an interrupted write too: a part was then written, and
-/// not all. (`write_all` of the standard library promises nothing of what a failed call wrote.)
+/// Writes all of some bytes.
 pub(crate) fn write_whole<W: Write>(
     writer: &mut Watched<W>,
     bytes: &[u8],
 ) -> Result<(), ScriptError>
     ensures { WritesBytes W.contents ScriptError.Write writer.old writer.new bytes.now result }
 {
-    let mut rest = bytes;
-    while !rest.is_empty() {
-        match writer.write(rest) {
-            Ok(0) | Err(_) => return Err(ScriptError::Write),
-            Ok(count) => rest = &rest[count..],
-        }
-    }
-    Ok(())
+    Ok(device_lines::write_whole(writer, bytes)?)
 }

@@ -1,4 +1,3 @@
-pub mod Filling
 pub mod NumberLemmas
 pub mod Lists
 pub mod Pieces

@@ -1,4 +1,5 @@
-pub mod WatchedDevice
+pub use Rattle.device_lines.specs.WatchedDevice
+pub use Rattle.device_lines.specs.declared.watched.Watched
 pub mod Reading
 pub mod Numbers
 pub mod Refusal

@@ -2,16 +2,12 @@
 use Rattle.std.specs.Prelude.{ℕ, ◌≡◌, ◌<◌, ◌/◌, ◌⊎◌, Bool, true, false, List, length, take, Option}
 use Rattle.std.specs.Prelude.{Some, None, ⊤, Result, IfErr, IfOk, MatchResult}
 use Rattle.std.specs.Io.KnownBytes.{Consumes}
+pub use Rattle.device_lines.specs.WatchedDevice.{EndsWithin}
 use Rattle.cedar_format.specs.declared.error.CedarPersistenceError.{CedarPersistenceError}
 use Rattle.cedar_format.specs.declared.error.CedarPersistenceError.TheVariants.{Io, Truncated}
 use Rattle.cedar_format.specs.declared.error.CedarPersistenceError.TheVariants.{AllocationFailed}
 use Rattle.cedar_format.specs.declared.error.CedarPersistenceError.TheVariants.{TrailingData}
 use Rattle.cedar_format.specs.declared.header.Header.{Header}
-
--- fewer than n bytes are left
-abbrev pub EndsWithin : Option (List ℕ) → ℕ → Type 0
-EndsWithin None n = ⊤
-EndsWithin (Some bytes) n = length bytes < n
 
 -- why n bytes couldn't be read: the reader failed, or fewer than n were left
 abbrev pub Misses : Option (List ℕ) → Bool → ℕ → CedarPersistenceError → Type 0

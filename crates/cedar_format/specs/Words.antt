@@ -16,11 +16,11 @@ pub use Rattle.cedar_format.specs.Records.{FitsNode, info_bytes, node_bytes}
 pub use Rattle.cedar_format.specs.Refusal.{AllocationFailed, InvalidHeader, refusal, refusal_of}
 pub use Rattle.cedar_format.specs.Shown.{fault_prefix, refusal_text}
 pub use Rattle.cedar_format.specs.Statements.{HeadersAreReadAgain, OneTable, TablesPass}
-pub use Rattle.cedar_format.specs.WatchedDevice.{device_of, has_failed, is_broken, is_write_fault}
 pub use Rattle.cedar_format.specs.declared.error.CedarPersistenceError.TheVariants.{Io, Truncated}
 pub use Rattle.cedar_slots.specs.Blocks.{blank_block}
 pub use Rattle.cedar_slots.specs.Places.{IsSlotLimit}
 pub use Rattle.cedar_slots.specs.Slots.{blank_info, blank_node}
+pub use Rattle.device_lines.specs.WatchedDevice.{device_of, has_failed, is_broken}
 pub use Rattle.std.proofs.Common.{length-append, rules}
 pub use Rattle.std.specs.Fmt.{DisplaysOnOk}
 pub use Rattle.std.specs.Io.{ReadsAtMost, WritesAtMost}

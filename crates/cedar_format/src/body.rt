@@ -16,8 +16,8 @@ use crate::listing::{fill_up, put_filled, put_records, read_records, write_fille
 use crate::record::Record;
 use crate::reserve::reserve_counted;
 use crate::source::Source;
-use crate::watched::Watched;
 use cedar_slots::{BLOCK_SIZE, BlockRecord, NInfoRecord, NodeRecord, Ticks};
+use device_lines::Watched;
 use std::alloc::Allocator;
 use std::io::{ErrorKind, Write};
 use std::marker::Brand;

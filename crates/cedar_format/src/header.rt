@@ -14,7 +14,7 @@ use crate::buffer::{Buffer, put_bytes, put_i32, put_u16, put_usize};
 use crate::error::CedarPersistenceError;
 use crate::numbers::write_bytes;
 use crate::source::{Source, fault_of};
-use crate::watched::Watched;
+use device_lines::Watched;
 use std::io;
 use std::io::{ErrorKind, Write};
 

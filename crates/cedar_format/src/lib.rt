@@ -1,5 +1,5 @@
-//! The binary format of a table, versions 1.0 and 1.1: its exact bytes and its exact refusals; and the devices that it is
-//! read from and written to. A table's fields say what a file holds, so nothing here needs the code of tables.
+//! The binary format of a table, versions 1.0 and 1.1: its exact bytes and its exact refusals; and what it is read from. A
+//! table's fields say what a file holds, so nothing here needs the code of tables.
 #![tactic(auto)]
 
 mod body;
@@ -11,13 +11,12 @@ mod listing;
 mod numbers;
 mod record;
 mod reserve;
-mod retries;
 mod source;
 mod texts;
-mod watched;
 
 pub use body::{Decoded, decode, decode_counted, put_lists, write_lists};
 pub use cedar_slots::{BlockRecord, NInfoRecord, NodeRecord};
+pub use device_lines::Watched;
 pub use error::CedarPersistenceError;
 pub use header::{
     FLAG_ORDERED, FULL_MINOR, HEADER_LEN, Header, LAYOUT, LITTLE_ENDIAN, MAGIC, MAJOR, MINOR,
@@ -29,4 +28,3 @@ pub use numbers::{
 };
 pub use reserve::reserve_exact;
 pub use source::Source;
-pub use watched::Watched;

@@ -10,7 +10,7 @@ use crate::error::CedarPersistenceError;
 use crate::numbers::write_bytes;
 use crate::record::Record;
 use crate::source::Source;
-use crate::watched::Watched;
+use device_lines::Watched;
 use std::alloc::Allocator;
 use std::io::Write;
 

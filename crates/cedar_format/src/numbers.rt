@@ -7,7 +7,7 @@ ghost use Rattle.cedar_format.specs.Words.{IsIo, ReadsBy, TellsBreaks, u16_bytes
 use crate::buffer::{i16_of, i32_of, u16_of, u64_of};
 use crate::error::CedarPersistenceError;
 use crate::source::Source;
-use crate::watched::Watched;
+use device_lines::Watched;
 use std::io::Write;
 
 /// Writes all of the bytes.

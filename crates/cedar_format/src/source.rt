@@ -2,17 +2,19 @@
 
 ghost use Rattle.std.specs.Prelude.{◌<◌, ◌≡◌, ◌≢◌, ◌≤◌, Bool, false, IfErr, IfNone, IfSome, length};
 ghost use Rattle.std.specs.Prelude.{List, OnOk, OnSome, Option, Some, take, true, ℕ};
-ghost use Rattle.cedar_format.specs.Words.{Consumes, error_kind, Io, IsAtEnd, IsLack, Misses};
-ghost use Rattle.cedar_format.specs.Words.{TellsBreaks, Truncated};
+ghost use Rattle.cedar_format.specs.Words.{Consumes, device_of, error_kind, has_failed, Io};
+ghost use Rattle.cedar_format.specs.Words.{is_broken, IsAtEnd, IsLack, Misses, TellsBreaks};
+ghost use Rattle.cedar_format.specs.Words.{Truncated};
 
 use crate::buffer::take_bytes;
 use crate::error::CedarPersistenceError;
+use device_lines::Watched;
 use std::io;
-use std::io::ErrorKind;
+use std::io::{ErrorKind, Read};
 
 /// What a file is loaded from, and whether its reading has failed.
 ///
-/// The calls that load know only what this trait says of it. A [`Watched`](crate::Watched) reader has failed if one of its calls
+/// The calls that load know only what this trait says of it. A [`Watched`] reader has failed if one of its calls
 /// did. Bytes in memory, `&[u8]`, never fail, and begin after what was taken.
 pub trait Source {
     /// The bytes that are left, if they are known.
@@ -33,9 +35,8 @@ pub trait Source {
         ensures bytes { OnOk result (Consumes (remaining self.old) (remaining self.new) buf.new) }
         ensures misses { IfErr result (Misses (remaining self.old) (failed self.new) (length buf.old)) }
 
-        //= A device that has failed stays failed. [also read_available, read.failed, read_exact.failed, write.failed, flush.failed,
-        //  write_all.failed, write_lists.failed, read_header.failed, write_header.failed, write_i16.failed, write_i32.failed,
-        //  write_usize.failed]
+        //= A device that has failed stays failed. [also read_available, write_lists.failed, read_header.failed, write_header.failed,
+        //  write_i16.failed, write_i32.failed, write_usize.failed]
         ensures stays { failed self.old ≡ true → failed self.new ≡ true }
 
         //= If a read was broken off, no buffer is filled and no end of the input is reported; a fault comes only before the buffer is full.
@@ -75,6 +76,39 @@ impl Source for &[u8] {
         let count = self.len().min(buf.len());
         take_bytes(self, &mut buf[..count]);
         (count, None)
+    }
+}
+
+impl<R: Read> Source for Watched<R> {
+    ghost remaining = { λ w. R.remaining (device_of w) };
+
+    ghost failed = { has_failed };
+
+    ghost broken = { is_broken };
+
+    fn fill(&mut self, buf: &mut [u8]) -> Result<(), CedarPersistenceError> {
+        match self.read_exact(buf) {
+            Ok(()) => Ok(()),
+            Err(error) => Err(fault_of(error)),
+        }
+    }
+
+    fn read_available(&mut self, buf: &mut [u8]) -> (usize, Option<io::Error>) {
+        let mut filled = 0;
+        let mut tries = u64::MAX;
+        while filled < buf.len() {
+            match self.read(&mut buf[filled..]) {
+                Ok(0) => return (filled, None),
+                Ok(count) => filled += count,
+                Err(error) => {
+                    if error.kind() != ErrorKind::Interrupted || tries == 0 {
+                        return (filled, Some(error));
+                    }
+                    tries -= 1;
+                }
+            }
+        }
+        (filled, None)
     }
 }
 

@@ -62,13 +62,21 @@ impl BytePrice for EachCharacter {
     }
 }
 
-/// What finds the keys that a text begins with, one after another.
-pub(crate) trait NextFront {
-    /// Those that are still to come.
+/// What finds the keys that a text begins with, one after another. A loop over a walk of any dictionary knows the walk by this trait alone:
+/// so its proof needn't know the dictionary's type, nor that this fits in memory.
+///
+/// ```
+/// cedar.build(&[("ne", 1), ("net", 7)])?;
+/// let mut fronts = cedar.common_prefix_iter_bytes(b"nets");
+/// assert_eq!(rt; fronts.next_front(), Some((1, 1)));
+/// ```
+pub trait NextFront {
+    /// Those that are still to come, each by its value and one less than its bytes.
     ghost left: { Self → List (ℤ × ℕ) };
 
     /// The next one: its value, and one less than its bytes.
     fn next_front(&mut self) -> Option<(i32, usize)>
+        //= A walk over the keys that a text begins with gives the first one that is still to come, and None exactly if there is none.
         ensures { MatchOption result (left self.old ≡ []) (λ found. left self.old ≡ found ∷ left self.new) };
 }
 

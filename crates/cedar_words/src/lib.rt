@@ -23,7 +23,7 @@ mod segments;
 mod spots;
 
 pub use classes::{CharacterBytes, CharacterClasses, OneCharacter, OneClass, Scripts};
-pub use costs::{cheapest, cheapest_by_characters};
+pub use costs::{NextFront, cheapest, cheapest_by_characters};
 pub use cuts::cheapest_by;
 pub use edges::{Edge, Edges, lattice};
 pub use keywords::{Keywords, leftmost_longest, leftmost_longest_from};

@@ -11,7 +11,7 @@ pub use Rattle.cedar_format.specs.Reading.{IsIo, LacksNoMore, TellsBreaks}
 pub use Rattle.cedar_format.specs.Tables.{header_of, IsTableFile, table_bytes}
 pub use Rattle.cedar_format.specs.WatchedDevice.{device_of, has_failed}
 pub use Rattle.cedar_format.specs.declared.error.CedarPersistenceError.TheVariants.{AllocationFailed}
-pub use Rattle.cedar_format.specs.declared.watched.Watched.{Watched}
+pub use Rattle.cedar_format.specs.Watched.{Watched}
 pub use Rattle.cedar_model.specs.Meaning.Marks.{marks, MarksCut, MarksPut}
 pub use Rattle.cedar_model.specs.Meaning.WellFormed.{cells_in, IsWellFormed, tree_of}
 pub use Rattle.cedar_model.specs.Table.Layouts.{default_layout, layout_byte, LayoutKind}

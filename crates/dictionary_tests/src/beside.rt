@@ -88,20 +88,22 @@ fn key(alloc: Global, seed: &mut u32, keys: Keys) -> Result<Vec<u8>, AllocError>
     Ok(key)
 }
 
-// Erases all keys that begin with a prefix from both, and returns whether they were equally many.
+// Erases all keys that begin with a prefix from both, and returns whether they were equally many, and were counted so before.
 fn erase_prefix<L: Layout>(
     alloc: Global,
     both: &mut Beside<L>,
     prefix: &[u8],
 ) -> Result<bool, AllocError> {
     let held = both.tree.predict(alloc, prefix)?;
+    let counted = both.trie.count_prefix_bytes(prefix);
     let entries = both.tree.walk(alloc)?;
     for (key, _) in &entries {
         if key.as_slice().starts_with(prefix) {
             both.tree.cut(key);
         }
     }
-    Ok(both.trie.erase_prefix_bytes(prefix) == held.len())
+    let erased = both.trie.erase_prefix_bytes(prefix);
+    Ok(counted == held.len() && erased == held.len())
 }
 
 // Makes one call on both, and returns whether they returned the same.

@@ -1,7 +1,7 @@
 //! Dictionaries of either layout, without a key, and lists of calls, made without their clauses.
 ghost use Rattle.cedarwood.specs.Words.{IsSlotLimit};
 
-use cedar_calls::{Answer, Call, Change, Question, reserve_for_calls, run_calls};
+use cedar_calls::{Answer, Call, Change, Question, TextQuery, reserve_for_calls, run_calls};
 use cedarwood::{CedarBuilder, CedarError, Layout, MOST_SLOTS, Trie};
 use std::alloc::{AllocError, Allocator};
 
@@ -13,6 +13,11 @@ pub(crate) fn change(index: usize, change: Change<'_>) -> Call<'_> {
 /// Returns a question to one of them.
 pub(crate) fn ask(index: usize, question: Question<'_>) -> Call<'_> {
     Call::Ask { index, question }
+}
+
+/// Returns a question about a text to the first of them.
+pub(crate) fn ask_of<'a>(text: &'a [u8], query: TextQuery<'a>) -> Call<'a> {
+    ask(0, Question::InText { text, ask: query })
 }
 
 /// Dictionaries, and their list, over one allocator.

@@ -61,6 +61,7 @@ fn arg_of<'a>(alloc: Global, shape: Shape) -> Result<Arg<'a>, AllocError> {
         Form::Several(name) => Ok(several(arg.value_name(name))),
         Form::Flag => Ok(flag(arg, shape.id)),
         Form::FlagWithout(other) => flag(arg, shape.id).conflicts_with(other),
+        Form::FlagOf(group) => flag(arg, shape.id).group(group),
         Form::Value(name, kind) => with_value(arg.long(shape.id).value_name(name), kind),
     }
 }
@@ -85,7 +86,8 @@ fn with_value<'a>(arg: Arg<'a>, kind: Kind) -> Result<Arg<'a>, AllocError> {
         Kind::Count(letter) => Ok(arg.short(letter).value_parser(value_parser!(u64))),
         Kind::CountWithout(other) => arg.value_parser(value_parser!(u64)).conflicts_with(other),
         Kind::OneOf(texts) => Ok(arg.value_parser(ValueParser::Names(texts))),
-        Kind::CostWith(other) => arg.value_parser(value_parser!(u32)).requires_arg(other),
+        Kind::TextOf(group) => arg.group(group),
+        Kind::TextWith(group) => arg.requires_arg(group),
         Kind::Size => Ok(arg.value_parser(value_parser!(usize))),
     }
 }

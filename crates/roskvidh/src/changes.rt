@@ -2,7 +2,7 @@
 //! format and layout.
 
 use crate::build::{empty, store_list};
-use crate::dictionary::{Kind, Loaded, SLOTS, load, open};
+use crate::dictionary::{Kind, SLOTS, load, open};
 use crate::durable::change_store;
 use crate::fault::{Fault, store_fault};
 use crate::input;
@@ -12,6 +12,7 @@ use crate::request::{Change, Dictionary, How, List};
 use crate::run::true_if_done;
 use cedar_disk::LockFile;
 use cedarwood::{DefaultLayout, Layout, ReducedLayout, Trie, Watched};
+use either_layout::on_layout;
 use std::alloc::Global;
 use std::io::{Read, Write};
 use std::rt::Files;
@@ -36,10 +37,9 @@ where
     if kind == Kind::Store && is_in_place(asked.how) {
         return change_store(alloc, files, dictionary.path, asked.how, source, errors);
     }
-    match load(alloc, dictionary, reader, kind)? {
-        Loaded::Default(trie) => change_loaded(alloc, files, trie, false, asked, source, errors),
-        Loaded::Reduced(trie) => change_loaded(alloc, files, trie, true, asked, source, errors),
-    }
+    let any = load(alloc, dictionary, reader, kind)?;
+    let is_reduced = any.is_reduced();
+    on_layout!(any, trie => change_loaded(alloc, files, trie, is_reduced, asked, source, errors))
 }
 
 /// Whether a change is saved in the dictionary's own file.
@@ -124,10 +124,8 @@ fn merge<'m, L: Layout, F: Files>(
     other: Dictionary<'m>,
 ) -> Result<(), Fault<'m>> {
     let (reader, kind) = open(alloc, files, other.path)?;
-    match load(alloc, other, reader, kind)? {
-        Loaded::Default(more) => store_all(alloc, trie, &more),
-        Loaded::Reduced(more) => store_all(alloc, trie, &more),
-    }
+    let any = load(alloc, other, reader, kind)?;
+    on_layout!(any, more => store_all(alloc, trie, &more))
 }
 
 /// Stores all entries of a dictionary in another one.

@@ -9,6 +9,7 @@ pub(crate) enum Name {
     Get,
     Prefixes,
     Complete,
+    Count,
     List,
     Show,
     Cut,
@@ -25,11 +26,12 @@ pub(crate) enum Name {
 }
 
 /// The commands, as the help text lists them.
-pub(crate) const COMMANDS: [Name; 17] = [
+pub(crate) const COMMANDS: [Name; 18] = [
     Name::Build,
     Name::Get,
     Name::Prefixes,
     Name::Complete,
+    Name::Count,
     Name::List,
     Name::Show,
     Name::Cut,
@@ -61,6 +63,7 @@ pub(crate) fn said_of(name: Name) -> Said {
         Name::Get => GET,
         Name::Prefixes => PREFIXES,
         Name::Complete => COMPLETE,
+        Name::Count => COUNT,
         Name::List => LIST,
         Name::Show => SHOW,
         Name::Cut => CUT,
@@ -84,6 +87,7 @@ pub(crate) fn arguments_of(name: Name) -> &'static [Argument] {
         Name::Get => &GET_TAKES,
         Name::Prefixes => &PREFIXES_TAKES,
         Name::Complete => &COMPLETE_TAKES,
+        Name::Count => &COUNT_TAKES,
         Name::List => &LIST_TAKES,
         Name::Show => &SHOW_TAKES,
         Name::Cut => &CUT_TAKES,
@@ -160,6 +164,14 @@ const COMPLETE_TAKES: [Argument; 6] = [
     Argument::Limit,
 ];
 
+const COUNT: Said = Said {
+    name: "count",
+    about: "Count the words that begin with a prefix",
+    notes: "The status is 1 where there is none.\n\nExample:\n  roskvidh count words.cedar ne",
+};
+
+const COUNT_TAKES: [Argument; 3] = [Argument::File, Argument::Prefix, Argument::Limit];
+
 const LIST: Said = Said {
     name: "list",
     about: "List the words of a dictionary",
@@ -200,11 +212,12 @@ const CUT: Said = Said {
     notes: CUT_NOTES,
 };
 
-const CUT_TAKES: [Argument; 7] = [
+const CUT_TAKES: [Argument; 8] = [
     Argument::File,
     Argument::TextFile,
     Argument::Sign,
     Argument::Cheapest,
+    Argument::Costs,
     Argument::Unknown,
     Argument::Progress,
     Argument::Limit,
@@ -212,9 +225,12 @@ const CUT_TAKES: [Argument; 7] = [
 
 const CUT_NOTES: &str = "\
 Each line is cut by itself: at each position into the longest word that begins there, or else one character.
+With --unknown class or class=COST a run of letters, of digits or of one script that no word is costs so much as a whole, if it has
+24 characters or fewer.
 
 Example:
-  echo networks | roskvidh cut words.cedar -s '|'";
+  echo networks | roskvidh cut words.cedar -s '|'
+  echo networks | roskvidh cut words.cedar --costs costs.tsv --unknown class";
 
 const SCAN: Said = Said {
     name: "scan",

@@ -5,9 +5,8 @@ use crate::input::read_all;
 use crate::request::Dictionary;
 use cedar_journal::{PLAIN_HEADER, SUMMED_HEADER};
 use cedar_store::read_store;
-use cedarwood::{
-    CedarPersistenceError, DefaultLayout, Layout, MOST_SLOTS, ReducedLayout, Trie, Watched,
-};
+use cedarwood::{Cedar, CedarPersistenceError, MOST_SLOTS, Watched};
+use either_layout::{AnyCedar, names_reduced};
 use std::alloc::Global;
 use std::fs::File;
 use std::io::{BufRead, BufReader, Read};
@@ -15,12 +14,6 @@ use std::rt::Files;
 
 /// How many slots a dictionary may have.
 pub(crate) const SLOTS: usize = MOST_SLOTS;
-
-/// Where a file has the byte of its layout.
-const LAYOUT_PLACE: usize = 13;
-
-/// The byte of the reduced layout.
-const REDUCED_LAYOUT: u8 = 1;
 
 /// What a dictionary's file is.
 #[derive(Clone, Copy, PartialEq, Eq)]
@@ -31,13 +24,6 @@ pub(crate) enum Kind {
     Reduced,
     /// A store: the changes that make a dictionary, one after another.
     Store,
-}
-
-/// A dictionary that is loaded, of either layout.
-#[derive(Drop)]
-pub(crate) enum Loaded {
-    Default(Trie<DefaultLayout, SLOTS, Global>),
-    Reduced(Trie<ReducedLayout, SLOTS, Global>),
 }
 
 /// Opens a dictionary's file, and returns what it is.
@@ -64,7 +50,7 @@ fn kind_of<R: BufRead>(reader: &mut R) -> Result<Kind, CedarPersistenceError> {
     let head = reader.fill_buf()?;
     Ok(if head.starts_with(&SUMMED_HEADER) || head.starts_with(&PLAIN_HEADER) {
         Kind::Store
-    } else if head.get(LAYOUT_PLACE).copied() == Some(REDUCED_LAYOUT) {
+    } else if names_reduced(head) {
         Kind::Reduced
     } else {
         Kind::Default
@@ -77,23 +63,14 @@ pub(crate) fn load<'m, R: Read + Drop>(
     dictionary: Dictionary<'m>,
     reader: BufReader<R>,
     kind: Kind,
-) -> Result<Loaded, Fault<'m>> {
-    match kind {
-        Kind::Default => Ok(Loaded::Default(load_layout(alloc, dictionary, reader)?)),
-        Kind::Reduced => Ok(Loaded::Reduced(load_layout(alloc, dictionary, reader)?)),
-        Kind::Store => Ok(Loaded::Default(load_store(alloc, dictionary.path, reader)?)),
+) -> Result<AnyCedar, Fault<'m>> {
+    if kind == Kind::Store {
+        return Ok(AnyCedar::Default(load_store(alloc, dictionary.path, reader)?));
     }
-}
-
-/// Loads a dictionary of this layout.
-fn load_layout<'m, L: Layout, R: Read + Drop>(
-    alloc: Global,
-    dictionary: Dictionary<'m>,
-    reader: BufReader<R>,
-) -> Result<Trie<L, SLOTS, Global>, Fault<'m>> {
     let mut source = Watched::new(reader);
-    match Trie::load_from_reader_with_limit(alloc, &mut source, dictionary.limit) {
-        Ok(trie) => Ok(trie),
+    let is_reduced = kind == Kind::Reduced;
+    match AnyCedar::load_as(alloc, is_reduced, &mut source, dictionary.limit) {
+        Ok(any) => Ok(any),
         Err(error) => Err(Fault::Load(dictionary.path, error)),
     }
 }
@@ -104,7 +81,7 @@ fn load_store<'m, R: Read + Drop>(
     alloc: Global,
     path: &'m str,
     reader: BufReader<R>,
-) -> Result<Trie<DefaultLayout, SLOTS, Global>, Fault<'m>> {
+) -> Result<Cedar<Global>, Fault<'m>> {
     let mut changes = reader;
     let bytes = read_all(alloc, Some(path), &mut changes)?;
     match read_store(alloc, &bytes) {

@@ -1,9 +1,10 @@
 //! What two dictionaries hold differently.
 
-use crate::dictionary::{Loaded, SLOTS, load, open};
+use crate::dictionary::{SLOTS, load, open};
 use crate::fault::Fault;
 use crate::request::Dictionary;
 use cedarwood::{Layout, Trie, Watched};
+use either_layout::on_layout;
 use std::alloc::Global;
 use std::io::Write;
 use std::rt::Files;
@@ -19,10 +20,8 @@ pub(crate) fn diff<'m, F: Files, W: Write>(
     writer: &mut Watched<W>,
 ) -> Result<bool, Fault<'m>> {
     let (reader, kind) = open(alloc, files, first.path)?;
-    match load(alloc, first, reader, kind)? {
-        Loaded::Default(trie) => diff_from(alloc, files, &trie, second, writer),
-        Loaded::Reduced(trie) => diff_from(alloc, files, &trie, second, writer),
-    }
+    let any = load(alloc, first, reader, kind)?;
+    on_layout!(any, trie => diff_from(alloc, files, &trie, second, writer))
 }
 
 /// The same, if the first one is loaded.
@@ -34,10 +33,8 @@ fn diff_from<'m, L: Layout, F: Files, W: Write>(
     writer: &mut Watched<W>,
 ) -> Result<bool, Fault<'m>> {
     let (reader, kind) = open(alloc, files, second.path)?;
-    match load(alloc, second, reader, kind)? {
-        Loaded::Default(trie) => write_diff(alloc, first, &trie, writer),
-        Loaded::Reduced(trie) => write_diff(alloc, first, &trie, writer),
-    }
+    let any = load(alloc, second, reader, kind)?;
+    on_layout!(any, trie => write_diff(alloc, first, &trie, writer))
 }
 
 /// The same, if both are.

@@ -17,6 +17,9 @@ const STRICT: &str = "with --strict no such line may stand in a list";
 /// What is reported of a dictionary that isn't in the order of bytes.
 const UNORDERED: &str = "it was built --unordered, so no word is the next one";
 
+/// What is reported of a word that `--unknown` doesn't know.
+const UNKNOWN: &str = "--unknown takes a cost from 0 to 4294967295, class, or class=COST";
+
 /// What is reported of a store that is locked.
 const LOCKED: &str = "another program has the store open";
 
@@ -41,6 +44,10 @@ pub(crate) enum Fault<'m> {
     Read(Option<&'m str>, io::Error),
     /// A list has bad or repeated lines, which were reported.
     Strict(Option<&'m str>),
+    /// The line at this index, counted from 0, of a file of costs has none.
+    Cost(&'m str, usize),
+    /// This is nothing that `--unknown` may say.
+    Unknown(&'m str),
     /// The dictionary of this path isn't in the order of bytes.
     Unordered(&'m str),
     /// The output can't be written.
@@ -86,6 +93,8 @@ pub(crate) fn tell<E: Write>(errors: &mut Watched<E>, fault: Fault<'_>) {
         Fault::Store(path, error) => tell_of(errors, path, error),
         Fault::Read(path, error) => tell_of(errors, name_of(path), error),
         Fault::Strict(path) => tell_input(errors, name_of(path), STRICT),
+        Fault::Cost(path, index) => tell_cost(errors, path, index),
+        Fault::Unknown(text) => tell_input(errors, text, UNKNOWN),
         Fault::Unordered(path) => tell_input(errors, path, UNORDERED),
         Fault::Locked(path) => tell_input(errors, path, LOCKED),
         Fault::Unkept(path) => tell_input(errors, path, UNKEPT),
@@ -98,6 +107,15 @@ pub(crate) fn tell<E: Write>(errors: &mut Watched<E>, fault: Fault<'_>) {
 /// Reports an error of a file, or of an input of this name.
 fn tell_of<E: Write, T: Display + Drop>(errors: &mut Watched<E>, name: &str, error: T) {
     let _ = writeln!(errors, "roskvidh: {name}: {error}");
+}
+
+/// Reports a line of a file of costs that has none.
+fn tell_cost<E: Write>(errors: &mut Watched<E>, name: &str, index: usize) {
+    let number = index.saturating_add(1);
+    let _ = writeln!(
+        errors,
+        "roskvidh: {name}:{number}: no number from 0 to 2147483647"
+    );
 }
 
 /// Reports what is wrong with an input of this name.

@@ -7,6 +7,7 @@ mod changes;
 mod chart;
 mod commands;
 mod completions;
+mod costs;
 mod dictionary;
 mod differences;
 mod durable;

@@ -10,7 +10,8 @@ use cedarwood::{Layout, Trie, Watched};
 use std::alloc::Global;
 use std::io::Write;
 use word_lists::{
-    read_word, write_drawing, write_fronts, write_next_entries, write_number, write_tree,
+    read_word, write_count, write_drawing, write_fronts, write_next_entries, write_number,
+    write_tree,
 };
 
 /// Runs a query, and returns whether something was found: of words that are looked up, all of them.
@@ -28,6 +29,7 @@ pub(crate) fn answer<'m, L: Layout, W: Write>(
         Query::Get(words) => get(trie, words, &mut word, writer),
         Query::Prefixes(_) => prefixes(trie, &word, writer),
         Query::Complete(completions) => complete(alloc, trie, &word, completions, writer),
+        Query::Count(_) => count(trie, &word, writer),
         Query::Check => true_if_done(check(trie, dictionary, kind, writer)),
         Query::Stats(chart) => true_if_done(stats(alloc, trie, chart, writer)),
         Query::Show(_, is_drawing) => show(alloc, trie, &word, is_drawing, writer),
@@ -40,6 +42,7 @@ pub(crate) fn answer<'m, L: Layout, W: Write>(
 fn text_of<'m>(query: Query<'m>) -> &'m str {
     match query {
         Query::Prefixes(text)
+        | Query::Count(text)
         | Query::Show(text, _)
         | Query::ListUnder(text)
         | Query::ListFrom(text) => text,
@@ -55,6 +58,15 @@ fn prefixes<'m, L: Layout, W: Write>(
     writer: &mut Watched<W>,
 ) -> Result<bool, Fault<'m>> {
     Ok(write_fronts(writer, trie, text)?)
+}
+
+/// Writes how many words begin with a prefix, and returns whether there is one.
+fn count<'m, L: Layout, W: Write>(
+    trie: &Trie<L, SLOTS, Global>,
+    prefix: &[u8],
+    writer: &mut Watched<W>,
+) -> Result<bool, Fault<'m>> {
+    Ok(write_count(writer, trie, prefix)?)
 }
 
 /// Lists the words that begin with a prefix.

@@ -108,6 +108,8 @@ pub(crate) enum Query<'m> {
     Get(&'m [&'m str]),
     Prefixes(&'m str),
     Complete(Completions<'m>),
+    /// How many words begin so.
+    Count(&'m str),
     /// Whether the file is well-formed, and of what kind it is.
     Check,
     /// The figures, and whether a bar for each length of word is wanted.
@@ -146,13 +148,22 @@ pub(crate) struct Reading<'m> {
     pub task: Task<'m>,
 }
 
+/// What words cost, and text that no word has, as the arguments say it.
+#[derive(Clone, Copy)]
+pub(crate) struct Costing<'m> {
+    /// The path of a file with a cost for each number; None if words cost their numbers.
+    pub words: Option<&'m str>,
+    /// What text costs that no word has.
+    pub unknown: Option<&'m str>,
+}
+
 /// What is done with a text.
 #[derive(Clone, Copy)]
 pub(crate) enum Task<'m> {
     /// Cut it, with this sign between words.
     Cut(&'m str),
-    /// Cut it so that it costs the least, if a character that no word has costs this much.
-    CutCheapest(u32, &'m str),
+    /// Cut it so that its words have the least costs together.
+    CutByCost(Costing<'m>, &'m str),
     /// Find all words that occur in it.
     Scan,
     /// Find those that don't overlap.
@@ -186,6 +197,7 @@ fn query_named<'m, 'a>(name: &str, asked: &'m ArgMatches<'a>) -> Option<Request<
         "get" => query_of(asked, Query::Get(asked.get_strs("word")?)),
         "prefixes" => query_of(asked, Query::Prefixes(asked.get_str("text")?)),
         "complete" => query_of(asked, complete_of(asked)?),
+        "count" => query_of(asked, Query::Count(asked.get_str("prefix")?)),
         "list" => query_of(asked, list_of(asked)),
         "check" => query_of(asked, Query::Check),
         "stats" => query_of(asked, Query::Stats(asked.get_flag("chart"))),
@@ -342,9 +354,13 @@ fn list_of<'m, 'a>(asked: &'m ArgMatches<'a>) -> Query<'m> {
     }
 }
 
-fn cut_of<'m>(asked: &ArgMatches<'_>, sign: &'m str) -> Task<'m> {
-    if asked.get_flag("cheapest") {
-        Task::CutCheapest(asked.get_one("unknown").unwrap_or(u32::MAX), sign)
+fn cut_of<'m, 'a>(asked: &'m ArgMatches<'a>, sign: &'m str) -> Task<'m> {
+    let costing = Costing {
+        words: asked.get_str("costs"),
+        unknown: asked.get_str("unknown"),
+    };
+    if asked.get_flag("cheapest") || costing.words.is_some() {
+        Task::CutByCost(costing, sign)
     } else {
         Task::Cut(sign)
     }

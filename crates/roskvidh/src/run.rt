@@ -2,7 +2,8 @@
 
 use crate::build::build;
 use crate::changes::change;
-use crate::dictionary::{Loaded, load, open};
+use crate::costs::costs_for;
+use crate::dictionary::{load, open};
 use crate::differences::diff;
 use crate::fault::{Fault, is_closed, tell};
 use crate::input::Source;
@@ -14,6 +15,7 @@ use crate::request::{Asked, Dictionary, Query, Reading, Request, Terminals, tell
 use crate::texts::read_text;
 use cedar_disk::LockFile;
 use cedarwood::Watched;
+use either_layout::on_layout;
 use std::alloc::Global;
 use std::io::{Read, Write};
 use std::rt::Files;
@@ -75,14 +77,19 @@ where
         Err(Fault::Write) if is_closed(writer) => DONE,
         Err(fault) => {
             let _ = writer.flush();
-            let status = if matches!(fault, Fault::Locked(_)) {
-                LOCKED
-            } else {
-                FILES
-            };
+            let status = status_of(&fault);
             tell(errors, fault);
             status
         }
+    }
+}
+
+/// The status that a fault ends with.
+fn status_of(fault: &Fault<'_>) -> u8 {
+    match fault {
+        Fault::Locked(_) => LOCKED,
+        Fault::Unknown(_) => USAGE,
+        _ => FILES,
     }
 }
 
@@ -151,10 +158,8 @@ fn ask<'m, F: Files, W: Write>(
     writer: &mut Watched<W>,
 ) -> Result<bool, Fault<'m>> {
     let (reader, kind) = open(alloc, files, dictionary.path)?;
-    match load(alloc, dictionary, reader, kind)? {
-        Loaded::Default(trie) => answer(alloc, &trie, dictionary, kind, query, writer),
-        Loaded::Reduced(trie) => answer(alloc, &trie, dictionary, kind, query, writer),
-    }
+    let any = load(alloc, dictionary, reader, kind)?;
+    on_layout!(any, trie => answer(alloc, &trie, dictionary, kind, query, writer))
 }
 
 /// Reads a text by a dictionary's file.
@@ -166,10 +171,9 @@ fn read<'m, F: Files, R: Read + Drop, M: Meter + Drop, W: Write>(
     source: Source<R, M>,
     writer: &mut Watched<W>,
 ) -> Result<bool, Fault<'m>> {
+    let costs = costs_for(alloc, files, reading)?;
     let (reader, kind) = open(alloc, files, dictionary.path)?;
     let mut text = crate::input::open(alloc, files, reading.text, source)?;
-    match load(alloc, dictionary, reader, kind)? {
-        Loaded::Default(trie) => read_text(alloc, &trie, reading, &mut text, writer),
-        Loaded::Reduced(trie) => read_text(alloc, &trie, reading, &mut text, writer),
-    }
+    let any = load(alloc, dictionary, reader, kind)?;
+    on_layout!(any, trie => read_text(alloc, &trie, reading, &costs, &mut text, writer))
 }

@@ -24,6 +24,7 @@ pub(crate) enum Argument {
     TextFile,
     Sign,
     Cheapest,
+    Costs,
     Unknown,
     OnlyLongest,
     Color,
@@ -60,6 +61,8 @@ pub(crate) enum Form {
     Flag,
     /// One that excludes another option.
     FlagWithout(&'static str),
+    /// One of a group, of which one option at most is given.
+    FlagOf(&'static str),
     /// An option with a value of this name in help texts.
     Value(&'static str, Kind),
 }
@@ -81,8 +84,10 @@ pub(crate) enum Kind {
     CountWithout(&'static str),
     /// One of these texts.
     OneOf(&'static [&'static str]),
-    /// A cost, whose option needs another one.
-    CostWith(&'static str),
+    /// A text whose option is one of a group, of which one option at most is given.
+    TextOf(&'static str),
+    /// A text whose option needs one of a group.
+    TextWith(&'static str),
     /// A size in memory.
     Size,
 }
@@ -111,6 +116,7 @@ pub(crate) fn shape_of(argument: Argument) -> Shape {
         Argument::TextFile => TEXT_FILE,
         Argument::Sign => SIGN,
         Argument::Cheapest => CHEAPEST,
+        Argument::Costs => COSTS,
         Argument::Unknown => UNKNOWN,
         Argument::OnlyLongest => ONLY_LONGEST,
         Argument::Color => COLOR,
@@ -258,16 +264,25 @@ const SIGN: Shape = Shape {
     help: "What to write between two words",
 };
 
+/// The options that say what words cost.
+const COSTING: &str = "costing";
+
 const CHEAPEST: Shape = Shape {
     id: "cheapest",
-    form: Form::Flag,
+    form: Form::FlagOf(COSTING),
     help: "Cut each line so that its words' numbers have the least sum",
+};
+
+const COSTS: Shape = Shape {
+    id: "costs",
+    form: Form::Value("COSTS", Kind::TextOf(COSTING)),
+    help: "The same by the costs that this file has of each number, a line each, from 0 on; a tab and a note may follow a cost",
 };
 
 const UNKNOWN: Shape = Shape {
     id: "unknown",
-    form: Form::Value("COST", Kind::CostWith("cheapest")),
-    help: "What a character costs that no word has; 4294967295 if not said, which is more than any word",
+    form: Form::Value("COST", Kind::TextWith(COSTING)),
+    help: "What a character costs that no word has, 4294967295 if not said; by class or class=COST, what a run of one class costs",
 };
 
 const ONLY_LONGEST: Shape = Shape {

@@ -1,21 +1,27 @@
 //! Texts that are cut and scanned, line by line.
 
+use crate::costs::{Costs, Unknown};
 use crate::dictionary::SLOTS;
 use crate::fault::Fault;
 use crate::request::{Reading, Task};
+use cedar_words::{CostTable, KeyCosts, OneCharacter, OneClass, Priced, Scripts, ValueIsCost};
 use cedarwood::{Layout, Trie, Watched};
 use std::alloc::Global;
 use std::io::{BufRead, Write};
 use word_lists::{
-    ListError, read_word, write_cheapest_cut, write_cut, write_keywords, write_marked,
-    write_matches,
+    ListError, read_word, write_cheapest_cut, write_cut, write_cut_by, write_keywords,
+    write_marked, write_matches,
 };
+
+/// How many characters a run of one class has at most.
+const LONGEST_RUN: usize = 24;
 
 /// Reads a text, and writes it cut, or the words that occur in it. Returns false if there was none to find.
 pub(crate) fn read_text<'m, L: Layout, R: BufRead, W: Write>(
     alloc: Global,
     trie: &Trie<L, SLOTS, Global>,
     reading: Reading<'m>,
+    costs: &Costs,
     text: &mut R,
     writer: &mut Watched<W>,
 ) -> Result<bool, Fault<'m>> {
@@ -28,7 +34,16 @@ pub(crate) fn read_text<'m, L: Layout, R: BufRead, W: Write>(
         if !next_line(text, reading.text, &mut line)? {
             break;
         }
-        found = answer_line(alloc, trie, reading.task, &line, number, &sign, writer)? || found;
+        found = answer_line(
+            alloc,
+            trie,
+            reading.task,
+            costs,
+            &line,
+            number,
+            &sign,
+            writer,
+        )? || found;
     }
     Ok(found)
 }
@@ -51,6 +66,7 @@ fn answer_line<L: Layout, W: Write>(
     alloc: Global,
     trie: &Trie<L, SLOTS, Global>,
     task: Task<'_>,
+    costs: &Costs,
     line: &[u8],
     number: u64,
     sign: &[u8],
@@ -58,9 +74,7 @@ fn answer_line<L: Layout, W: Write>(
 ) -> Result<bool, ListError> {
     match task {
         Task::Cut(_) => write_cut(writer, trie, line, sign)?,
-        Task::CutCheapest(unknown, _) => {
-            write_cheapest_cut(alloc, writer, trie, line, unknown, sign)?
-        }
+        Task::CutByCost(_, _) => cut_by_cost(alloc, writer, trie, line, costs, sign)?,
         Task::ScanMarked => return write_marked(writer, trie, line),
         Task::Scan => return write_matches(writer, trie, line, number),
         Task::ScanLongest => return write_keywords(writer, trie, line, number),
@@ -68,10 +82,73 @@ fn answer_line<L: Layout, W: Write>(
     Ok(true)
 }
 
+/// Writes a line cut at least cost.
+fn cut_by_cost<L: Layout, W: Write>(
+    alloc: Global,
+    writer: &mut Watched<W>,
+    trie: &Trie<L, SLOTS, Global>,
+    line: &[u8],
+    costs: &Costs,
+    sign: &[u8],
+) -> Result<(), ListError> {
+    let Some(words) = &costs.words else {
+        return cut_by_numbers(alloc, writer, trie, line, costs.unknown, sign);
+    };
+    let keys = CostTable {
+        costs: words.as_slice(),
+        beyond: u32::MAX,
+    };
+    cut_by_model(alloc, writer, trie, line, keys, costs.unknown, sign)
+}
+
+/// Writes a line cut at least cost, where words cost their numbers.
+fn cut_by_numbers<L: Layout, W: Write>(
+    alloc: Global,
+    writer: &mut Watched<W>,
+    trie: &Trie<L, SLOTS, Global>,
+    line: &[u8],
+    unknown: Unknown,
+    sign: &[u8],
+) -> Result<(), ListError> {
+    match unknown {
+        Unknown::Character(cost) => write_cheapest_cut(alloc, writer, trie, line, cost, sign),
+        Unknown::Run(_) => {
+            let keys = ValueIsCost {};
+            cut_by_model(alloc, writer, trie, line, keys, unknown, sign)
+        }
+    }
+}
+
+/// Writes a line by its best cut, where words and other text cost this much.
+fn cut_by_model<L: Layout, K: KeyCosts + Copy, W: Write>(
+    alloc: Global,
+    writer: &mut Watched<W>,
+    trie: &Trie<L, SLOTS, Global>,
+    line: &[u8],
+    keys: K,
+    unknown: Unknown,
+    sign: &[u8],
+) -> Result<(), ListError> {
+    match unknown {
+        Unknown::Character(cost) => {
+            let unknown = OneCharacter { cost };
+            write_cut_by(alloc, writer, trie, line, &Priced { keys, unknown }, sign)
+        }
+        Unknown::Run(cost) => {
+            let unknown = OneClass {
+                classes: Scripts {},
+                cost,
+                most: LONGEST_RUN,
+            };
+            write_cut_by(alloc, writer, trie, line, &Priced { keys, unknown }, sign)
+        }
+    }
+}
+
 /// Whether a text is to be cut.
 fn is_cut(task: Task<'_>) -> bool {
     match task {
-        Task::Cut(_) | Task::CutCheapest(_, _) => true,
+        Task::Cut(_) | Task::CutByCost(_, _) => true,
         Task::Scan | Task::ScanLongest | Task::ScanMarked => false,
     }
 }
@@ -79,7 +156,7 @@ fn is_cut(task: Task<'_>) -> bool {
 /// The sign between words, as the arguments have it.
 fn sign_of<'m>(task: Task<'m>) -> &'m str {
     match task {
-        Task::Cut(sign) | Task::CutCheapest(_, sign) => sign,
+        Task::Cut(sign) | Task::CutByCost(_, sign) => sign,
         Task::Scan | Task::ScanLongest | Task::ScanMarked => "",
     }
 }

@@ -1,5 +1,6 @@
 pub mod Counts
 pub mod Keywords
+pub mod Opened
 pub mod Pages
 pub mod Parts
 pub mod Saves

@@ -8,6 +8,7 @@ pub use Rattle.cedarwood.specs.Words.{after_put, path_calls, table_bytes}
 pub use Rattle.cedarwood.specs.State.{State, state_code}
 pub use Rattle.uses.specs.Counts.{count_of, one_more}
 pub use Rattle.uses.specs.Keywords.{HasKeyword}
+pub use Rattle.uses.specs.Opened.{IsValueIn}
 pub use Rattle.uses.specs.Pages.{IsPage, ReadsTable}
 pub use Rattle.uses.specs.Parts.{piece_of, term_of}
 pub use Rattle.uses.specs.Saves.{IsThere}

@@ -7,6 +7,7 @@ mod counted;
 mod counter;
 mod filter;
 mod glossary;
+mod opener;
 mod pages;
 mod saver;
 mod service;

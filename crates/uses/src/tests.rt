@@ -4,6 +4,7 @@ use crate::counted::search;
 use crate::counter::count;
 use crate::filter::{has_keyword, keywords_of};
 use crate::glossary::Glossary;
+use crate::opener::value_in;
 use crate::pages::{page_behind, page_from};
 use crate::saver::keep;
 use crate::service::publish;
@@ -59,6 +60,12 @@ fn expect_counted(rt: &impl Abort, alloc: Global) -> Result<(), Fail> {
     expect_keyword(rt, &counts, b"a n.e.t. of nests", false);
     expect_first(rt, alloc, &counts, (b"net", 2))?;
     expect_pages(rt, alloc, &counts)
+}
+
+fn expect_found(rt: &impl Abort, alloc: Global, file: &[u8]) -> Result<(), Fail> {
+    assert!(rt; value_in(alloc, file, b"net")? == Some(1));
+    assert!(rt; value_in(alloc, file, b"ne")?.is_none());
+    Ok(())
 }
 
 fn expect_one(rt: &impl Abort, alloc: Global) -> Result<(), Fail> {
@@ -154,6 +161,7 @@ fn tokens(rt: HostRuntime) -> Result<(), Fail> {
     let counts = count(rt.alloc(), &["net", "nets"])?;
     let file = save_bytes(rt.alloc(), &counts)?;
     expect_kept_file(&rt, &counts, &file);
+    expect_found(&rt, rt.alloc(), &file)?;
     let tokenizer = load_bytes(rt.alloc(), &file)?;
     expect_tokens(&rt, rt.alloc(), &tokenizer)?;
     expect_cheap_tokens(&rt, rt.alloc(), &tokenizer)?;

@@ -2,7 +2,7 @@
 use Rattle.std.proofs.Common.{◌≡◌, ◌∙◌, Bool, true, ap, sym, subst}
 use Rattle.std.specs.Prelude.{IsErrAnd, Result, Ok, Err, OnOk, OnErr}
 use Rattle.word_lists.specs.Devices.{LinesOrFails}
-use Rattle.text_lines.specs.Written.{WritesOrFails}
+use Rattle.device_lines.specs.Written.{WritesOrFails}
 use Rattle.word_lists.specs.declared.write.ListError.{ListError}
 use Rattle.word_lists.specs.declared.write.ListError.TheVariants.{Write, Memory}
 

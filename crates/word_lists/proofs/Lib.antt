@@ -1,4 +1,5 @@
 pub mod Answered
+pub mod CostLemmas
 pub mod Figures
 pub mod ListedLines
 pub mod NextEntries

@@ -6,7 +6,7 @@ use Rattle.std.specs.Prelude.{ltb, IfSome}
 use Rattle.std.specs.Io.BufRead.{DropsThrough, drop_through, take_through}
 use Rattle.cedarwood.specs.State.{State}
 use Rattle.word_lists.specs.Stored.{Adds, AreFirstLines, OnKnown, TakesLines, TakesNext, Told, line_absent, line_erased, line_stored, line_told, lines_absent, lines_erased, lines_in, lines_stored, lines_told, told_one}
-use Rattle.text_lines.specs.Lines.{onto_first}
+use Rattle.device_lines.specs.Lines.{onto_first}
 use Rattle.word_lists.specs.Texts.{body_of}
 
 -- ---- lists that grow

@@ -6,7 +6,7 @@ use Rattle.cedarwood.specs.Tree.{number_at}
 use Rattle.cedarwood.specs.Fault.{fault}
 use Rattle.word_lists.specs.Reading.{read_as}
 use Rattle.word_lists.specs.Stored.{is_tab, line_stored, line_told, number_of_line, stored_by, stored_with, told_by, told_with, word_of}
-use Rattle.text_lines.specs.Lines.{is_filled}
+use Rattle.device_lines.specs.Lines.{is_filled}
 use Rattle.word_lists.specs.declared.lines.LineFault.{LineFault as Fault}
 use Rattle.word_lists.specs.declared.lines.LineFault.TheVariants as faults
 

@@ -11,7 +11,7 @@ use Rattle.word_lists.specs.declared.lines.LineFault.{LineFault as Fault}
 use Rattle.word_lists.specs.declared.lines.StoreError.{StoreError}
 use Rattle.word_lists.specs.declared.lines.StoreError.TheVariants.{SlotLimit}
 use Rattle.word_lists.specs.Stored.{absent_of, IsWant, line_absent, line_erased, line_held, line_refusal, stored_by, told_by, want_of, word_of}
-use Rattle.text_lines.specs.Lines.{is_filled}
+use Rattle.device_lines.specs.Lines.{is_filled}
 use Rattle.cedarwood.proofs.GeneralLemmas.{on_ok}
 
 -- a want of slots is that of the dictionary

@@ -7,9 +7,9 @@ use Rattle.cedarwood.specs.Queries.{Entry}
 use Rattle.cedarwood.specs.State.{after_put, State}
 use Rattle.cedarwood.specs.Tree.{Tree}
 use Rattle.cedarwood.specs.Builds.{all_stored}
-use Rattle.text_lines.specs.Written.{AppendsFront, WritesFront}
+use Rattle.device_lines.specs.Written.{AppendsFront, WritesFront}
 use Rattle.word_lists.specs.Lines.{entries_missing, holds_entry, signed_line, signed_lines}
-use Rattle.text_lines.proofs.Bytes.{front_after, front_more}
+use Rattle.device_lines.proofs.Bytes.{front_after, front_more}
 
 -- entries that are stored, and one more
 pub stored_more : (s : State) (came : List Entry) (e : Entry) → all_stored s (came ++ e ∷ []) ≡ after_put (all_stored s came) e.0 e.1

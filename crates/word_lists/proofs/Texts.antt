@@ -7,9 +7,9 @@ use Rattle.std.specs.Prelude.{ltb}
 use Rattle.std.specs.Io.KnownBytes.{Appends}
 use Rattle.cedarwood.specs.Tree.{Tree}
 use Rattle.cedar_words.specs.Words.{IsAheadCapped, IsCheapestBy, IsCut, IsLeastCapped, Spot, Token, character_price, keywords_in, segments}
-use Rattle.text_lines.specs.Written.{WritesFront}
+use Rattle.device_lines.specs.Written.{WritesFront}
 use Rattle.word_lists.specs.Texts.{IsCheapestCut, body_of, ending_of, marked_line, marked_token, characters, characters_begun, continues_character, spot_line, spot_lines, texts_of}
-use Rattle.text_lines.proofs.Bytes.{front_after, front_more}
+use Rattle.device_lines.proofs.Bytes.{front_after, front_more}
 
 texts-append : (text_of : Token → List ℕ) (a b : List Token) → texts_of text_of (a ++ b) ≡ texts_of text_of a ++ texts_of text_of b
 texts-append text_of [] b = refl

@@ -2,11 +2,11 @@
 use Rattle.std.proofs.Common.{◌≡◌, ◌<◌, suc, ℕ, List, [], ◌∷◌, ◌++◌, Bool, true, cond, Option, refl, sym, ap, subst, ◌∙◌, append_assoc, append-nil, length, take, drop, get_or, ◌-◌, arith, length-append}
 use Rattle.std.specs.Io.KnownBytes.{Appends}
 use Rattle.cedarwood.specs.Queries.{Entry}
-use Rattle.text_lines.specs.Written.{WritesFront}
+use Rattle.device_lines.specs.Written.{WritesFront}
 use Rattle.hex.specs.Hex.{encode_lower}
 use Rattle.word_lists.specs.Lines.{byte_text, entry_line, entry_lines, escape, is_plain, word_text}
 use Rattle.std.specs.Fmt.{signed_decimal}
-use Rattle.text_lines.proofs.Bytes.{Appends-append, front_after, front_more, whole_rest}
+use Rattle.device_lines.proofs.Bytes.{Appends-append, front_after, front_more, whole_rest}
 
 pub escaped-append : (t : Bool) (a b : List ℕ) → escape t (a ++ b) ≡ escape t a ++ escape t b
 escaped-append t [] b = refl

@@ -1,5 +1,6 @@
 pub use Rattle.cedarwood.specs.Tree
 pub use Rattle.cedarwood.specs.WatchedDevice
+pub mod Costs
 pub mod Devices
 pub mod Lines
 pub mod Reading

@@ -1,6 +1,6 @@
 -- The lines of words and their numbers.
 use Rattle.std.specs.Prelude.{ℕ, ℤ, ltb, Bool, false, ◌==◌, ◌&&◌, ◌||◌, not, if◌then◌else◌}
-use Rattle.std.specs.Prelude.{List, [], ◌∷◌, ◌++◌, Option, Some, None}
+use Rattle.std.specs.Prelude.{List, [], ◌∷◌, ◌++◌, decimal, Option, Some, None}
 use Rattle.std.specs.Ordering.{int_eq}
 use Rattle.std.specs.Str.{is_utf8}
 use Rattle.std.specs.Fmt.{signed_decimal}
@@ -65,3 +65,7 @@ entries_missing tree (entry ∷ entries) = if holds_entry tree entry then entrie
 -- the lines of the entries that a tree doesn't hold with the same number, each behind a sign
 abbrev pub missing_lines : List ℕ → Tree → List Entry → List ℕ
 missing_lines sign tree entries = signed_lines sign (entries_missing tree entries)
+
+-- the line of a number: its decimal digits and byte 10
+abbrev pub count_line : ℕ → List ℕ
+count_line number = decimal number ++ 10 ∷ []

@@ -1,9 +1,8 @@
 -- What the lines of a word list store in a dictionary, and what is reported of them.
-use Rattle.std.specs.Prelude.{◌≡◌, ℕ, ◌+◌, ◌<◌, ◌^◌, Bool, true, false, ◌&&◌, ◌==◌, nat_le, int_le}
-use Rattle.std.specs.Prelude.{if◌then◌else◌, ℤ, pos, negsuc, List, [], ◌∷◌, ◌++◌, length, Option}
+use Rattle.std.specs.Prelude.{◌≡◌, ℕ, ◌+◌, ◌<◌, ◌^◌, Bool, true, false, ◌==◌, nat_le}
+use Rattle.std.specs.Prelude.{if◌then◌else◌, ℤ, pos, List, [], ◌∷◌, ◌++◌, length, Option}
 use Rattle.std.specs.Prelude.{Some, None, IfSome, is_some, Result, Ok, Err}
-use Rattle.std.specs.List.{before_first, after_first, list_all, position}
-use Rattle.std.specs.Str.Parse.{without_leading_sign, signed_digits_value}
+use Rattle.std.specs.List.{before_first, after_first, position}
 use Rattle.cedarwood.specs.State.{State, after_erase, after_put}
 use Rattle.cedarwood.specs.Queries.{Entry}
 use Rattle.cedarwood.specs.Tree.{number_at}
@@ -12,7 +11,7 @@ use Rattle.cedarwood.specs.Builds.{all_stored}
 use Rattle.cedarwood.specs.declared.error.CedarError.{CedarError}
 use Rattle.cedarwood.specs.declared.error.CedarError.TheVariants.{EmptyKey, NulByte, InvalidValue}
 use Rattle.cedarwood.specs.declared.error.CedarError.TheVariants.{SlotLimit as OfSlots}
-use Rattle.text_lines.specs.Lines.{is_digit, is_filled, onto_first}
+use Rattle.device_lines.specs.Lines.{figures_number, is_filled, onto_first}
 use Rattle.word_lists.specs.Reading.{read_as}
 use Rattle.word_lists.specs.Texts.{body_of}
 use Rattle.word_lists.specs.declared.lines.StoreError.{StoreError}
@@ -21,16 +20,6 @@ use Rattle.word_lists.specs.declared.lines.LineFault.{LineFault as Fault}
 use Rattle.word_lists.specs.declared.lines.LineFault.TheVariants as faults
 
 -- ---- a line
-
--- whether a number is from -2147483648 to 2147483647
-abbrev pub fits_number : ℤ → Bool
-fits_number v = int_le (negsuc 2147483647) v && int_le v (pos 2147483647)
-
--- the number that figures say: `+`, `-` or neither, and then one or more digits
-abbrev pub figures_number : List ℕ → Option ℤ
-figures_number text =
-    if is_filled (without_leading_sign text) && list_all is_digit (without_leading_sign text) && fits_number (signed_digits_value 10 text)
-    then Some (signed_digits_value 10 text) else None
 
 -- the number of a line without a tab: the line's own
 abbrev pub own_line_number : ℕ → Option ℤ

@@ -5,7 +5,9 @@ use Rattle.std.specs.Prelude.{length, take, drop, get_or, is_some, decimal, code
 use Rattle.std.specs.Prelude.{unsigned_abs}
 use Rattle.cedarwood.specs.Queries.{Entry, front}
 use Rattle.cedarwood.specs.Tree.{Tree}
-use Rattle.cedar_words.specs.Words.{IsAheadCapped, IsCheapestBy, IsCut, IsLeastCapped, Spot, Token}
+use Rattle.cedar_words.specs.Words.{IsAheadCapped, IsBestCut, IsCheapestBy, IsCut, IsLeastCapped}
+use Rattle.cedar_words.specs.Words.{Spot, Token}
+use Rattle.cedar_words.specs.declared.models.UnknownRun.{UnknownRun}
 use Rattle.cedar_words.specs.Words.{character_price, keywords_in, segments, spots_from}
 use Rattle.std.specs.Borrow.{Bor}
 use Rattle.word_lists.specs.declared.cut.Style.{Style}
@@ -155,6 +157,11 @@ pub record IsCheapestCut (tree : Tree) (unknown : ℕ) (text : List ℕ) (tokens
 -- P holds of a line that is cut into the tokens of a cheapest cut (`IsCheapestCut`), with a sign between them
 abbrev pub OnCheapestLine : Tree → ℕ → List ℕ → List ℕ → (List ℕ → Type 0) → Type 0
 OnCheapestLine tree unknown sign line P = (tokens : List Token) × IsCheapestCut tree unknown (body_of line) tokens × P (line_cut sign line tokens)
+
+-- P holds of a line that is cut into the tokens of its best cut by a model of costs (`IsBestCut`), with a sign between them
+abbrev pub OnBestLine : Tree → (ℤ → ℕ) → (List ℕ → ℕ → UnknownRun) → List ℕ → List ℕ → (List ℕ → Type 0) → Type 0
+OnBestLine tree key run sign line P =
+    (tokens : List Token) × IsBestCut tree key (run (body_of line)) (body_of line) tokens × P (line_cut sign line tokens)
 
 -- a number and a tab
 abbrev pub tab_field : ℕ → List ℕ

@@ -2,14 +2,16 @@
 
 ghost use Rattle.std.specs.Prelude.{◌∷◌, ◌≡◌, [], Err, List, MatchOption, OnOk};
 ghost use Rattle.word_lists.specs.Words.{BreaksOff, greedy_line, has_failed, is_parted};
-ghost use Rattle.word_lists.specs.Words.{LinesOrFails, OnCheapestLine, parted_token, parting};
-ghost use Rattle.word_lists.specs.Words.{style_text, styled_line, styled_text, Token, Writes};
-ghost use Rattle.word_lists.specs.Words.{WritesBytes};
+ghost use Rattle.word_lists.specs.Words.{LinesOrFails, OnBestLine, OnCheapestLine, parted_token};
+ghost use Rattle.word_lists.specs.Words.{parting, style_text, styled_line, styled_text, Token};
+ghost use Rattle.word_lists.specs.Words.{Writes, WritesBytes};
 
 use crate::marked::{write_marked_token, write_replaced_token};
 use crate::parts::{body, byte_at, ending, goes_on, part};
 use crate::write::{ListError, write_whole};
-use cedar_words::{LongestPrefix, Segments, cheapest_by_characters, segment};
+use cedar_words::{
+    CostModel, LongestPrefix, Segments, cheapest_by, cheapest_by_characters, segment,
+};
 use cedarwood::{Layout, Trie, Watched};
 use std::alloc::Allocator;
 use std::io::Write;
@@ -167,6 +169,46 @@ pub fn write_cheapest_cut<L: Layout, const SLOTS: usize, A: Allocator + Copy, W:
     ensures faults { LinesOrFails (has_failed writer.old) (has_failed writer.new) result }
 {
     let Ok(tokens) = cheapest_by_characters(alloc, trie, body(line), unknown) else {
+        return Err(ListError::Memory);
+    };
+    let mut listed = Listed { rest: &tokens };
+    write_line_tokens(writer, line, Style::Parted(sign), &mut listed)
+}
+
+/// Writes a line as [`write_cut`] does, by its best cut by a model of costs (`cheapest_by` of `cedar_words`): what a word costs by its number,
+/// and which bytes may be a token that no word is. It allocates memory for the tokens.
+///
+/// ```
+/// cedar.build(&[("he", 0), ("hero", 1), ("ro", 2)])?;
+/// let keys = CostTable { costs: &[1, 9, 1], beyond: 0 };
+/// let model = Priced { keys, unknown: OneCharacter { cost: 9 } };
+/// let mut writer = Watched::new(Vec::new(rt.alloc()));
+/// assert!(rt; write_cut_by(rt.alloc(), &mut writer, &cedar, b"hero\n", &model, b"/").is_ok());
+/// assert_eq!(rt; writer.into_inner().as_slice(), b"he/ro\n".as_slice());
+/// ```
+///
+/// # Errors
+/// `Write` if the writer failed, `Memory` if an allocation was refused.
+pub fn write_cut_by<L: Layout, const SLOTS: usize, A: Allocator + Copy, M: CostModel, W: Write>(
+    alloc: A,
+    writer: &mut Watched<W>,
+    trie: &Trie<L, SLOTS, A>,
+    line: &[u8],
+    model: &M,
+    sign: &[u8],
+) -> Result<(), ListError>
+    //= A cut by a model that returns `Ok` wrote the tokens of the line's best cut by it, with a sign between them, and the bytes that end the
+    //  line. [by OnBestLine]
+    ensures ok { OnOk result (OnBestLine trie.now.state.tree (M.key_cost model.now) (M.unknown_at model.now) sign.now line.now (Writes W.contents writer.old writer.new)) }
+
+    //= One that fails with `Write` wrote a beginning of that, and not all; with `Memory` it wrote nothing. [with memory]
+    ensures err { result ≡ Err ListError.Write → OnBestLine trie.now.state.tree (M.key_cost model.now) (M.unknown_at model.now) sign.now line.now (BreaksOff W.contents writer.old writer.new) }
+    ensures memory { result ≡ Err ListError.Memory → writer.new ≡ writer.old }
+
+    //= It fails with `Write` only if a call of the writer failed. With `Memory`, and if it returns `Ok`, none did.
+    ensures faults { LinesOrFails (has_failed writer.old) (has_failed writer.new) result }
+{
+    let Ok(tokens) = cheapest_by(alloc, trie, body(line), model) else {
         return Err(ListError::Memory);
     };
     let mut listed = Listed { rest: &tokens };

@@ -1,33 +1,16 @@
 //! The words that a text begins with.
 
-ghost use Rattle.std.specs.Prelude.{◌∷◌, ◌≡◌, [], IfOk, length, List, ltb, map, MatchOption, ℕ, ℤ};
+ghost use Rattle.std.specs.Prelude.{◌≡◌, IfOk, length, ltb, map};
 ghost use Rattle.word_lists.specs.Words.{entry_line, entry_lines, front_entry};
 ghost use Rattle.word_lists.specs.Words.{fronts_of, WritesBytes};
 
 use crate::parts::through;
 use crate::word::write_entry;
 use crate::write::ListError;
-use cedarwood::{Layout, PrefixIter, Trie, Walked, Watched};
+use cedar_words::NextFront;
+use cedarwood::{Layout, Trie, Watched};
 use std::alloc::Allocator;
 use std::io::Write;
-
-/// What finds the words that a text begins with, one after another.
-trait NextFront {
-    /// Those that are still to come, each by its number and one less than its bytes.
-    ghost left: { Self → List (ℤ × ℕ) };
-
-    /// The next one.
-    fn next_front(&mut self) -> Option<(i32, usize)>
-        ensures { MatchOption result (left self.old ≡ []) (λ found. left self.old ≡ found ∷ left self.new) };
-}
-
-impl<'a, T: Walked> NextFront for PrefixIter<'a, T> {
-    ghost left = { λ walk. walk.rest };
-
-    fn next_front(&mut self) -> Option<(i32, usize)> {
-        self.next()
-    }
-}
 
 /// Writes the line of each word that a text begins with, the shortest first, and returns whether there is one. It allocates nothing.
 ///

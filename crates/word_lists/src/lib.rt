@@ -4,6 +4,8 @@
 //! written as `\x` and two hexadecimal digits in lower case; so is each byte from 128 on of a word that isn't UTF-8.
 #![tactic(auto)]
 
+mod costs;
+mod counts;
 mod cut;
 mod fronts;
 mod lines;
@@ -19,7 +21,9 @@ mod sorted;
 mod word;
 mod write;
 
-pub use cut::{write_cheapest_cut, write_cut};
+pub use costs::{CostsError, costs_of};
+pub use counts::write_count;
+pub use cut::{write_cheapest_cut, write_cut, write_cut_by};
 pub use fronts::write_fronts;
 pub use lines::{LineFault, LineFaults, StoreError, erase_lines, store_lines};
 pub use lists::{write_entries, write_next_entries};

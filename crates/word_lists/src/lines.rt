@@ -3,7 +3,7 @@
 ghost use Rattle.std.specs.Prelude.{◌<◌, ◌∷◌, ◌≡◌, ◌≤◌, [], Err, IfErr, IfOk, IfSome, is_some};
 ghost use Rattle.std.specs.Prelude.{length, List, ltb, None, OnErr, OnOk, Option, option_map};
 ghost use Rattle.word_lists.specs.Words.{absent_of, Adds, before_first, ErasesFirstLines, fault};
-ghost use Rattle.word_lists.specs.Words.{figures_number, figures_of, is_tab, line_absent};
+ghost use Rattle.word_lists.specs.Words.{figures_of, is_tab, line_absent};
 ghost use Rattle.word_lists.specs.Words.{line_erased, line_refusal, line_stored, line_told};
 ghost use Rattle.word_lists.specs.Words.{lines_absent, lines_erased, lines_in, lines_stored};
 ghost use Rattle.word_lists.specs.Words.{list_told, Memory, number_at, number_with, OnKnown};
@@ -13,7 +13,7 @@ ghost use Rattle.word_lists.specs.Words.{TakesNext, Told, told_by, told_one, wan
 use crate::parts::body;
 use crate::read::read_word;
 use cedarwood::{CedarError, Layout, Trie};
-use memchr::memchr;
+use device_lines::{parse_number, position_of};
 use std::alloc::{AllocError, Allocator};
 use std::io;
 use std::io::{BufRead, ErrorKind};
@@ -303,7 +303,7 @@ fn tab_in(line: &[u8]) -> Option<usize>
     ensures first { result ≡ position is_tab line.now }
     ensures within { IfSome result (λ at. at < length line.now) }
 {
-    memchr(b'\t', line)
+    position_of(b'\t', line)
 }
 
 /// The number of a line's word: the one that is written, or else the line's own.
@@ -311,7 +311,7 @@ pub(crate) fn value_of(figures: Option<&[u8]>, number: u64) -> Option<i32>
     ensures { result ≡ number_with number (option_map (λ text. text.now) figures.entry) }
 {
     match figures {
-        Some(figures) => parse_figures(figures),
+        Some(figures) => parse_number(figures),
         None => own_number(number),
     }
 }
@@ -321,12 +321,4 @@ fn own_number(number: u64) -> Option<i32>
     ensures { result ≡ own_line_number number }
 {
     i32::try_from(number).ok()
-}
-
-/// A number in figures.
-fn parse_figures(figures: &[u8]) -> Option<i32>
-    ensures { result ≡ figures_number figures.now }
-{
-    let text = str::from_utf8(figures).ok()?;
-    text.parse().ok()
 }

@@ -1,9 +1,10 @@
-//! Bytes written whole, or a first part of them and a fault. No other writer calls the device.
+//! Bytes written whole, or a first part of them and a fault of the list. No other writer calls the device.
 
-ghost use Rattle.std.specs.Prelude.{◌++◌, ◌∷◌, []};
-ghost use Rattle.word_lists.specs.Words.{WritesBytes};
+ghost use Rattle.std.specs.Prelude.{◌++◌, ◌∷◌, ◌≡◌, []};
+ghost use Rattle.word_lists.specs.Words.{Unwritten, WritesBytes};
 
 use cedarwood::Watched;
+use device_lines::WriteFault;
 use std::io::Write;
 
 /// Why a list ended early.
@@ -15,6 +16,15 @@ pub enum ListError {
     Memory,
 }
 
+impl From<WriteFault> for ListError {
+    //= A write that failed ends a list as `Write`.
+    ghost from_gives = { λ _ error. error ≡ Unwritten };
+
+    fn from(_: WriteFault) -> ListError {
+        ListError::Write
+    }
+}
+
 /// Writes a line that has two parts, and its byte 10.
 pub(crate) fn write_line<W: Write>(
     writer: &mut Watched<W>,
@@ -23,22 +33,12 @@ pub(crate) fn write_line<W: Write>(
 ) -> Result<(), ListError>
     ensures { WritesBytes W.contents ListError.Write writer.old writer.new (first.now ++ (second.now ++ 10 ∷ [])) result }
 {
-    write_whole(writer, first)?;
-    write_whole(writer, second)?;
-    write_whole(writer, b"\n")
+    Ok(device_lines::write_line(writer, first, second)?)
 }
 
-/// Writes all of some bytes. The first fault ends it, an interrupted write too: a part was then written, and
-/// not all. (`write_all` of the standard library promises nothing of what a failed call wrote.)
+/// Writes all of some bytes.
 pub(crate) fn write_whole<W: Write>(writer: &mut Watched<W>, bytes: &[u8]) -> Result<(), ListError>
     ensures { WritesBytes W.contents ListError.Write writer.old writer.new bytes.now result }
 {
-    let mut rest = bytes;
-    while !rest.is_empty() {
-        match writer.write(rest) {
-            Ok(0) | Err(_) => return Err(ListError::Write),
-            Ok(count) => rest = &rest[count..],
-        }
-    }
-    Ok(())
+    Ok(device_lines::write_whole(writer, bytes)?)
 }

@@ -3,6 +3,7 @@
 mod batch;
 mod calls;
 pub(crate) mod counted;
+mod counts;
 pub(crate) mod cursor;
 mod ends;
 pub(crate) mod entries;

@@ -10,7 +10,7 @@ use std::test::Fail;
 const PAIRS: [(&[u8], i32); 3] = [(b"a", 3), (b"ab", 4), (b"b", 5)];
 
 // Queries one dictionary whose labels ascend, and one whose labels don't.
-fn calls() -> [Call<'static>; 13] {
+fn calls() -> [Call<'static>; 14] {
     let settings = CedarBuilder::new();
     let pairs = &PAIRS;
     [
@@ -30,6 +30,7 @@ fn calls() -> [Call<'static>; 13] {
         ask(0, Question::Get { key: b"ab" }),
         ask(0, Question::ContainsKey { key: b"abc" }),
         ask(0, Question::Longest { text: b"abc" }),
+        ask(0, Question::CountPrefix { prefix: b"a" }),
         ask(0, Question::EntriesWith { prefix: b"a" }),
         ask(0, Question::EntriesFrom { key: b"aa" }),
         ask(
@@ -87,6 +88,7 @@ fn expect_answers(rt: &impl Abort, answers: &[Answer<Global>]) {
         get,
         held,
         longest,
+        count,
         with,
         from,
         range,
@@ -101,6 +103,7 @@ fn expect_answers(rt: &impl Abort, answers: &[Answer<Global>]) {
     assert!(rt; matches!(bounded, Answer::Changed(Changed::SearchLimitSet)));
     assert!(rt; matches!(limit, Answer::Replied(Reply::Figure(2))));
     expect_lookups(rt, get, held, longest);
+    assert!(rt; matches!(count, Answer::Replied(Reply::Count(2))));
     expect_listed(rt, with, &PAIRS[..2]);
     expect_listed(rt, from, &PAIRS[1..]);
     expect_listed(rt, range, &PAIRS[..1]);

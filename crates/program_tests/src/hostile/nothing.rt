@@ -1,6 +1,6 @@
 //! Lists without an item in answers to a list of calls: they need no memory.
-use crate::lists::{Tries, ask, build_new, change};
-use cedar_calls::{Call, Change, Question, reserve_for_calls, run_calls};
+use crate::lists::{Tries, ask, ask_of, build_new, change};
+use cedar_calls::{Call, Change, Question, TextQuery, reserve_for_calls, run_calls};
 use cedarwood::{CedarBuilder, DefaultLayout, Layout, MOST_SLOTS, ReducedLayout};
 use std::alloc::Global;
 use std::process::Abort;
@@ -10,7 +10,7 @@ use test_support::Refusing;
 const NO_KEYS: [&[u8]; 0] = [];
 
 // Each call whose answer is a list, or an entry, where there is none.
-fn calls() -> [Call<'static>; 11] {
+fn calls() -> [Call<'static>; 16] {
     [
         ask(0, Question::Batch { keys: &NO_KEYS }),
         ask(0, Question::Prefixes { query: b"ab" }),
@@ -28,6 +28,11 @@ fn calls() -> [Call<'static>; 11] {
                 to: b"b",
             },
         ),
+        ask_of(b"ab", TextQuery::Fronts),
+        ask_of(b"ab", TextQuery::LeftmostLongest),
+        ask_of(b"ab", TextQuery::Matches),
+        ask_of(b"", TextQuery::Segment),
+        ask_of(b"", TextQuery::Cheapest { unknown: 1 }),
         change(0, Change::EraseBatch { keys: &NO_KEYS }),
     ]
 }
@@ -43,7 +48,7 @@ fn expect_no_request<L: Layout>(rt: &impl Abort, alloc: Global) -> Result<(), Fa
     let mut answers = reserve_for_calls(&mut tries, &memory, &asked)?;
     memory.refuse(1, u64::MAX);
     run_calls(&mut tries, &memory, &asked, &mut answers);
-    assert!(rt; (memory.requests(), answers.len()) == (0, 11));
+    assert!(rt; (memory.requests(), answers.len()) == (0, 16));
     Ok(())
 }
 

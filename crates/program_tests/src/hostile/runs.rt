@@ -2,8 +2,8 @@
 ghost use Rattle.cedarwood.specs.Words.{IsSlotLimit};
 
 use crate::hostile::state::{state_of, update};
-use crate::lists::{Tries, ask, build_new, change, run};
-use cedar_calls::{Answer, Call, Change, Changed, Question, Reply};
+use crate::lists::{Tries, ask, ask_of, build_new, change, run};
+use cedar_calls::{Answer, Call, Change, Changed, Question, Reply, TextQuery, TextReply};
 use cedarwood::{CedarBuilder, CedarError, DefaultLayout, Layout, MOST_SLOTS, ReducedLayout, Trie};
 use std::alloc::{Allocator, Global};
 use std::process::Abort;
@@ -18,9 +18,10 @@ fn update_call(key: &[u8], value: i32) -> Call<'_> {
     change(0, Change::Update { key, value })
 }
 
-// Updates that make blocks, a new beginning in the middle of them, and a question whose answer is collected.
-fn calls() -> [Call<'static>; 6] {
+// Updates that make blocks, a new beginning in the middle of them, and questions whose answers are collected.
+fn calls() -> [Call<'static>; 8] {
     let settings = CedarBuilder::new().ordered(false);
+    let text: &[u8] = b"abcz";
     [
         update_call(b"a", 2),
         update_call(&LONG, 3),
@@ -28,6 +29,8 @@ fn calls() -> [Call<'static>; 6] {
         update_call(b"abc", 4),
         update_call(b"b", 5),
         ask(0, Question::Batch { keys: &[b"b"] }),
+        ask_of(text, TextQuery::Segment),
+        ask_of(text, TextQuery::Cheapest { unknown: 9 }),
     ]
 }
 
@@ -39,6 +42,7 @@ fn is_short<A: Allocator>(answer: &Answer<A>) -> bool {
         ) => true,
         Answer::Replied(reply) => match reply {
             Reply::Batch(found) => matches!(found, Err(CedarError::Memory)),
+            Reply::InText(TextReply::Tokens(found)) => matches!(found, Err(CedarError::Memory)),
             _ => false,
         },
         _ => false,

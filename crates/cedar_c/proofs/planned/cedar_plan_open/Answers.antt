@@ -2,7 +2,7 @@ use Rattle.std.proofs.Common.{◌≡◌, ◌∙◌, ℕ, List, ap, subst, sym}
 use Rattle.cedar_plan.specs.Plans.{works_of}
 use Rattle.cedar_plan.specs.Works.{end_of, opening_works}
 use Rattle.cedar_c.specs.Content.{content}
-use Rattle.cedar_c.specs.Layouts.{dictionary_in}
+use Rattle.cedar_c.specs.Layouts.{inner_dictionary}
 use Rattle.cedar_c.specs.Plans.{IsOpening, format_if}
 use Rattle.cedar_c.proofs.PlanLemmas.{is_opening, not_refused, opened_has}
 use Rattle.cedar_c.proofs.planned.cedar_plan_open.Goals as goal
@@ -12,7 +12,7 @@ returns-in-Ok-clause-ready c = λ ok.
     let buffer = c.place.new.buffer in
     let plan = c.plan_opening.result in
     let bytes = c.args.bytes.now in
-    let s = (dictionary_in c.in-Ok.cedar.value).state in
+    let s = (inner_dictionary c.in-Ok.cedar.value).state in
     let placed = not_refused _ _ c.place.ensures.written c.in_default.not-Err in
     let works : works_of buffer plan ≡ opening_works bytes c.in-Ok.extent = ap (λ (b : List ℕ). works_of b plan) placed.1 ∙ c.plan_opening.ensures.works placed.0 in
     let extent = c.in-Ok.extent in

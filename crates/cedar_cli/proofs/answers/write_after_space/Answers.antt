@@ -1,5 +1,5 @@
 use Rattle.cedar_cli.specs.Script.{pair_text}
-use Rattle.text_lines.proofs.Writing.{breaks_first, then_writes}
+use Rattle.device_lines.proofs.Writing.{breaks_first, then_writes}
 use Rattle.cedar_cli.proofs.answers.write_after_space.Goals as goal
 
 pub returns-in_err-write_whole : goal.returns-in_err-write_whole

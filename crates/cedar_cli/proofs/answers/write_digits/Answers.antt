@@ -1,6 +1,6 @@
 use Rattle.std.proofs.Common.{[], refl, ◌∙◌}
 use Rattle.cedarwood.specs.WatchedDevice.{device_of}
-use Rattle.text_lines.proofs.Writing.{breaks_off}
+use Rattle.device_lines.proofs.Writing.{breaks_off}
 use Rattle.cedar_cli.proofs.EntryLines.{digits_none, digits_stopped, digits_more}
 use Rattle.cedar_cli.proofs.answers.write_digits.Goals as goal
 

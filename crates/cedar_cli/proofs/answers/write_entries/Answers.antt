@@ -4,8 +4,8 @@ use Rattle.std.specs.Io.KnownBytes.{Appends}
 use Rattle.cedarwood.specs.Queries.{Entry}
 use Rattle.cedarwood.specs.WatchedDevice.{device_of}
 use Rattle.cedar_cli.specs.Script.{hex_entry_line, hex_entry_lines}
-use Rattle.text_lines.specs.Written.{WritesFront}
-use Rattle.text_lines.proofs.Bytes.{Appends-append, on_err}
+use Rattle.device_lines.specs.Written.{WritesFront}
+use Rattle.device_lines.proofs.Bytes.{Appends-append, on_err}
 use Rattle.cedar_cli.proofs.EntryLines.{lines_push, lines_begun, lines_stopped, lines_ended, lines_unended}
 use Rattle.cedar_cli.proofs.answers.write_entries.Goals as goal
 

@@ -3,7 +3,7 @@ use Rattle.std.proofs.lemmas.Int.{to_z-of_z}
 use Rattle.std.specs.Prelude.{codes}
 use Rattle.std.specs.Fmt.{signed_decimal}
 use Rattle.hex.specs.Hex.{encode_lower}
-use Rattle.text_lines.proofs.Writing.{breaks_first, then_writes, writes_same}
+use Rattle.device_lines.proofs.Writing.{breaks_first, then_writes, writes_same}
 use Rattle.cedar_cli.proofs.answers.write_entry.Goals as goal
 
 pub returns-in_err-write_digits : goal.returns-in_err-write_digits

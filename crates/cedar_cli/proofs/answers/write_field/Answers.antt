@@ -1,6 +1,6 @@
 use Rattle.std.proofs.Common.{◌++◌, ◌∙◌, ap}
 use Rattle.std.specs.Prelude.{codes}
-use Rattle.text_lines.proofs.Writing.{breaks_first, then_writes, writes_same}
+use Rattle.device_lines.proofs.Writing.{breaks_first, then_writes, writes_same}
 use Rattle.cedar_cli.proofs.answers.write_field.Goals as goal
 
 pub returns-in_err-write_whole : goal.returns-in_err-write_whole

@@ -3,9 +3,9 @@ use Rattle.std.specs.Prelude.{codes}
 use Rattle.std.specs.Io.KnownBytes.{Appends}
 use Rattle.cedarwood.specs.WatchedDevice.{device_of}
 use Rattle.cedar_cli.specs.Script.{pair_text, spaced_texts}
-use Rattle.text_lines.proofs.Bytes.{Appends-append, Appends-none}
+use Rattle.device_lines.proofs.Bytes.{Appends-append, Appends-none}
 use Rattle.cedar_cli.proofs.JoinedLines.{spaced_push, spaced_stopped}
-use Rattle.text_lines.proofs.Writing.{breaks_off}
+use Rattle.device_lines.proofs.Writing.{breaks_off}
 use Rattle.cedar_cli.proofs.answers.write_further.Goals as goal
 
 pub loop-pair-init : goal.loop-pair-init

@@ -2,7 +2,7 @@ use Rattle.std.proofs.Common.{rules, w32, ap, ap₂, FitsSigned, ◌∙◌, ◌�
 use Rattle.std.proofs.lemmas.Int.{to_z-of_z}
 use Rattle.std.specs.Prelude.{codes, decimal}
 use Rattle.std.specs.Fmt.{signed_decimal}
-use Rattle.text_lines.proofs.Writing.{breaks_first, then_writes, writes_same}
+use Rattle.device_lines.proofs.Writing.{breaks_first, then_writes, writes_same}
 use Rattle.cedar_cli.proofs.answers.write_pair.Goals as goal
 
 pub returns-in_err-write_whole : goal.returns-in_err-write_whole

@@ -1,6 +1,6 @@
 use Rattle.std.proofs.Common.{◌++◌, ◌∷◌, []}
 use Rattle.cedar_cli.specs.Script.{pair_text, spaced_texts}
-use Rattle.text_lines.proofs.Writing.{breaks_first, then_writes, writes_same}
+use Rattle.device_lines.proofs.Writing.{breaks_first, then_writes, writes_same}
 use Rattle.cedar_cli.proofs.JoinedLines.{joined_line}
 use Rattle.cedar_cli.proofs.answers.write_pairs.Goals as goal
 

@@ -4,9 +4,9 @@ use Rattle.std.specs.Io.KnownBytes.{Appends}
 use Rattle.cedarwood.specs.WatchedDevice.{device_of}
 use Rattle.cedar_words.specs.Words.{Token}
 use Rattle.cedar_cli.specs.Script.{spaced_texts, token_text}
-use Rattle.text_lines.proofs.Bytes.{Appends-append}
+use Rattle.device_lines.proofs.Bytes.{Appends-append}
 use Rattle.cedar_cli.proofs.JoinedLines.{spaced_push, spaced_stopped}
-use Rattle.text_lines.proofs.Writing.{breaks_off}
+use Rattle.device_lines.proofs.Writing.{breaks_off}
 use Rattle.cedar_cli.proofs.answers.write_spaced.Goals as goal
 
 pub loop-token-preserved : goal.loop-token-preserved

@@ -1,6 +1,6 @@
 use Rattle.std.proofs.Common.{◌++◌}
 use Rattle.cedar_cli.specs.Script.{colon_field, number_text}
-use Rattle.text_lines.proofs.Writing.{breaks_first, then_writes}
+use Rattle.device_lines.proofs.Writing.{breaks_first, then_writes}
 use Rattle.cedar_cli.proofs.answers.write_token.Goals as goal
 
 pub returns-in_err-write_field : goal.returns-in_err-write_field

@@ -4,7 +4,7 @@ use Rattle.std.proofs.Common.{◌≡◌, Err, rules, refl, ◌∙◌, sym, ◌++
 use Rattle.cedarwood.specs.WatchedDevice.{device_of, has_failed}
 use Rattle.cedar_cli.specs.View.{view_of}
 use Rattle.cedar_cli.proofs.BlockCounts.{none_before, further_line, stopped_line, rest_begun, rest_lost}
-use Rattle.text_lines.proofs.Bytes.{on_err}
+use Rattle.device_lines.proofs.Bytes.{on_err}
 use Rattle.cedar_cli.proofs.Bytes.{that_fault}
 use Rattle.cedar_cli.proofs.Newlines.{open_append, open_none, open_at, gone_further, line_taken, line_stopped, none_taken, rest_left, rest_taken}
 use Rattle.cedar_cli.proofs.Faults.{fault_after, fault_on, memory_fault, memory_no_limit, no_success}

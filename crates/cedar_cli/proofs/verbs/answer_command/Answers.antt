@@ -2,7 +2,7 @@ use Rattle.std.proofs.Common.{ap, arith, inl, inr, length, rules, Some, ◌≡�
 use Rattle.cedarwood.specs.WatchedDevice.{has_failed}
 use Rattle.cedar_cli.specs.Script.{lists_all}
 use Rattle.cedar_cli.specs.declared.command.Verb.{Verb}
-use Rattle.cedar_cli.specs.declared.command.Verb.TheVariants.{Put, Erase, Exact, Segment, Prefixes, Predict, Entries, Figures}
+use Rattle.cedar_cli.specs.declared.command.Verb.TheVariants.{Put, Erase, Exact, Segment, Prefixes, Predict, Count, Entries, Figures}
 use Rattle.cedar_cli.proofs.BlockCounts.{no_blocks}
 use Rattle.cedar_cli.proofs.Faults.{writers_fault}
 use Rattle.cedar_cli.proofs.Orders.{never_memory, write_alone}
@@ -92,6 +92,22 @@ returns-in-Predict-clause-limit g c = λ full. let alone = write_alone _ c.answe
 
 pub returns-in-Predict-clause-blocks : goal.returns-in-Predict-clause-blocks
 returns-in-Predict-clause-blocks g c = no_blocks (length c.args.key.now) c.args.trie.now
+
+pub returns-in-Count-clause-answer : goal.returns-in-Count-clause-answer
+returns-in-Count-clause-answer g c =
+    let e : Count ≡ c.args.verb = search rules in rw (← e) c.answer_count.ensures.answer
+
+pub returns-in-Count-clause-faults : goal.returns-in-Count-clause-faults
+returns-in-Count-clause-faults g c = writers_fault (has_failed c.args.writer.now) (has_failed c.answer_count.new.writer) c.answer_count.result c.answer_count.ensures.faults
+
+pub returns-in-Count-clause-memory : goal.returns-in-Count-clause-memory
+returns-in-Count-clause-memory g c = λ starved. absurd (never_memory _ c.answer_count.result c.answer_count.ensures.faults.cause starved)
+
+pub returns-in-Count-clause-limit : goal.returns-in-Count-clause-limit
+returns-in-Count-clause-limit g c = λ full. let alone = write_alone _ c.answer_count.result c.answer_count.ensures.faults.cause in absurd (alone.1 full)
+
+pub returns-in-Count-clause-blocks : goal.returns-in-Count-clause-blocks
+returns-in-Count-clause-blocks g c = no_blocks (length c.args.key.now) c.args.trie.now
 
 pub returns-in-Figures-clause-answer : goal.returns-in-Figures-clause-answer
 returns-in-Figures-clause-answer g c =

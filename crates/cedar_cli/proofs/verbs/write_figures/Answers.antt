@@ -1,6 +1,6 @@
 use Rattle.std.proofs.Common.{◌≡◌, ◌∙◌, ◌++◌, ◌∷◌, [], refl}
 use Rattle.std.specs.Prelude.{codes, decimal}
-use Rattle.text_lines.proofs.Writing.{breaks_first, then_writes, writes_same}
+use Rattle.device_lines.proofs.Writing.{breaks_first, then_writes, writes_same}
 use Rattle.cedar_cli.proofs.Orders.{figures_line}
 use Rattle.cedar_cli.proofs.verbs.write_figures.Goals as goal
 

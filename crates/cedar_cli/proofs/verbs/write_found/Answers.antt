@@ -2,7 +2,7 @@ use Rattle.std.proofs.Common.{w32, ap, refl, ◌∙◌, ◌≡◌, ◌++◌, ◌
 use Rattle.std.proofs.lemmas.Int.{to_z-of_z}
 use Rattle.std.specs.Prelude.{codes, decimal}
 use Rattle.std.specs.Fmt.{signed_decimal}
-use Rattle.text_lines.proofs.Writing.{breaks_first, then_writes, writes_same}
+use Rattle.device_lines.proofs.Writing.{breaks_first, then_writes, writes_same}
 use Rattle.cedar_cli.proofs.Orders.{found_line}
 use Rattle.cedar_cli.proofs.verbs.write_found.Goals as goal
 

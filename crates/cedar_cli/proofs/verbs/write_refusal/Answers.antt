@@ -1,6 +1,6 @@
 use Rattle.std.proofs.Common.{rules, ◌∙◌, FitsSigned, w32}
 use Rattle.std.proofs.lemmas.Int.{to_z-of_z}
-use Rattle.text_lines.proofs.Writing.{writes_same}
+use Rattle.device_lines.proofs.Writing.{writes_same}
 use Rattle.cedar_cli.proofs.Orders.{empty_line, nul_line, value_line}
 use Rattle.cedar_cli.proofs.verbs.write_refusal.Goals as goal
 

@@ -3,7 +3,7 @@ use Rattle.std.specs.Prelude.{OnOk}
 use Rattle.std.specs.Io.KnownBytes.{Appends}
 use Rattle.cedarwood.specs.WatchedDevice.{device_of, has_failed}
 use Rattle.cedar_words.specs.Words.{Token}
-use Rattle.text_lines.specs.Written.{WritesFront}
+use Rattle.device_lines.specs.Written.{WritesFront}
 use Rattle.word_lists.specs.Texts.{body_of, line_cut}
 use Rattle.word_lists.specs.declared.write.ListError.TheVariants.{Write}
 use Rattle.word_lists.proofs.Answered.{as_lines, of_err}

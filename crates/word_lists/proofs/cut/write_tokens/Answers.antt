@@ -3,9 +3,9 @@ use Rattle.std.specs.Io.KnownBytes.{Appends}
 use Rattle.cedarwood.specs.WatchedDevice.{device_of}
 use Rattle.cedar_words.specs.Words.{Token}
 use Rattle.word_lists.specs.Texts.{style_text, styled_text}
-use Rattle.text_lines.proofs.Bytes.{Appends-append, Appends-none}
+use Rattle.device_lines.proofs.Bytes.{Appends-append, Appends-none}
 use Rattle.word_lists.proofs.Texts.{texts_push, texts_stopped}
-use Rattle.text_lines.proofs.Writing.{breaks_off}
+use Rattle.device_lines.proofs.Writing.{breaks_off}
 use Rattle.word_lists.proofs.cut.write_tokens.Goals as goal
 
 pub loop-token-init : goal.loop-token-init

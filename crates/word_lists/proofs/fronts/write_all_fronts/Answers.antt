@@ -6,10 +6,10 @@ use Rattle.cedarwood.specs.Queries.{Entry}
 use Rattle.cedarwood.specs.WatchedDevice.{device_of}
 use Rattle.word_lists.specs.Lines.{entry_line, entry_lines}
 use Rattle.word_lists.specs.Texts.{front_entry}
-use Rattle.text_lines.proofs.Bytes.{Appends-append, Appends-none}
+use Rattle.device_lines.proofs.Bytes.{Appends-append, Appends-none}
 use Rattle.word_lists.proofs.Texts.{some_more}
 use Rattle.word_lists.proofs.WordLines.{lines_push, lines_stopped}
-use Rattle.text_lines.proofs.Writing.{breaks_off}
+use Rattle.device_lines.proofs.Writing.{breaks_off}
 use Rattle.word_lists.proofs.fronts.write_all_fronts.Goals as goal
 
 pub loop-front-init : goal.loop-front-init

@@ -1,7 +1,7 @@
 use Rattle.std.proofs.Common.{rules, ◌≡◌, ℕ, ℤ, List, ap, length, map, subst}
 use Rattle.std.specs.Prelude.{IfOk, ltb}
 use Rattle.cedarwood.specs.Queries.{front}
-use Rattle.text_lines.proofs.Writing.{writes_same}
+use Rattle.device_lines.proofs.Writing.{writes_same}
 use Rattle.word_lists.specs.Lines.{entry_lines}
 use Rattle.word_lists.specs.Texts.{front_entry}
 use Rattle.word_lists.proofs.fronts.write_fronts.Goals as goal

@@ -1,7 +1,7 @@
 use Rattle.std.proofs.Common.{◌≡◌, ◌≤◌, ◌++◌, ◌∷◌, ◌∙◌, [], ℕ, List, true, false, ap, arith, length, length-append, refl, subst}
 use Rattle.word_lists.specs.Texts.{body_of}
 use Rattle.word_lists.specs.Stored.{TakesNext, lines_absent, lines_erased, lines_in}
-use Rattle.text_lines.proofs.Bytes.{on_err}
+use Rattle.device_lines.proofs.Bytes.{on_err}
 use Rattle.word_lists.proofs.ListedLines.{absent_step, all_came, erase_step, first_ones, too_many, took_more, took_none}
 use Rattle.word_lists.proofs.lines.erase_lines.Goals as goal
 

@@ -1,7 +1,7 @@
 use Rattle.std.proofs.Common.{◌≡◌, ◌+◌, ◌++◌, ◌∷◌, ◌∙◌, [], ℕ, List, true, false, ap, arith, length, length-append, refl, rules, subst, sym}
 use Rattle.word_lists.specs.Texts.{body_of}
 use Rattle.word_lists.specs.Stored.{Adds, TakesNext, lines_in, lines_stored, lines_told}
-use Rattle.text_lines.proofs.Bytes.{on_err}
+use Rattle.device_lines.proofs.Bytes.{on_err}
 use Rattle.word_lists.proofs.ListedLines.{Adds-none, all_came, first_ones, store_step, told_step, too_many, took_more, took_none}
 use Rattle.word_lists.proofs.lines.store_lines.Goals as goal
 

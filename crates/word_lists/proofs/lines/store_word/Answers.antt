@@ -4,7 +4,7 @@ use Rattle.std.specs.Prelude.{IfOk, OnOk}
 use Rattle.cedarwood.specs.Tree.{number_at}
 use Rattle.cedarwood.specs.Fault.{fault}
 use Rattle.word_lists.specs.Stored.{line_refusal, stored_by, told_by}
-use Rattle.text_lines.proofs.Bytes.{on_err}
+use Rattle.device_lines.proofs.Bytes.{on_err}
 use Rattle.word_lists.proofs.Refusals.{refused_slots, refused_state, refused_told, stored_state, stored_told, update_err}
 use Rattle.word_lists.proofs.lines.store_word.Goals as goal
 

@@ -3,9 +3,9 @@ use Rattle.std.proofs.lemmas.Int.{to_z-of_z}
 use Rattle.std.specs.Io.KnownBytes.{Appends}
 use Rattle.cedarwood.specs.Queries.{Entry}
 use Rattle.cedarwood.specs.WatchedDevice.{device_of}
-use Rattle.text_lines.specs.Written.{WritesFront}
+use Rattle.device_lines.specs.Written.{WritesFront}
 use Rattle.word_lists.specs.Lines.{entry_line, entry_lines}
-use Rattle.text_lines.proofs.Bytes.{Appends-append, on_err}
+use Rattle.device_lines.proofs.Bytes.{Appends-append, on_err}
 use Rattle.word_lists.proofs.NextEntries.{begun_next, stopped_next}
 use Rattle.word_lists.proofs.WordLines.{lines_push}
 use Rattle.word_lists.proofs.lists.write_next_entries.Goals as goal

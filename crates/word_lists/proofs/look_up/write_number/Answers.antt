@@ -1,5 +1,5 @@
 use Rattle.std.proofs.Common.{ap}
-use Rattle.text_lines.proofs.Writing.{breaks_all, writes_all, writes_same}
+use Rattle.device_lines.proofs.Writing.{breaks_all, writes_all, writes_same}
 use Rattle.word_lists.specs.Lines.{found_line}
 use Rattle.word_lists.proofs.look_up.write_number.Goals as goal
 

@@ -1,5 +1,5 @@
 use Rattle.std.proofs.Common.{◌++◌}
-use Rattle.text_lines.proofs.Writing.{breaks_first, then_writes}
+use Rattle.device_lines.proofs.Writing.{breaks_first, then_writes}
 use Rattle.word_lists.specs.Texts.{mark_off}
 use Rattle.word_lists.proofs.marked.write_mark.Goals as goal
 

@@ -1,7 +1,7 @@
 use Rattle.std.proofs.Common.{◌≡◌, ◌++◌, ◌∙◌, List, ℕ, ap, false, length, sym, true}
 use Rattle.std.specs.Prelude.{ltb}
 use Rattle.cedar_words.specs.Words.{Token, keywords_in, segments}
-use Rattle.text_lines.proofs.Writing.{breaks_all, writes_all, writes_nothing, writes_same}
+use Rattle.device_lines.proofs.Writing.{breaks_all, writes_all, writes_nothing, writes_same}
 use Rattle.word_lists.specs.Texts.{body_of, ending_of, marked_token, texts_of}
 use Rattle.word_lists.proofs.Texts.{marked_none, marked_some}
 use Rattle.word_lists.proofs.marked.write_marked.Goals as goal

@@ -1,6 +1,6 @@
 use Rattle.std.proofs.Common.{◌≡◌, ◌++◌, ◌∙◌, List, ap}
 use Rattle.cedar_words.specs.Words.{Token, segments}
-use Rattle.text_lines.proofs.Writing.{writes_same}
+use Rattle.device_lines.proofs.Writing.{writes_same}
 use Rattle.word_lists.specs.Texts.{body_of, ending_of, replaced_text}
 use Rattle.word_lists.proofs.marked.write_replaced.Goals as goal
 

@@ -2,7 +2,7 @@ use Rattle.std.proofs.Common.{rules, w32, to_z, of_z, FitsSigned, ◌≡◌, ◌
 use Rattle.std.proofs.lemmas.Int.{to_z-of_z}
 use Rattle.cedarwood.specs.Queries.{Entry}
 use Rattle.cedarwood.specs.State.{after_put, State}
-use Rattle.text_lines.proofs.Bytes.{on_err}
+use Rattle.device_lines.proofs.Bytes.{on_err}
 use Rattle.word_lists.proofs.SignedLines.{stored_more}
 use Rattle.word_lists.proofs.pairs.store_entries.Goals as goal
 

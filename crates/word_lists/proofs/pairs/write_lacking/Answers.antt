@@ -4,11 +4,11 @@ use Rattle.std.proofs.lemmas.Int.{to_z-of_z}
 use Rattle.std.specs.Io.KnownBytes.{Appends}
 use Rattle.cedarwood.specs.Queries.{Entry}
 use Rattle.cedarwood.specs.WatchedDevice.{device_of, has_failed}
-use Rattle.text_lines.specs.Written.{WritesFront}
+use Rattle.device_lines.specs.Written.{WritesFront}
 use Rattle.word_lists.specs.Lines.{entries_missing, signed_lines}
 use Rattle.word_lists.specs.declared.write.ListError.TheVariants.{Write}
 use Rattle.word_lists.proofs.Answered.{broken_lines, memory_told, starved_lines, whole_lines}
-use Rattle.text_lines.proofs.Bytes.{Appends-append, Appends-none, on_err}
+use Rattle.device_lines.proofs.Bytes.{Appends-append, Appends-none, on_err}
 use Rattle.word_lists.proofs.SignedLines.{lacking_begun, lacking_lines, lacking_some, lacking_stopped, or_all}
 use Rattle.word_lists.proofs.pairs.write_lacking.Goals as goal
 

@@ -1,6 +1,6 @@
 use Rattle.std.proofs.Common.{◌++◌, ℤ, ap, w32}
 use Rattle.std.proofs.lemmas.Int.{to_z-of_z}
-use Rattle.text_lines.proofs.Writing.{breaks_first, then_writes, writes_same}
+use Rattle.device_lines.proofs.Writing.{breaks_first, then_writes, writes_same}
 use Rattle.word_lists.specs.Lines.{entry_line}
 use Rattle.word_lists.proofs.pairs.write_signed.Goals as goal
 

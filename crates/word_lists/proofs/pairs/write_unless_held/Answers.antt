@@ -1,6 +1,6 @@
 use Rattle.std.proofs.Common.{◌≡◌, ◌∙◌, ℤ, ap, true, false, w32, subst, sym}
 use Rattle.std.proofs.lemmas.Int.{to_z-of_z}
-use Rattle.text_lines.proofs.Writing.{breaks_all, writes_all, writes_nothing, writes_same}
+use Rattle.device_lines.proofs.Writing.{breaks_all, writes_all, writes_nothing, writes_same}
 use Rattle.word_lists.specs.Lines.{holds_entry, signed_line}
 use Rattle.word_lists.proofs.SignedLines.{none_lacking, nothing_lacking, one_lacking, some_lacking}
 use Rattle.word_lists.proofs.pairs.write_unless_held.Goals as goal

@@ -1,6 +1,6 @@
 use Rattle.std.proofs.Common.{◌∙◌, ap, arith, drop, length, sym, take}
 use Rattle.std.proofs.lemmas.List.{drop_all, take_all}
-use Rattle.text_lines.proofs.Figures.{not_true}
+use Rattle.device_lines.proofs.Figures.{not_true}
 use Rattle.word_lists.proofs.PlainLines.{one_suc, through_at, through_none}
 use Rattle.word_lists.proofs.parts.first_len.Goals as goal
 

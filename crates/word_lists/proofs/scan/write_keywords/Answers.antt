@@ -1,7 +1,7 @@
 use Rattle.std.proofs.Common.{◌≡◌, ◌∙◌, List, ap, ap₂, length, subst}
 use Rattle.std.specs.Prelude.{IfOk, ltb}
 use Rattle.cedar_words.specs.Words.{Spot, keywords_in}
-use Rattle.text_lines.proofs.Writing.{writes_same}
+use Rattle.device_lines.proofs.Writing.{writes_same}
 use Rattle.word_lists.specs.Texts.{body_of, spot_lines}
 use Rattle.word_lists.proofs.scan.write_keywords.Goals as goal
 

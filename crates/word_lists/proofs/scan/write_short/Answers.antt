@@ -1,6 +1,6 @@
 use Rattle.std.proofs.Common.{w32, arith, ap, ◌∙◌}
 use Rattle.std.proofs.lemmas.Int.{to_z-of_z}
-use Rattle.text_lines.proofs.Writing.{writes_same}
+use Rattle.device_lines.proofs.Writing.{writes_same}
 use Rattle.word_lists.specs.Lines.{entry_line}
 use Rattle.word_lists.proofs.Rooms.{fields_put}
 use Rattle.word_lists.proofs.scan.write_short.Goals as goal

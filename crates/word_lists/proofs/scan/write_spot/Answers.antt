@@ -1,7 +1,7 @@
 use Rattle.std.proofs.Common.{rules, w32, to_z, of_z, FitsSigned, ℕ, ◌≡◌, ◌+◌, ◌++◌, ◌∙◌, ap, ap₂, take}
 use Rattle.std.proofs.lemmas.Int.{to_z-of_z}
 use Rattle.cedarwood.specs.Queries.{Entry}
-use Rattle.text_lines.proofs.Writing.{breaks_first, then_writes, writes_same}
+use Rattle.device_lines.proofs.Writing.{breaks_first, then_writes, writes_same}
 use Rattle.word_lists.specs.Lines.{entry_line}
 use Rattle.word_lists.specs.Texts.{characters, tab_field, text_part}
 use Rattle.word_lists.proofs.scan.write_spot.Goals as goal

@@ -3,9 +3,9 @@ use Rattle.std.specs.Io.KnownBytes.{Appends}
 use Rattle.cedarwood.specs.WatchedDevice.{device_of}
 use Rattle.cedar_words.specs.Words.{Spot}
 use Rattle.word_lists.specs.Texts.{spot_line, spot_lines}
-use Rattle.text_lines.proofs.Bytes.{Appends-append, Appends-none}
+use Rattle.device_lines.proofs.Bytes.{Appends-append, Appends-none}
 use Rattle.word_lists.proofs.Texts.{some_more, spots_push, spots_stopped}
-use Rattle.text_lines.proofs.Writing.{breaks_off}
+use Rattle.device_lines.proofs.Writing.{breaks_off}
 use Rattle.word_lists.proofs.scan.write_spots.Goals as goal
 
 pub loop-spot-init : goal.loop-spot-init

@@ -1,5 +1,5 @@
 use Rattle.std.proofs.Common.{arith}
-use Rattle.text_lines.proofs.Figures.{not_true}
+use Rattle.device_lines.proofs.Figures.{not_true}
 use Rattle.word_lists.proofs.PlainLines.{read_plain}
 use Rattle.word_lists.proofs.sorted.is_literal.Goals as goal
 

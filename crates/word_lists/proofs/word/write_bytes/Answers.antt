@@ -1,7 +1,7 @@
 use Rattle.std.proofs.Common.{rules, ◌≡◌, [], get_or, ◌∙◌}
 use Rattle.cedarwood.specs.WatchedDevice.{device_of}
 use Rattle.word_lists.proofs.WordLines.{bytes_more, bytes_stopped, first_byte}
-use Rattle.text_lines.proofs.Writing.{breaks_off}
+use Rattle.device_lines.proofs.Writing.{breaks_off}
 use Rattle.word_lists.proofs.word.write_bytes.Goals as goal
 
 pub returns-in_err-write_byte : goal.returns-in_err-write_byte

@@ -1,7 +1,7 @@
 use Rattle.std.proofs.Common.{w32, arith, ap, ◌∙◌, ◌≡◌, ◌++◌, ◌∷◌, [], List, ℕ}
 use Rattle.std.proofs.lemmas.Int.{to_z-of_z}
 use Rattle.std.specs.Fmt.{signed_decimal}
-use Rattle.text_lines.proofs.Writing.{breaks_first, then_writes, writes_same}
+use Rattle.device_lines.proofs.Writing.{breaks_first, then_writes, writes_same}
 use Rattle.word_lists.specs.Lines.{entry_line, word_text}
 use Rattle.word_lists.proofs.Rooms.{all_from}
 use Rattle.word_lists.proofs.word.write_entry.Goals as goal

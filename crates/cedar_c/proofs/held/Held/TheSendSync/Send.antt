@@ -7,8 +7,8 @@ use denote.Param.Send.{IsSend}
 use denote.RawPtr.{Ptr}
 use Rattle.std_alloc.proofs.SendSync.{lies}
 use Rattle.std.proofs.Crossing.{frees}
-use Rattle.cedar_c.specs.declared.any.AnyCedar.{AnyCedar}
-use Rattle.cedar_c.proofs.any.AnyCedar.TheSendSync.{the_send}
+use Rattle.either_layout.specs.declared.any.AnyCedar.{AnyCedar}
+use Rattle.either_layout.proofs.any.AnyCedar.TheSendSync.{the_send}
 use Rattle.cedar_c.specs.Ownership.{cedar_row, heap, held_owns}
 use Rattle.cedar_c.specs.contracts.held.Held.{the_row}
 

@@ -27,7 +27,7 @@ use denote.Steps.{nothing, heard, opens}
 use denote.Triple.Walked.{Stays, stay_dropped, walk_of, Goes-dropped}
 use Rattle.core.proofs.atomic.Steps.{tail}
 use Rattle.std.proofs.raw_atomic.Walks.{proved, leaves}
-use Rattle.cedar_c.specs.declared.any.AnyCedar.{AnyCedar}
+use Rattle.either_layout.specs.declared.any.AnyCedar.{AnyCedar}
 use Rattle.cedar_c.specs.Lending.{with_cedar}
 use Rattle.cedar_c.specs.Ownership.{cedar_row, held_owns, may_free}
 use Rattle.cedar_c.proofs.HeldValues.{Held, held_word, held_out, held_in, value_in, is_value_in, box_of}

@@ -11,10 +11,10 @@ use denote.SharingLaws.{nothing_shr_laws}
 use denote.Struct.Field.{RawPtr-field}
 use denote.Struct.Laws.{RawPtr-copy}
 use denote.Struct.Lending.{lent_at, lent_at_shr_laws, Lends, Lends-nothing, of_Lends}
-use Rattle.cedar_c.specs.declared.any.AnyCedar.{AnyCedar}
+use Rattle.either_layout.specs.declared.any.AnyCedar.{AnyCedar}
 use Rattle.cedar_c.specs.Ownership.{cedar_row, shown_owns, held_lends}
 use Rattle.cedar_c.proofs.LoanLemmas.{lends_loan}
-use Rattle.cedar_c.proofs.any.AnyCedar.TheLaws.{the_row_laws}
+use Rattle.either_layout.proofs.any.AnyCedar.TheLaws.{the_row_laws}
 use Rattle.cedar_c.specs.contracts.shown.Seen as C
 use Rattle.cedar_c.proofs.shown.Seen.TheLaw.Statement.{statement}
 

@@ -28,7 +28,7 @@ use denote.Triple.Walked.{Stays, stay_dropped, walk_of, Goes-dropped}
 use Rattle.core.proofs.atomic.Steps.{tail}
 use Rattle.std_alloc.proofs.Words.{pointer_in, pointer_out}
 use Rattle.std.proofs.raw_atomic.Walks.{proved, leaves}
-use Rattle.cedar_c.specs.declared.any.AnyCedar.{AnyCedar}
+use Rattle.either_layout.specs.declared.any.AnyCedar.{AnyCedar}
 use Rattle.cedar_c.specs.Ownership.{cedar_row, held_lends}
 use Rattle.cedar_c.specs.contracts.shown.Seen as seen
 use Rattle.cedar_c.proofs.HeldValues.{value_in, is_value_in, dictionary_of}

@@ -4,8 +4,8 @@ use base.Shift.{Keyless}
 use denote.Param.Send.{IsSend, IsSync}
 use denote.RawPtr.{Ptr}
 use Rattle.std_alloc.proofs.SendSync.{seen}
-use Rattle.cedar_c.specs.declared.any.AnyCedar.{AnyCedar}
-use Rattle.cedar_c.proofs.any.AnyCedar.TheSendSync.{the_sync}
+use Rattle.either_layout.specs.declared.any.AnyCedar.{AnyCedar}
+use Rattle.either_layout.proofs.any.AnyCedar.TheSendSync.{the_sync}
 use Rattle.cedar_c.specs.Ownership.{cedar_row, shown_owns}
 use Rattle.cedar_c.specs.contracts.shown.Shown.{the_row}
 

@@ -1,0 +1,15 @@
+use Rattle.std.proofs.Common.{◌≡◌, true, length, ◌+◌, ◌-◌, ◌≤◌, take}
+use Rattle.std.specs.Io.KnownBytes.{Consumes}
+use Rattle.cedar_format.proofs.source.WatchedSource.read_available.Given as goal
+
+abbrev pub invariant-loop-filled : goal.invariant-loop-filled
+invariant-loop-filled g l = record {
+  len : length l.buf ≡ length l.initial.buf;
+  within : l.filled ≤ length l.buf;
+  consumed : Consumes (g.R.Read.remaining l.initial.self.device) (g.R.Read.remaining l.self.device) (take l.filled l.buf);
+  failed : l.initial.self.failed ≡ true → l.self.failed ≡ true;
+  broken : l.self.broken ≡ l.initial.self.broken;
+}
+
+abbrev pub decreases-loop-filled : goal.decreases-loop-filled
+decreases-loop-filled g l = (length l.buf - l.filled) + l.tries

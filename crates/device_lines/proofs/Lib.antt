@@ -1,0 +1,4 @@
+pub mod Bytes
+pub mod Figures
+pub mod Filling
+pub mod Writing

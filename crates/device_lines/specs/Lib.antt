@@ -1,0 +1,4 @@
+pub mod WatchedDevice
+pub mod Lines
+pub mod Written
+pub mod Words

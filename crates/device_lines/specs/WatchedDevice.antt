@@ -1,0 +1,26 @@
+-- What a caller sees of a watched reader or writer.
+use Rattle.std.specs.Prelude.{ℕ, Bool, true, ◌&&◌, ◌==◌, ◌<◌, not, List, length, Result, Ok, Err}
+use Rattle.std.specs.Prelude.{Option, None, Some, ⊤}
+use Rattle.device_lines.specs.declared.watched.Watched.{Watched}
+
+-- the reader or writer inside a `Watched`
+abbrev pub device_of : {D : Type 0} → Watched D → D
+device_of w = w.device
+
+-- whether one of its calls has failed so far
+abbrev pub has_failed : {D : Type 0} → Watched D → Bool
+has_failed w = w.failed
+
+-- whether one of its reads was broken off so far, by a fault that is neither an end of the input nor an interruption
+abbrev pub is_broken : {D : Type 0} → Watched D → Bool
+is_broken w = w.broken
+
+-- a write of these bytes returned a fault, or took none of some bytes
+abbrev pub is_write_fault : {E : Type 0} → Result ℕ E → List ℕ → Bool
+is_write_fault (Ok n) bytes = n == 0 && not (length bytes == 0)
+is_write_fault (Err e) bytes = true
+
+-- fewer than n bytes are left
+abbrev pub EndsWithin : Option (List ℕ) → ℕ → Type 0
+EndsWithin None n = ⊤
+EndsWithin (Some bytes) n = length bytes < n

@@ -1,0 +1,30 @@
+use Rattle.cedarwood.specs.Sorted.{entries_of}
+use Rattle.cedarwood.specs.Builds.{first_fault}
+use Rattle.either_layout.proofs.EitherLemmas.{no_fault, same_fault}
+use Rattle.either_layout.proofs.any.AnyCedar.from_pairs_bytes.Goals as goal
+
+pub returns-in-Ok-clause-faulty : goal.returns-in-Ok-clause-faulty
+returns-in-Ok-clause-faulty c = no_fault (first_fault (entries_of c.args.pairs.now)) c.in-Ok.cedar _ c.in-Ok.ensures.built.faulty
+
+pub returns-in-Ok-clause-made : goal.returns-in-Ok-clause-made
+returns-in-Ok-clause-made c = c.in-Ok.ensures.built.stored
+
+pub returns-in-Err-clause-faulty : goal.returns-in-Err-clause-faulty
+returns-in-Err-clause-faulty c = same_fault (first_fault (entries_of c.args.pairs.now)) c.in-Err.error c.in-Err.ensures.built.faulty
+
+pub returns-in-Err-clause-refused : goal.returns-in-Err-clause-refused
+returns-in-Err-clause-refused c = c.in-Err.ensures.built.refused
+
+pub returns-in-Ok-from_pairs_bytes_with-clause-faulty : goal.returns-in-Ok-from_pairs_bytes_with-clause-faulty
+returns-in-Ok-from_pairs_bytes_with-clause-faulty c =
+    no_fault (first_fault (entries_of c.args.pairs.now)) c.in-Ok-from_pairs_bytes_with.cedar _ c.in-Ok-from_pairs_bytes_with.ensures.built.faulty
+
+pub returns-in-Ok-from_pairs_bytes_with-clause-made : goal.returns-in-Ok-from_pairs_bytes_with-clause-made
+returns-in-Ok-from_pairs_bytes_with-clause-made c = c.in-Ok-from_pairs_bytes_with.ensures.built.stored
+
+pub returns-in-Err-from_pairs_bytes_with-clause-faulty : goal.returns-in-Err-from_pairs_bytes_with-clause-faulty
+returns-in-Err-from_pairs_bytes_with-clause-faulty c =
+    same_fault (first_fault (entries_of c.args.pairs.now)) c.in-Err-from_pairs_bytes_with.error c.in-Err-from_pairs_bytes_with.ensures.built.faulty
+
+pub returns-in-Err-from_pairs_bytes_with-clause-refused : goal.returns-in-Err-from_pairs_bytes_with-clause-refused
+returns-in-Err-from_pairs_bytes_with-clause-refused c = c.in-Err-from_pairs_bytes_with.ensures.built.refused

@@ -1,0 +1,140 @@
+//! How a dictionary is loaded, of the layout that is asked for, or of the one that its file names.
+
+ghost use Rattle.std.specs.Prelude.{◌≡◌, false, IfErr, IfOk, List, Option, Some, slice_get, ℕ};
+ghost use Rattle.either_layout.specs.Words.{file_layout, inner_dictionary, inner_layout};
+ghost use Rattle.either_layout.specs.Words.{IsWellFormed, LacksInEither, layout_for, LoadsBy};
+ghost use Rattle.either_layout.specs.Words.{most_slots, names_reduced_layout, no_search_limit};
+ghost use Rattle.either_layout.specs.Words.{table_in, TellsBreaks};
+
+use crate::AnyCedar;
+use cedarwood::{Cedar, CedarPersistenceError, ReducedCedar, Source, Watched};
+use std::alloc::Global;
+use std::fs::File;
+use std::io::{self, BufRead, BufReader, Read};
+use std::rt::Files;
+
+/// Where a file has the byte of its layout.
+const LAYOUT_PLACE: usize = 13;
+
+/// The byte of the reduced layout.
+const REDUCED_LAYOUT: u8 = 1;
+
+/// How many bytes the buffer of a file has.
+const BUFFER_LEN: usize = 8192;
+
+/// Whether a file that begins with these bytes names the reduced layout. Fewer than 14 bytes name none.
+#[must_use]
+pub fn names_reduced(bytes: &[u8]) -> bool
+    //= `names_reduced` returns whether a file's byte 13, which is that of its layout, is there and names the reduced one. [by
+    //  names_reduced_layout]
+    ensures { result ≡ names_reduced_layout (slice_get bytes.now 13) }
+{
+    match bytes.get(LAYOUT_PLACE) {
+        Some(byte) => *byte == REDUCED_LAYOUT,
+        None => false,
+    }
+}
+
+impl AnyCedar {
+    /// Loads a dictionary of the reduced layout or of the default one, if it needs at most `memory_limit` bytes of memory. A reader is
+    /// handed over in a `Watched`, and bytes in memory as they are.
+    ///
+    /// # Errors
+    /// As [`Trie::load_counted`](cedarwood::Trie::load_counted): a file of the other layout is refused with `LayoutMismatch`.
+    #[tactic(auto, using(cedarwood::proofs::DictionaryLemmas::default_limit))]
+    pub fn load_as<S: Source>(
+        alloc: Global,
+        is_reduced: bool,
+        reader: &mut S,
+        memory_limit: usize,
+    ) -> Result<AnyCedar, CedarPersistenceError>
+        //= A load of a named layout loads what the dictionary's own load of that layout does, and fails as that does. [with told; by LoadsBy,
+        //  TellsBreaks]
+        ensures loads { LoadsBy table_in (layout_for is_reduced) most_slots memory_limit (S.remaining reader.old) (S.remaining reader.new) (S.failed reader.new) result }
+        ensures told { TellsBreaks (S.broken reader.old) (S.broken reader.new) result }
+
+        //= Nothing bounds the searches of a dictionary that was loaded. [also load_any, load_any_from_path]
+        ensures unbounded { IfOk result (λ a. (inner_dictionary a).search_limit ≡ no_search_limit) }
+        ensures layout { IfOk result (λ a. inner_layout a ≡ layout_for is_reduced) }
+    {
+        if is_reduced {
+            match ReducedCedar::load_from_reader_with_limit(alloc, reader, memory_limit) {
+                Ok(cedar) => Ok(AnyCedar::Reduced(cedar)),
+                Err(error) => Err(error),
+            }
+        } else {
+            match Cedar::load_from_reader_with_limit(alloc, reader, memory_limit) {
+                Ok(cedar) => Ok(AnyCedar::Default(cedar)),
+                Err(error) => Err(error),
+            }
+        }
+    }
+
+    /// Loads the dictionary of a file's bytes, of the layout that the file names, if it needs at most `memory_limit` bytes of memory.
+    ///
+    /// # Errors
+    /// As [`Trie::load_counted`](cedarwood::Trie::load_counted) of that layout. A file that names neither layout is refused as by the
+    /// default one: with `LayoutMismatch`, unless something before that byte is wrong.
+    pub fn load_any(
+        alloc: Global,
+        bytes: &[u8],
+        memory_limit: usize,
+    ) -> Result<AnyCedar, CedarPersistenceError>
+        //= A load of any file's bytes is that of the layout that the file names: the default one, unless its byte names the reduced one. What
+        //  is loaded is of that layout. [with layout; by LoadsBy, file_layout]
+        ensures loads { (left : Option (List ℕ)) × LoadsBy table_in (file_layout bytes.now) most_slots memory_limit (Some bytes.now) left false result }
+        ensures layout { IfOk result (λ a. inner_layout a ≡ file_layout bytes.now) }
+        ensures unbounded { IfOk result (λ a. (inner_dictionary a).search_limit ≡ no_search_limit) }
+    {
+        let mut left = bytes;
+        AnyCedar::load_as(alloc, names_reduced(bytes), &mut left, memory_limit)
+    }
+
+    /// Loads the dictionary that was saved in a file, of the layout that the file names, through a buffer of 8192 bytes, if its table needs
+    /// at most `memory_limit` bytes of memory. The layout is that of the bytes that the first read gives: of a pipe whose first piece is
+    /// shorter than 14 bytes the default one.
+    ///
+    /// # Errors
+    /// As `load_any`; also `Io` if the file can't be opened or read, and `AllocationFailed` with 8192 if there is no memory for the buffer.
+    pub fn load_any_from_path<F: Files>(
+        alloc: Global,
+        files: &F,
+        path: &str,
+        memory_limit: usize,
+    ) -> Result<AnyCedar, CedarPersistenceError>
+        //= A load of either layout by path that succeeds returns a well-formed table. Lack of memory is reported as by a load by path of one
+        //  of the layouts. [with lacks; by LacksInEither]
+        ensures formed { IfOk result (λ a. IsWellFormed most_slots (table_in a)) }
+        ensures lacks { IfErr result (LacksInEither memory_limit) }
+        ensures unbounded { IfOk result (λ a. (inner_dictionary a).search_limit ≡ no_search_limit) }
+    {
+        let file = File::open(files, path)?;
+        AnyCedar::load_opened(alloc, file, memory_limit)
+    }
+
+    /// Loads the dictionary that was saved in a file that is open, of the layout that its first bytes name.
+    fn load_opened<R: Read + Drop>(
+        alloc: Global,
+        file: R,
+        memory_limit: usize,
+    ) -> Result<AnyCedar, CedarPersistenceError>
+        ensures formed { IfOk result (λ a. IsWellFormed most_slots (table_in a)) }
+        ensures lacks { IfErr result (LacksInEither memory_limit) }
+        ensures unbounded { IfOk result (λ a. (inner_dictionary a).search_limit ≡ no_search_limit) }
+    {
+        let Ok(mut buffered) = BufReader::new(alloc, file) else {
+            return Err(CedarPersistenceError::AllocationFailed {
+                requested: BUFFER_LEN,
+            });
+        };
+        let is_reduced = begins_reduced(&mut buffered)?;
+        let mut reader = Watched::new(buffered);
+        AnyCedar::load_as(alloc, is_reduced, &mut reader, memory_limit)
+    }
+}
+
+/// Whether what a reader has buffered names the reduced layout. Nothing is consumed.
+fn begins_reduced<R: BufRead>(reader: &mut R) -> io::Result<bool> {
+    let head = reader.fill_buf()?;
+    Ok(names_reduced(head))
+}

@@ -1,0 +1,224 @@
+//! Tokens, keywords, matches and cuts of least cost within runs, in both layouts and both orders.
+use crate::calls::runs::is_made;
+use crate::lists::{Tries, ask, ask_of, run};
+use cedar_calls::{Answer, Call, ModelTables, Question, Reply, TextQuery, TextReply};
+use cedar_words::UnknownRun;
+use cedarwood::{CedarBuilder, DefaultLayout, Layout, MOST_SLOTS, ReducedLayout};
+use std::alloc::Global;
+use std::process::Abort;
+use std::test::Fail;
+
+const PAIRS: [(&[u8], i32); 4] = [(b"ab", 6), (b"bcd", 1), (b"a", 5), (b"abc", 4)];
+
+// A key's value is its index here, so its cost is one of these.
+const COSTS: [u32; 7] = [0, 9, 0, 0, 3, 5, 6];
+
+// The character of two bytes that a text below begins with is one token, and costs this.
+const RUNS: [UnknownRun; 1] = [UnknownRun {
+    len: 2,
+    cost: 7,
+    beside_keys: true,
+}];
+
+fn model_of(runs: &'static [UnknownRun]) -> TextQuery<'static> {
+    TextQuery::CheapestBy {
+        model: ModelTables {
+            costs: &COSTS,
+            beyond: 8,
+            runs,
+        },
+    }
+}
+
+fn lattice() -> TextQuery<'static> {
+    TextQuery::Lattice {
+        model: ModelTables {
+            costs: &COSTS,
+            beyond: 8,
+            runs: &[],
+        },
+    }
+}
+
+fn calls(settings: CedarBuilder) -> [Call<'static>; 15] {
+    [
+        Call::Unsorted {
+            settings,
+            pairs: &PAIRS,
+        },
+        ask_of(b"abcd", TextQuery::LongestPrefix),
+        ask_of(b"abcd", TextQuery::Fronts),
+        ask_of(b"xabcd", TextQuery::Segment),
+        ask_of(b"xabcd", TextQuery::SegmentFrom { place: 2 }),
+        ask_of(b"xabcd", TextQuery::LeftmostLongest),
+        ask_of(b"xabcd", TextQuery::LeftmostLongestFrom { place: 2 }),
+        ask_of(b"xabcd", TextQuery::Matches),
+        ask_of(b"xabcd", TextQuery::MatchesFrom { place: 2 }),
+        ask_of(b"abcd", TextQuery::Cheapest { unknown: 10 }),
+        ask_of(
+            "é".as_bytes(),
+            TextQuery::CheapestByCharacters { unknown: 10 },
+        ),
+        ask_of(b"abcd", model_of(&[])),
+        ask_of("éab".as_bytes(), model_of(&RUNS)),
+        ask_of(b"abx", lattice()),
+        ask(1, Question::First),
+    ]
+}
+
+// Returns the answer's tokens, or none.
+fn tokens(answer: &Answer<Global>) -> &[(usize, usize, Option<i32>)] {
+    match answer {
+        Answer::Replied(Reply::InText(TextReply::Tokens(Ok(found)))) => found,
+        _ => &[],
+    }
+}
+
+// Returns the keys in the text that the answer has, or none.
+fn keys(answer: &Answer<Global>) -> &[(usize, usize, i32)] {
+    match answer {
+        Answer::Replied(Reply::InText(TextReply::Keys(Ok(found)))) => found,
+        _ => &[],
+    }
+}
+
+// Returns the keys that the text begins with, or none.
+fn fronts(answer: &Answer<Global>) -> &[(i32, usize)] {
+    match answer {
+        Answer::Replied(Reply::InText(TextReply::Longest(Some(found)))) => {
+            std::slice::from_ref(found)
+        }
+        Answer::Replied(Reply::InText(TextReply::Fronts(Ok(found)))) => found,
+        _ => &[],
+    }
+}
+
+// Of "abx": two keys and a byte at its beginning, and a byte at each later position.
+fn expect_edges(rt: &impl Abort, answer: &Answer<Global>) {
+    let Answer::Replied(Reply::InText(TextReply::Edges(Ok(edges)))) = answer else {
+        panic!(rt; "no edges");
+    };
+    let wanted = [
+        (0, 1, Some(5), 5),
+        (0, 2, Some(6), 6),
+        (0, 1, None, 8),
+        (1, 1, None, 8),
+        (2, 1, None, 8),
+    ];
+    assert!(rt; edges.len() == wanted.len());
+    for (edge, wanted) in edges.iter().zip(&wanted) {
+        assert!(rt; (edge.start, edge.len, edge.value, edge.cost) == *wanted);
+    }
+}
+
+fn expect_answers(rt: &impl Abort, answers: &[Answer<Global>]) {
+    let [made, longest, begun, segments, later, others @ ..] = answers else {
+        panic!(rt; "too few answers");
+    };
+    assert!(rt; is_made(made));
+    assert_eq!(rt; fronts(longest), [(4, 2)].as_slice());
+    assert_eq!(rt; fronts(begun), [(5, 0), (6, 1), (4, 2)].as_slice());
+    assert_eq!(rt;
+        tokens(segments),
+        [(0, 1, None), (1, 3, Some(4)), (4, 1, None)].as_slice()
+    );
+    assert_eq!(rt; tokens(later), [(2, 3, Some(1))].as_slice());
+    expect_keys(rt, others);
+}
+
+fn expect_keys(rt: &impl Abort, answers: &[Answer<Global>]) {
+    let [keywords, later_keywords, all, later_all, others @ ..] = answers else {
+        panic!(rt; "too few answers");
+    };
+    assert_eq!(rt; keys(keywords), [(1, 3, 4)].as_slice());
+    assert_eq!(rt; keys(later_keywords), [(2, 3, 1)].as_slice());
+    assert_eq!(rt;
+        keys(all),
+        [(1, 1, 5), (1, 2, 6), (1, 3, 4), (2, 3, 1)].as_slice()
+    );
+    assert_eq!(rt; keys(later_all), [(2, 3, 1)].as_slice());
+    expect_cuts(rt, others);
+}
+
+fn expect_cuts(rt: &impl Abort, answers: &[Answer<Global>]) {
+    let [least, by_characters, by_table, with_run, edges, missing] = answers else {
+        panic!(rt; "other answers");
+    };
+    assert_eq!(rt;
+        tokens(least),
+        [(0, 1, Some(5)), (1, 3, Some(1))].as_slice()
+    );
+    assert_eq!(rt;
+        tokens(by_characters),
+        [(0, 1, None), (1, 1, None)].as_slice()
+    );
+    assert_eq!(rt;
+        tokens(by_table),
+        [(0, 3, Some(4)), (3, 1, None)].as_slice()
+    );
+    assert_eq!(rt;
+        tokens(with_run),
+        [(0, 2, None), (2, 2, Some(6))].as_slice()
+    );
+    expect_edges(rt, edges);
+    assert!(rt; matches!(missing, Answer::Missing));
+}
+
+// Keys by their ends, all of them and those that don't overlap; a text without a byte has none.
+fn scans(settings: CedarBuilder) -> [Call<'static>; 5] {
+    [
+        Call::Unsorted {
+            settings,
+            pairs: &PAIRS,
+        },
+        ask_of(b"abcd", TextQuery::Overlapping),
+        ask_of(b"abcd", TextQuery::Earliest),
+        ask_of(b"", TextQuery::Overlapping),
+        ask_of(b"", TextQuery::Earliest),
+    ]
+}
+
+fn expect_scans(rt: &impl Abort, answers: &[Answer<Global>]) {
+    let [_, all, first, none, none_first] = answers else {
+        panic!(rt; "other answers");
+    };
+    assert_eq!(rt;
+        keys(all),
+        [(0, 1, 5), (0, 2, 6), (0, 3, 4), (1, 3, 1)].as_slice()
+    );
+    assert_eq!(rt; keys(first), [(0, 1, 5), (1, 3, 1)].as_slice());
+    assert!(rt; is_listed(none) && is_listed(none_first));
+}
+
+// Whether the answer has a list of keys.
+fn is_listed(answer: &Answer<Global>) -> bool {
+    matches!(
+        answer,
+        Answer::Replied(Reply::InText(TextReply::Keys(Ok(_))))
+    )
+}
+
+#[tactic(auto, using(cedarwood::proofs::DictionaryLemmas::default_limit))]
+fn expect_texts<L: Layout>(
+    rt: &impl Abort,
+    alloc: Global,
+    settings: CedarBuilder,
+) -> Result<(), Fail> {
+    let mut tries: Tries<L, MOST_SLOTS, Global> = Vec::new(alloc);
+    let answers = run(alloc, &mut tries, &calls(settings))?;
+    expect_answers(rt, &answers);
+    let mut tries: Tries<L, MOST_SLOTS, Global> = Vec::new(alloc);
+    let answers = run(alloc, &mut tries, &scans(settings))?;
+    expect_scans(rt, &answers);
+    Ok(())
+}
+
+#[test]
+fn texts_are_cut_and_searched_by_the_tree(rt: HostRuntime) -> Result<(), Fail> {
+    for ordered in [true, false] {
+        let settings = CedarBuilder::new().ordered(ordered);
+        expect_texts::<DefaultLayout>(&rt, rt.alloc(), settings)?;
+        expect_texts::<ReducedLayout>(&rt, rt.alloc(), settings)?;
+    }
+    Ok(())
+}
