@@ -3,3 +3,4 @@ pub mod PageLemmas
 pub mod KeywordLemmas
 pub mod PartLemmas
 pub mod TermLemmas
+pub mod SuggestionLemmas

@@ -4,4 +4,5 @@ pub mod Opened
 pub mod Pages
 pub mod Parts
 pub mod Saves
+pub mod Suggestions
 pub mod Words

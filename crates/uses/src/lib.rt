@@ -14,3 +14,4 @@ mod service;
 #[cfg(test)]
 mod tests;
 mod tokenizer;
+mod typing;

@@ -9,6 +9,7 @@ use crate::pages::{page_behind, page_from};
 use crate::saver::keep;
 use crate::service::publish;
 use crate::tokenizer::{Tokenizer, pieces_of};
+use crate::typing::suggest;
 use cedarwood::{
     Cedar, CedarBuilder, CedarError, CedarPersistenceError, DefaultLayout, Trie, Watched,
 };
@@ -167,6 +168,23 @@ fn tokens(rt: HostRuntime) -> Result<(), Fail> {
     expect_cheap_tokens(&rt, rt.alloc(), &tokenizer)?;
     expect_keywords(&rt, rt.alloc(), &tokenizer.words)?;
     expect_pieces(&rt, rt.alloc(), &tokenizer)
+}
+
+fn expect_suggested(rt: &impl Abort, words: &Cedar<Global>, alloc: Global, typed: &str, wanted: &[u8]) -> Result<(), Fail> {
+    let found = suggest(words, alloc, typed, 1)?;
+    assert!(rt; found.len() == 1 && found[0].1.as_slice() == wanted);
+    Ok(())
+}
+
+// The best word that begins so, or that begins with what is one edit away; or none.
+#[test]
+fn typed_words(rt: HostRuntime) -> Result<(), Fail> {
+    let mut words = Cedar::new(rt.alloc())?;
+    words.build(&[("nest", 3), ("net", 7), ("ten", 9)])?;
+    expect_suggested(&rt, &words, rt.alloc(), "ne", b"net")?;
+    expect_suggested(&rt, &words, rt.alloc(), "nast", b"nest")?;
+    assert!(rt; suggest(&words, rt.alloc(), "xyzzy", 1)?.is_empty());
+    Ok(())
 }
 
 type Live<'a> = Trie<DefaultLayout, 512, &'a Refusing<Global>>;
