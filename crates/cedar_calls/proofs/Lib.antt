@@ -5,6 +5,7 @@ mod CollectLemmas
 mod RunLemmas
 mod BufferLemmas
 mod InTextLemmas
+mod CompletionLemmas
 mod PlainLemmas
 mod PlainRunLemmas
 mod KeyLemmas
