@@ -1,12 +1,14 @@
 #!/usr/bin/env python3
-"""Makes tests/model_cuts.txt: texts, dictionaries and models drawn at random, each with its best cut by a judge that knows nothing of the
-library. The judge lists every cut of a text and takes the least, by its cost and then by its tokens: the longer one first, and a key
+"""Makes tests/model_cuts.txt: texts, dictionaries and models drawn at random, each with its best cuts by a judge that knows nothing of the
+library. The judge lists every cut of a text and takes the least, by their costs and then by their tokens: the longer one first, and a key
 before an unknown run. Run it as python3 tests/model_cuts.py > tests/model_cuts.txt."""
 
+import heapq
 import random
 import textwrap
 
 CASES = 90
+BEST = 4
 CLASSES = {"a": "letter", "b": "letter", "é": "letter", "1": "digit", "2": "digit", "网": "han", "球": "han", "ひ": "hiragana",
            "カ": "katakana", "한": "hangul"}
 
@@ -90,20 +92,24 @@ def rows(name, items):
                          break_on_hyphens=False)
 
 
+def token(start, length, value):
+    return f"({start}, {length}, {'None' if value is None else f'Some({value})'})"
+
+
 def made(case):
     keys, costs, beyond, rule, text = case
-    _, _, tokens = min(cuts(keys, costs, beyond, rule, text), key=lambda cut: (cut[0], cut[1]))
+    best = heapq.nsmallest(BEST, cuts(keys, costs, beyond, rule, text), key=lambda cut: (cut[0], cut[1]))
     lines = ["    Made {", f"        text: {literal(text)},"]
     lines += rows("keys", [f"({literal(key)}, {value})" for key, value in keys])
     lines += [f"        costs: &[{', '.join(map(str, costs))}],", f"        beyond: {beyond},"]
     lines += [f"        rule: Rule::{rule[0]}, cost: {rule[1]}, most: {rule[2]}, beside_keys: {str(rule[3]).lower()},"]
-    lines += rows("wanted", [f"({start}, {length}, {'None' if value is None else f'Some({value})'})" for start, length, value in tokens])
+    lines += rows("wanted", [f"&[{', '.join(token(*part) for part in tokens)}]" for _, _, tokens in best])
     return lines + ["    },"]
 
 
 def main():
     rng = random.Random(74)
-    print("//! Texts drawn at random, each with its best cut by a model: made by tests/model_cuts.py, whose judge lists all cuts.")
+    print("//! Texts drawn at random, each with its best cuts by a model: made by tests/model_cuts.py, whose judge lists all cuts.")
     print()
     print("use crate::models::{Made, Rule};")
     print()

@@ -100,36 +100,6 @@ std::vector<cedar_pair> pairs_of(const Pairs &pairs) {
     return listed;
 }
 
-// As check, for a call of many pairs: the error says which one has the fault.
-inline void check_pairs(std::uint32_t status, std::size_t position, const std::vector<cedar_pair> &pairs) {
-    if (is_fault(status)) check(status, position, cedar_faulty_pair(pairs.data(), pairs.size()));
-    check(status, position);
-}
-
-// The keys of a range as C takes them: they name its bytes.
-template <class Keys>
-std::vector<cedar_key> keys_of(const Keys &keys) {
-    static_assert(std::is_lvalue_reference_v<decltype(*std::begin(keys))>, "the keys stand in the range, which lends them");
-    std::vector<cedar_key> listed;
-    listed.reserve(1); // so that data() isn't null
-    for (const auto &key : keys) {
-        const std::string_view view(key);
-        listed.push_back({bytes(view), view.size()});
-    }
-    return listed;
-}
-
-// Calls what a scan is told to, and returns whether it goes on: what returns a bool ends it by false.
-template <class Callable, class Item>
-bool tell(Callable &callable, const Item &item) {
-    if constexpr (std::is_same_v<std::invoke_result_t<Callable &, const Item &>, bool>) {
-        return callable(item);
-    } else {
-        callable(item);
-        return true;
-    }
-}
-
 } // namespace detail
 
 /// A mutable dictionary from byte strings to whole numbers. It is moved and not copied; clone() makes a copy. A dictionary that was moved
@@ -492,8 +462,9 @@ public:
         std::vector<cedar_found> found(text.size() + 1); // so that data() isn't null
         std::size_t count = 0;
         const std::uint32_t status =
-            cedar_cheapest_by(&mine, detail::bytes(text), text.size(), model.keys.data(), model.keys.size(), model.beyond, model.kinds.data(),
-                              model.kinds.size(), model.unknown, model.most, model.beside_keys, found.data(), text.size(), &count);
+            cedar_cheapest_by(&mine, detail::bytes(text), text.size(), detail::array(model.keys), model.keys.size(), model.beyond,
+                              detail::array(model.kinds), model.kinds.size(), model.unknown, model.most, model.beside_keys, found.data(),
+                              text.size(), &count);
         detail::check(status);
         return detail::tokens_of(found, count);
     }

@@ -7,6 +7,7 @@
 #include <cerrno>
 #include <cstddef>
 #include <cstdint>
+#include <iterator>
 #include <limits>
 #include <new>
 #include <optional>
@@ -153,6 +154,13 @@ inline const std::uint8_t *bytes(std::string_view text) noexcept {
     return reinterpret_cast<const std::uint8_t *>(text.empty() ? "" : text.data());
 }
 
+// Nor is the pointer to the items of a list that has none.
+template <class Item>
+const Item *array(const std::vector<Item> &items) noexcept {
+    static const Item none{};
+    return items.empty() ? &none : items.data();
+}
+
 // Throws what a status says. `position` is what C has written, and `index` that of the pair which the status speaks of, if there are many.
 inline void check(std::uint32_t status, std::size_t position = 0, std::optional<std::size_t> index = std::nullopt) {
     switch (status) {
@@ -170,6 +178,36 @@ inline void check(std::uint32_t status, std::size_t position = 0, std::optional<
 // Whether a status speaks of a key or a value that a call was given.
 inline bool is_fault(std::uint32_t status) noexcept {
     return status == CEDAR_EMPTY_KEY || status == CEDAR_NUL_BYTE || status == CEDAR_INVALID_VALUE;
+}
+
+// As check, for a call of many pairs: the error says which one has the fault.
+inline void check_pairs(std::uint32_t status, std::size_t position, const std::vector<cedar_pair> &pairs) {
+    if (is_fault(status)) check(status, position, cedar_faulty_pair(pairs.data(), pairs.size()));
+    check(status, position);
+}
+
+// The keys of a range as C takes them: they name its bytes.
+template <class Keys>
+std::vector<cedar_key> keys_of(const Keys &keys) {
+    static_assert(std::is_lvalue_reference_v<decltype(*std::begin(keys))>, "the keys stand in the range, which lends them");
+    std::vector<cedar_key> listed;
+    listed.reserve(1); // so that data() isn't null
+    for (const auto &key : keys) {
+        const std::string_view view(key);
+        listed.push_back({bytes(view), view.size()});
+    }
+    return listed;
+}
+
+// Calls what a scan is told to, and returns whether it goes on: what returns a bool ends it by false.
+template <class Callable, class Item>
+bool tell(Callable &callable, const Item &item) {
+    if constexpr (std::is_same_v<std::invoke_result_t<Callable &, const Item &>, bool>) {
+        return callable(item);
+    } else {
+        callable(item);
+        return true;
+    }
 }
 
 inline token token_of(const cedar_found &one) noexcept {

@@ -17,7 +17,7 @@ use Rattle.cedar_cli.specs.Blocks.{GrowsWithin, GrowsBefore}
 use Rattle.cedar_cli.specs.Command.{Order, order_of, key_of, with_key, with_key_and_value, is_space}
 use Rattle.device_lines.specs.Lines.{figures_number}
 use Rattle.cedar_cli.specs.declared.command.Verb.{Verb}
-use Rattle.cedar_cli.specs.declared.command.Verb.TheVariants.{Put, Erase, Exact, Segment, Prefixes, Predict, Entries, Figures}
+use Rattle.cedar_cli.specs.declared.command.Verb.TheVariants.{Put, Erase, Exact, Segment, Prefixes, Predict, Count, Entries, Figures}
 
 -- none came
 pub no_blocks : (most : ℕ) (d : Dictionary) → GrowsWithin most d d
@@ -91,7 +91,8 @@ line_short (c ∷ space ∷ rest) =
     (either_short n (c == 61) _ _ (alone Exact)
     (either_short n (c == 60) _ _ (alone Prefixes)
     (either_short n (c == 62) _ _ (alone Predict)
-    (either_short n (c == 47) _ None (alone Segment) tt)))))) tt
+    (either_short n (c == 63) _ _ (alone Count)
+    (either_short n (c == 47) _ None (alone Segment) tt))))))) tt
 
 -- what is put back over a number that is held makes none
 pub back_blocks : (before : Option ℤ) (Held : Type 0) (mid new : Dictionary) → MatchOption before (Grows 0 mid new) (λ _. Held → Grows 0 mid new) → Held → Grows 0 mid new

@@ -1,5 +1,6 @@
 pub mod CharacterLemmas
 pub mod CutLemmas
+pub mod FirstLemmas
 pub mod InstanceLemmas
 pub mod LatticeLemmas
 pub mod LongestLemmas
@@ -7,7 +8,10 @@ pub mod MarkLemmas
 pub mod ModelCutLemmas
 pub mod ModelStepLemmas
 pub mod OneLemmas
+pub mod RankedLemmas
+pub mod RankLemmas
 pub mod RunLemmas
+pub mod TableLemmas
 pub mod SpotLemmas
 pub mod StepLemmas
 pub mod TokenLemmas

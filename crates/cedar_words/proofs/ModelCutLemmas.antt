@@ -3,18 +3,17 @@ use Rattle.std.proofs.Common.{◌≡◌, ℕ, zero, suc, ◌+◌, ◌-◌, ◌^�
 use Rattle.std.proofs.lemmas.List.{get_or-take, get_or_default, length-drop, length-take-le}
 use Rattle.std.proofs.lemmas.Bool.Decides.{leb_tells}
 use Rattle.cedarwood.specs.Tree.{Tree, number_at}
-use Rattle.cedarwood.specs.Queries.{front}
 use Rattle.cedarwood.proofs.MemberLemmas.{either_part}
 use Rattle.cedar_words.specs.Cuts.{IsAhead}
-use Rattle.cedar_words.specs.Models.{cost_with, IsBestCut, IsCheapestByModel, IsCutBy, IsCutFromBy, IsLeastFrom, IsLeastThroughout, IsPieceBy, MayRun, price_by, run_len}
-use Rattle.cedar_words.specs.ModelSteps.{AreCostsBy, AreKeptBy, best_by, best_cut_by, TellsStep, kept_at, priced_step, run_step, step_by}
+use Rattle.cedar_words.specs.Models.{cost_with, IsBestCut, IsCheapestByModel, IsCutFromBy, IsLeastFrom, IsLeastThroughout, IsPieceBy, MayRun, price_by, run_len}
+use Rattle.cedar_words.specs.ModelSteps.{AreCostsBy, AreKeptBy, best_cut_by, TellsStep, kept_at, step_by}
 use Rattle.cedar_words.specs.Steps.{cost_at, cut_along}
 use Rattle.cedar_words.specs.Tokens.{AreAdjacent, Token}
 use Rattle.cedar_words.specs.declared.costs.Step.{Step}
 use Rattle.cedar_words.specs.declared.cuts.Kept.{Kept}
 use Rattle.cedar_words.specs.declared.cuts.Kept.TheVariants.{Long}
 use Rattle.cedar_words.specs.declared.models.UnknownRun.{UnknownRun}
-use Rattle.cedar_words.proofs.ModelStepLemmas.{best_is, found_key, IsBestBy, IsModelStep}
+use Rattle.cedar_words.proofs.ModelStepLemmas.{best_is, found_key, IsBestBy}
 use Rattle.cedar_words.proofs.StepLemmas.{along_step}
 
 -- the best step over so many bytes of a text
@@ -66,7 +65,7 @@ pub step_here : (t : Tree) (key : ℤ → ℕ) (run : ℕ → UnknownRun) (text 
 step_here t key run text costs place within are = step_is t key run text costs are (length text - place) (omega (arith, within)) (omega arith)
 
 -- the tokens that they lead along are a cut
-along_cut : (t : Tree) (key : ℤ → ℕ) (run : ℕ → UnknownRun) (text costs : List ℕ) → AreCostsBy t key run text costs → (k place left : ℕ) → k ≤ left → place + left ≡ length text
+pub along_cut : (t : Tree) (key : ℤ → ℕ) (run : ℕ → UnknownRun) (text costs : List ℕ) → AreCostsBy t key run text costs → (k place left : ℕ) → k ≤ left → place + left ≡ length text
     → IsCutFromBy t run text (place + k) (cut_along (step_by t key run text costs) k place left)
 along_cut t key run text costs are k place zero low end = omega (arith, low, end)
 along_cut t key run text costs are (suc k) place (suc left) low end =
@@ -87,7 +86,7 @@ along_cut t key run text costs are zero place (suc left) low end =
     )
 
 -- they cost what the first step says
-joined : (p c after cost : ℕ) → min c (2 ^ 64 - 1) ≡ after → cost ≡ min (p + after) (2 ^ 64 - 1) → min (p + c) (2 ^ 64 - 1) ≡ cost
+pub joined : (p c after cost : ℕ) → min c (2 ^ 64 - 1) ≡ after → cost ≡ min (p + after) (2 ^ 64 - 1) → min (p + c) (2 ^ 64 - 1) ≡ cost
 joined p c after cost more costs = omega (arith, more, costs)
 
 along_costs : (t : Tree) (key : ℤ → ℕ) (run : ℕ → UnknownRun) (text costs : List ℕ) → AreCostsBy t key run text costs → (k place left : ℕ) → k ≤ left → place + left ≡ length text
@@ -200,7 +199,7 @@ cut_least t key run text costs are (x ∷ tokens) place left end is =
     omega (arith, dear, more, same)
 
 -- from each of their tokens on the best steps' tokens cost the least
-along_least : (t : Tree) (key : ℤ → ℕ) (run : ℕ → UnknownRun) (text costs : List ℕ) → AreCostsBy t key run text costs → (place left : ℕ) → place + left ≡ length text
+pub along_least : (t : Tree) (key : ℤ → ℕ) (run : ℕ → UnknownRun) (text costs : List ℕ) → AreCostsBy t key run text costs → (place left : ℕ) → place + left ≡ length text
     → IsLeastFrom t key run text place (cut_along (step_by t key run text costs) 0 place left)
 along_least t key run text costs are place left end other is =
     let all : left - 0 ≡ left = omega arith in
@@ -208,7 +207,7 @@ along_least t key run text costs are place left end other is =
     let least = cut_least t key run text costs are other place left end is in
     omega (arith, same, least)
 
-along_throughout : (t : Tree) (key : ℤ → ℕ) (run : ℕ → UnknownRun) (text costs : List ℕ) → AreCostsBy t key run text costs → (k place left : ℕ) → k ≤ left → place + left ≡ length text
+pub along_throughout : (t : Tree) (key : ℤ → ℕ) (run : ℕ → UnknownRun) (text costs : List ℕ) → AreCostsBy t key run text costs → (k place left : ℕ) → k ≤ left → place + left ≡ length text
     → IsLeastThroughout t key run text (place + k) (cut_along (step_by t key run text costs) k place left)
 along_throughout t key run text costs are k place zero low end = tt
 along_throughout t key run text costs are (suc k) place (suc left) low end =

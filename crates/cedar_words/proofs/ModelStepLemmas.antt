@@ -1,5 +1,5 @@
 -- Steps over the last bytes of a text by a model: how the best is found.
-use Rattle.std.proofs.Common.{◌≡◌, ℕ, zero, suc, ◌+◌, ◌-◌, ◌^◌, ◌<◌, ◌≤◌, ◌⊎◌, max, min, nat_le, nat_lt, cond, Bool, true, false, ℤ, List, [], ◌∷◌, ◌++◌, length, take, drop, Option, Some, None, MatchOption, refl, sym, ap, subst, ◌∙◌, arith, inl, inr}
+use Rattle.std.proofs.Common.{◌≡◌, ℕ, ◌+◌, ◌-◌, ◌^◌, ◌<◌, ◌≤◌, ◌⊎◌, min, nat_le, nat_lt, cond, Bool, true, false, ℤ, List, [], ◌∷◌, ◌++◌, length, take, drop, Some, MatchOption, refl, sym, ap, subst, ◌∙◌, arith, inl, inr}
 use Rattle.std.specs.List.{Contains}
 use Rattle.std.proofs.lemmas.List.{get_or_append_left, get_or_push, length_push, take-append-le, take_all}
 use Rattle.std.proofs.lemmas.Bool.{ltb-false, ltb-true, true≢false}
@@ -9,7 +9,7 @@ use Rattle.cedarwood.specs.Queries.{front}
 use Rattle.cedarwood.proofs.FrontLemmas.{front_from_held, held_from_front}
 use Rattle.cedarwood.proofs.MemberLemmas.{contains_first_or_later, contains_here, contains_later, contains_none, either_part}
 use Rattle.cedar_words.specs.Models.{MayRun, price_by, run_len}
-use Rattle.cedar_words.specs.ModelSteps.{AreCostsUpTo, AreKeptUpTo, beside_run, best_by, best_priced, TellsStep, kept_at, or_run, priced_step, run_step, step_by}
+use Rattle.cedar_words.specs.ModelSteps.{AreCostsUpTo, AreKeptUpTo, best_by, best_priced, TellsStep, kept_at, or_run, priced_step, run_step, step_by}
 use Rattle.cedar_words.specs.Steps.{better_of, cost_at}
 use Rattle.cedar_words.specs.declared.costs.Step.{Step}
 use Rattle.cedar_words.specs.declared.cuts.Kept.{Kept}
@@ -104,7 +104,7 @@ all_longest key later low first fronts h found c cheap =
     (λ more. priced_longest key later (priced_step key later first) (first.1 + 1) fronts h.1 found more cheap)
 
 -- a step over a key or one over an unknown run, whichever is better
-ltb_tells : (a b : ℕ) → ((nat_lt a b ≡ true) × (a < b)) ⊎ ((nat_lt a b ≡ false) × (b ≤ a))
+pub ltb_tells : (a b : ℕ) → ((nat_lt a b ≡ true) × (a < b)) ⊎ ((nat_lt a b ≡ false) × (b ≤ a))
 ltb_tells a b = by (nat_lt a b) refl
   where
     by : (t : Bool) → nat_lt a b ≡ t → ((nat_lt a b ≡ true) × (a < b)) ⊎ ((nat_lt a b ≡ false) × (b ≤ a))

@@ -5,6 +5,7 @@ pub mod Cuts
 pub mod Lattice
 pub mod Models
 pub mod ModelSteps
+pub mod Ranked
 pub mod Runs
 pub mod Spots
 pub mod Steps

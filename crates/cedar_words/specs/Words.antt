@@ -15,6 +15,10 @@ pub use Rattle.cedar_words.specs.Lattice.{edges_at, edges_from, IsEdgeOf, IsStop
 pub use Rattle.cedar_words.specs.Lattice.{keys_left, own_run, run_by, run_edge}
 pub use Rattle.cedar_words.specs.Models.{cost_with, HasOneBestCut, IsBestCut, IsCheapestByModel}
 pub use Rattle.cedar_words.specs.Models.{IsCutBy, RunsKeepCharacters}
+pub use Rattle.cedar_words.specs.Ranked.{AreWays, best_ways, insert_way, IsBestCuts, WaysGoOn}
+pub use Rattle.cedar_words.specs.Ranked.{key_ways, lists_of, no_way, put_way, put_ways, run_ways}
+pub use Rattle.cedar_words.specs.Ranked.{step_ways, way_along, way_at, way_before, ways_along}
+pub use Rattle.cedar_words.specs.Ranked.{ways_behind}
 pub use Rattle.cedar_words.specs.Runs.{byte_run, character_run, class_run, only_without_key}
 pub use Rattle.cedar_words.specs.ModelSteps.{AreCostsBy, AreKeptBy, beside_run, best_by}
 pub use Rattle.cedar_words.specs.ModelSteps.{best_cut_by, best_priced, or_run, priced_step}

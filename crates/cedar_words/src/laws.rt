@@ -1,11 +1,13 @@
 //! Laws of the tokens of a text.
 
-ghost use Rattle.std.specs.Prelude.{◌+◌, ◌↔◌, ◌<◌, ◌^◌, ◌≡◌, ◌≤◌, [], All, Bool, Contains};
+ghost use Rattle.std.specs.Prelude.{◌+◌, ◌↔◌, ◌<◌, ◌^◌, ◌∷◌, ◌≡◌, ◌≤◌, [], All, Bool};
+ghost use Rattle.std.specs.Prelude.{Contains};
 ghost use Rattle.std.specs.Prelude.{drop, IsUtf8, length, List, ℕ, ℤ};
 ghost use Rattle.cedar_words.specs.Words.{all_stored, AreAdjacent, AreWholeCharacters, bytes_in};
 ghost use Rattle.cedar_words.specs.Words.{character_run, class_run, cost_by, cost_with, cut};
 ghost use Rattle.cedar_words.specs.Words.{edges_from, empty_tree, Entry, HasOneBestCut};
 ghost use Rattle.cedar_words.specs.Words.{HasOneCheapest, HasUtf8Keys, IsAheadCapped, IsBestCut};
+ghost use Rattle.cedar_words.specs.Words.{IsBestCuts};
 ghost use Rattle.cedar_words.specs.Words.{IsCheapestBy, IsCheapestByModel, IsCut, IsCutBy};
 ghost use Rattle.cedar_words.specs.Words.{IsEdgeOf, IsKeyIn, IsLeastCapped, IsLeftmost, IsLongest};
 ghost use Rattle.cedar_words.specs.Words.{IsSoundBelow, keywords_from, keywords_in};
@@ -136,6 +138,12 @@ pub fn best_cut_is_one()
 pub fn best_cut_is_cheapest()
     //= The best cut by a model is the cheapest of all, and first among those that cost as little, if it costs less than 2^64.
     ensures { (tree : Tree) (key : ℤ → ℕ) (run : ℕ → UnknownRun) (text : List ℕ) (tokens : List Token) → IsBestCut tree key run text tokens → cost_with key run tokens < 2 ^ 64 → IsCheapestByModel tree key run text tokens }
+{}
+
+/// The first of the best cuts by a model is the best cut.
+pub fn best_cuts_begin_with_the_best()
+    //= The first of the best cuts by a model is the best cut, which `cheapest_by` returns.
+    ensures { (tree : Tree) (key : ℤ → ℕ) (run : ℕ → UnknownRun) (text : List ℕ) (most : ℕ) (first : List Token) (cuts : List (List Token)) → IsBestCuts tree key run text most (first ∷ cuts) → IsBestCut tree key run text first }
 {}
 
 /// In a text that is UTF-8, over keys that are, each token of a cut by a model of whole characters is whole characters: so it is

@@ -19,6 +19,7 @@ mod keywords;
 mod laws;
 mod longest;
 mod models;
+mod ranked;
 mod segments;
 mod spots;
 
@@ -28,15 +29,17 @@ pub use cuts::cheapest_by;
 pub use edges::{Edge, Edges, lattice};
 pub use keywords::{Keywords, leftmost_longest, leftmost_longest_from};
 pub use laws::{
-    best_cut_is_cheapest, best_cut_is_one, capped_is_cheapest, cheapest_is_one, cuts_cover,
-    keys_part_no_character, keywords_are_leftmost, lattice_has_all_tokens, matches_are_keys,
-    model_cuts_cover, model_cuts_part_no_character, runs_keep_characters, tokens_are_longest,
-    tokens_cover, tokens_go_on, tokens_lie_within, tokens_part_no_character, utf8_keys_stay,
+    best_cut_is_cheapest, best_cut_is_one, best_cuts_begin_with_the_best, capped_is_cheapest,
+    cheapest_is_one, cuts_cover, keys_part_no_character, keywords_are_leftmost,
+    lattice_has_all_tokens, matches_are_keys, model_cuts_cover, model_cuts_part_no_character,
+    runs_keep_characters, tokens_are_longest, tokens_cover, tokens_go_on, tokens_lie_within,
+    tokens_part_no_character, utf8_keys_stay,
 };
 pub use longest::LongestPrefix;
 pub use models::{
     CostModel, CostTable, KeyCosts, OneByte, Priced, UnknownRun, UnknownRuns, ValueIsCost,
     WhereNoKeyBegins,
 };
+pub use ranked::cheapest_cuts;
 pub use segments::{Segments, segment, segment_from};
 pub use spots::{AllMatches, Fronts, matches, matches_from};

@@ -1,12 +1,12 @@
 //! How a dictionary of either layout is saved.
 
-ghost use Rattle.std.specs.Prelude.{◌++◌, ◌≡◌, ◌≤◌, drop, IfErr, length, OnOk, true};
+ghost use Rattle.std.specs.Prelude.{◌++◌, ◌≡◌, ◌≤◌, drop, IfErr, IfOk, length, OnOk, true};
 ghost use Rattle.either_layout.specs.Words.{Appends, device_of, FailsToWrite, has_failed};
-ghost use Rattle.either_layout.specs.Words.{inner_layout, IsIo, IsTableFile, most_slots};
-ghost use Rattle.either_layout.specs.Words.{PassesAgain, table_bytes, table_in};
+ghost use Rattle.either_layout.specs.Words.{inner_layout, IsIo, IsSavedAt, IsTableFile};
+ghost use Rattle.either_layout.specs.Words.{most_slots, PassesAgain, table_bytes, table_in};
 
 use crate::{AnyCedar, on_layout};
-use cedarwood::{CedarPersistenceError, Watched};
+use cedarwood::{CedarPersistenceError, Saved, Watched};
 use std::io::Write;
 use std::rt::Files;
 
@@ -100,11 +100,19 @@ impl AnyCedar {
     }
 
     /// Replaces the file at `path` by the dictionary's file, as [`Trie::save_to_path`](cedarwood::Trie::save_to_path) does: whatever crash
-    /// comes, the file there is the old one or the new one, whole.
+    /// comes, the file there is the old one or the new one, whole. It returns what it did.
     ///
     /// # Errors
     /// As `Trie::save_to_path`.
-    pub fn save_to_path<F: Files>(&self, files: &F, path: &str) -> Result<(), CedarPersistenceError>
+    pub fn save_to_path<F: Files>(
+        &self,
+        files: &F,
+        path: &str,
+    ) -> Result<Saved, CedarPersistenceError>
+        //= A save of either layout to a path that succeeds did there what one of the dictionary's own call does, with exactly the bytes of
+        //  its table. [also save_v1_0_to_path; by IsSavedAt]
+        ensures saved { IfOk result (IsSavedAt path.now (table_bytes 1 (table_in self.now))) }
+
         //= A save to a path fails only with `Io`, or with `AllocationFailed` of the 8192 bytes of its buffer. [also save_v1_0_to_path; by
         //  FailsToWrite]
         ensures err { IfErr result FailsToWrite }
@@ -122,7 +130,8 @@ impl AnyCedar {
         &self,
         files: &F,
         path: &str,
-    ) -> Result<(), CedarPersistenceError>
+    ) -> Result<Saved, CedarPersistenceError>
+        ensures saved { IfOk result (IsSavedAt path.now (table_bytes 0 (table_in self.now))) }
         ensures err { IfErr result FailsToWrite }
         ensures file { OnOk result (IsTableFile 0 most_slots (table_in self.now) (table_bytes 0 (table_in self.now))) }
         ensures passes { OnOk result (PassesAgain (inner_layout self.now) most_slots 0 (table_in self.now)) }

@@ -170,7 +170,13 @@ fn tokens(rt: HostRuntime) -> Result<(), Fail> {
     expect_pieces(&rt, rt.alloc(), &tokenizer)
 }
 
-fn expect_suggested(rt: &impl Abort, words: &Cedar<Global>, alloc: Global, typed: &str, wanted: &[u8]) -> Result<(), Fail> {
+fn expect_suggested(
+    rt: &impl Abort,
+    words: &Cedar<Global>,
+    alloc: Global,
+    typed: &str,
+    wanted: &[u8],
+) -> Result<(), Fail> {
     let found = suggest(words, alloc, typed, 1)?;
     assert!(rt; found.len() == 1 && found[0].1.as_slice() == wanted);
     Ok(())

@@ -112,8 +112,25 @@ fn expect_edges(rt: &impl Abort, answer: &Answer<Global>) {
 }
 
 fn expect_answers(rt: &impl Abort, answers: &[Answer<Global>]) {
-    let [made, longest, begun, segments, later, others @ ..] = answers else {
-        panic!(rt; "too few answers");
+    let [
+        made,
+        longest,
+        begun,
+        segments,
+        later,
+        keywords,
+        later_keywords,
+        all,
+        later_all,
+        least,
+        by_characters,
+        by_table,
+        with_run,
+        edges,
+        missing,
+    ] = answers
+    else {
+        panic!(rt; "other answers");
     };
     assert!(rt; is_made(made));
     assert_eq!(rt; fronts(longest), [(4, 2)].as_slice());
@@ -123,13 +140,6 @@ fn expect_answers(rt: &impl Abort, answers: &[Answer<Global>]) {
         [(0, 1, None), (1, 3, Some(4)), (4, 1, None)].as_slice()
     );
     assert_eq!(rt; tokens(later), [(2, 3, Some(1))].as_slice());
-    expect_keys(rt, others);
-}
-
-fn expect_keys(rt: &impl Abort, answers: &[Answer<Global>]) {
-    let [keywords, later_keywords, all, later_all, others @ ..] = answers else {
-        panic!(rt; "too few answers");
-    };
     assert_eq!(rt; keys(keywords), [(1, 3, 4)].as_slice());
     assert_eq!(rt; keys(later_keywords), [(2, 3, 1)].as_slice());
     assert_eq!(rt;
@@ -137,13 +147,6 @@ fn expect_keys(rt: &impl Abort, answers: &[Answer<Global>]) {
         [(1, 1, 5), (1, 2, 6), (1, 3, 4), (2, 3, 1)].as_slice()
     );
     assert_eq!(rt; keys(later_all), [(2, 3, 1)].as_slice());
-    expect_cuts(rt, others);
-}
-
-fn expect_cuts(rt: &impl Abort, answers: &[Answer<Global>]) {
-    let [least, by_characters, by_table, with_run, edges, missing] = answers else {
-        panic!(rt; "other answers");
-    };
     assert_eq!(rt;
         tokens(least),
         [(0, 1, Some(5)), (1, 3, Some(1))].as_slice()
