@@ -1,7 +1,5 @@
-use Rattle.std.proofs.Common.{◌≡◌, IfOk, List, sym, subst}
-use Rattle.std.specs.Prelude.{Option, Result}
+use Rattle.std.proofs.Common.{IfOk, List, sym, subst}
 use Rattle.cedarwood.specs.Queries.{Entry}
-use Rattle.cedarwood.specs.declared.error.CedarError.{CedarError}
 use Rattle.cedar_complete.specs.Ends.{IsHeadOf}
 use Rattle.last_entries.specs.Nearness.{entry_told}
 use Rattle.cedar_calls.specs.Completions.{entries_between_ends, first_of_list}
