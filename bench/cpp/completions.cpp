@@ -72,7 +72,8 @@ std::uint64_t page(const cedar_dictionary &d, const std::string &behind) {
     cedar_found found[SHOWN];
     std::uint8_t keys[KEY_ROOM];
     std::size_t count = 0, needed = 0;
-    need(cedar_entries_below(&d, bytes_of(PREFIX), PREFIX.size(), bytes_of(behind), behind.size(), found, SHOWN, keys, sizeof keys, &count, &needed));
+    need(cedar_entries_below(&d, bytes_of(PREFIX), PREFIX.size(), bytes_of(behind), behind.size(), found, SHOWN, keys, sizeof keys, &count,
+                             &needed));
     std::uint64_t sum = 0;
     for (std::size_t i = 0; i < count; ++i) sum += of_entry(found[i].length, found[i].value);
     return sum;

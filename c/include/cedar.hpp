@@ -387,7 +387,9 @@ public:
     /// text. cedar_completions.hpp says what a step costs, and what is shown if the dictionary changes meanwhile.
     reversed_entries reversed() const & { return {&inside_, {}, std::nullopt}; }
     reversed_entries reversed() const && = delete;
-    reversed_entries reversed_range(std::string_view from, std::string_view to) const & { return {&inside_, std::string(from), std::string(to)}; }
+    reversed_entries reversed_range(std::string_view from, std::string_view to) const & {
+        return {&inside_, std::string(from), std::string(to)};
+    }
     reversed_entries reversed_range(std::string_view from, std::string_view to) const && = delete;
     reversed_entries reversed_with_prefix(std::string_view prefix) const & {
         return {&inside_, std::string(prefix), detail::behind_prefix(prefix)};
@@ -528,7 +530,8 @@ private:
     }
 
     // The entries that are near a text; none in a closed dictionary.
-    std::vector<owned_entry> near(detail::near_call call, std::string_view text, edits most_edits, bool is_beginning, std::size_t most) const {
+    std::vector<owned_entry> near(detail::near_call call, std::string_view text, edits most_edits, bool is_beginning,
+                                  std::size_t most) const {
         const cedar_dictionary mine = inside_;
         return is_open() ? detail::near(mine, call, text, most_edits, is_beginning, most) : std::vector<owned_entry>();
     }

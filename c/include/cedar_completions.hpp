@@ -20,8 +20,8 @@ namespace detail {
 
 using beside_call = std::uint32_t (*)(const cedar_dictionary *, const std::uint8_t *, std::size_t, bool, std::uint8_t *, std::size_t,
                                       std::int32_t *, std::size_t *);
-using near_call = std::uint32_t (*)(const cedar_dictionary *, const std::uint8_t *, std::size_t, bool, bool, const std::uint8_t *, std::size_t,
-                                    std::uint8_t *, std::size_t, std::int32_t *, std::size_t *);
+using near_call = std::uint32_t (*)(const cedar_dictionary *, const std::uint8_t *, std::size_t, bool, bool, const std::uint8_t *,
+                                    std::size_t, std::uint8_t *, std::size_t, std::int32_t *, std::size_t *);
 
 // Makes a call that writes one entry, until there is room for its key. Nothing if there is no entry.
 template <class Call>
@@ -61,11 +61,11 @@ std::vector<owned_entry> found_behind(const Next &next, std::size_t most) {
 }
 
 // The first entries whose keys are near a text, or begin with what is.
-inline std::vector<owned_entry> near(const cedar_dictionary &mine, near_call call, std::string_view text, edits most_edits, bool is_beginning,
-                                     std::size_t most) {
+inline std::vector<owned_entry> near(const cedar_dictionary &mine, near_call call, std::string_view text, edits most_edits,
+                                     bool is_beginning, std::size_t most) {
     const auto next = [&](std::string_view behind, std::uint8_t *buffer, std::size_t room, std::int32_t *value, std::size_t *needed) {
-        return call(&mine, bytes(text), text.size(), most_edits == edits::two, is_beginning, bytes(behind), behind.size(), buffer, room, value,
-                    needed);
+        return call(&mine, bytes(text), text.size(), most_edits == edits::two, is_beginning, bytes(behind), behind.size(), buffer, room,
+                    value, needed);
     };
     return found_behind(next, most);
 }
