@@ -1,4 +1,4 @@
-use Rattle.std.proofs.Common.{◌≡◌, ◌++◌, length, map}
+use Rattle.std.proofs.Common.{◌≡◌, ◌++◌, map}
 use Rattle.cedar_calls.proofs.completions.collect_matching.Given as goal
 
 -- what was collected and what is left are the entries of the walk
@@ -6,4 +6,4 @@ abbrev pub invariant-loop-found : goal.invariant-loop-found
 invariant-loop-found g l = map (λ e. (e.0.items, e.1)) l.found.items ++ l.walk.left ≡ l.fn.walk.left
 
 abbrev pub decreases-loop-found : goal.decreases-loop-found
-decreases-loop-found g l = length l.walk.left
+decreases-loop-found g l = l.walk.nodes
