@@ -82,6 +82,7 @@ enum {
     CEDAR_NOT_ASCENDING = 12, /* labels do not ascend, so an iteration can't go on after a key */
     CEDAR_PATTERN_TOO_LONG = 13, /* the pattern has more than 63 bytes */
     CEDAR_UNKNOWN_SEARCH = 14, /* no search has the number */
+    CEDAR_QUERY_NOT_UTF8 = 15, /* what is looked for by characters isn't UTF-8 */
     /* of a file: the first thing that is wrong with it */
     CEDAR_FILE_TRUNCATED = 20,
     CEDAR_FILE_MAGIC = 21,         /* not a file of this format */
@@ -372,14 +373,18 @@ uint32_t cedar_ceiling(const cedar_dictionary *d, const uint8_t *key, size_t len
 
 /* cedar_next_near writes the first entry behind a key whose own key is near a query: one edit away at most, or two if two_edits; or if
  * is_beginning it begins with what is, so it completes what was typed with an error. An edit puts in, takes out or changes a byte: a letter
- * beyond ASCII has two to four. cedar_next_fitting writes the first entry behind a key whose own key fits a pattern, in which ? stands for
- * any byte, * for any bytes, also none, and each other byte for itself. If `behind` has no byte, these are the first ones of all. To go on,
- * copy the key that was found and pass it as `behind`. The entry is written as cedar_ceiling writes one, and *needed 0 says that none is
- * left. A call makes a look-up for each entry that it comes to, and one for each place where no key that goes on so is wanted: all keys
- * below it are left out. It allocates for a key or two. Both return what cedar_ceiling returns, and cedar_next_fitting
- * CEDAR_PATTERN_TOO_LONG if the pattern has more than 63 bytes. */
+ * beyond ASCII has two to four. cedar_next_near_text does the same by characters of UTF-8: an edit puts in, takes out or changes a
+ * character, and a key, or what it begins with, is near only if it is UTF-8. cedar_next_fitting writes the first entry behind a key whose
+ * own key fits a pattern, in which ? stands for any byte, * for any bytes, also none, and each other byte for itself. If `behind` has no
+ * byte, these are the first ones of all. To go on, copy the key that was found and pass it as `behind`. The entry is written as
+ * cedar_ceiling writes one, and *needed 0 says that none is left. A call makes a look-up for each entry that it comes to, and one for each
+ * place where no key that goes on so is wanted: all keys below it are left out. It allocates for a key or two, and cedar_next_near_text
+ * for the characters of its query. They return what cedar_ceiling returns; cedar_next_near_text CEDAR_QUERY_NOT_UTF8 if the query isn't
+ * UTF-8; and cedar_next_fitting CEDAR_PATTERN_TOO_LONG if the pattern has more than 63 bytes. */
 uint32_t cedar_next_near(const cedar_dictionary *d, const uint8_t *query, size_t length, bool two_edits, bool is_beginning,
                          const uint8_t *behind, size_t behind_length, uint8_t *buffer, size_t room, int32_t *value, size_t *needed);
+uint32_t cedar_next_near_text(const cedar_dictionary *d, const uint8_t *query, size_t length, bool two_edits, bool is_beginning,
+                              const uint8_t *behind, size_t behind_length, uint8_t *buffer, size_t room, int32_t *value, size_t *needed);
 uint32_t cedar_next_fitting(const cedar_dictionary *d, const uint8_t *pattern, size_t length, const uint8_t *behind, size_t behind_length,
                             uint8_t *buffer, size_t room, int32_t *value, size_t *needed);
 
@@ -577,6 +582,13 @@ CEDAR_INLINE uint32_t cedar_nullable_next_near(const cedar_dictionary *d, const 
     return cedar_next_near(d, query, length, two_edits, is_beginning, behind, behind_length, buffer, room, value,
                            needed ? needed : &unwanted);
 }
+CEDAR_INLINE uint32_t cedar_nullable_next_near_text(const cedar_dictionary *d, const uint8_t *query, size_t length, bool two_edits,
+                                                    bool is_beginning, const uint8_t *behind, size_t behind_length, uint8_t *buffer,
+                                                    size_t room, int32_t *value, size_t *needed) {
+    size_t unwanted = 0;
+    return cedar_next_near_text(d, query, length, two_edits, is_beginning, behind, behind_length, buffer, room, value,
+                                needed ? needed : &unwanted);
+}
 CEDAR_INLINE uint32_t cedar_nullable_next_fitting(const cedar_dictionary *d, const uint8_t *pattern, size_t length, const uint8_t *behind,
                                                   size_t behind_length, uint8_t *buffer, size_t room, int32_t *value, size_t *needed) {
     size_t unwanted = 0;
@@ -584,6 +596,7 @@ CEDAR_INLINE uint32_t cedar_nullable_next_fitting(const cedar_dictionary *d, con
 }
 #define cedar_entries_from cedar_nullable_entries_from
 #define cedar_next_near cedar_nullable_next_near
+#define cedar_next_near_text cedar_nullable_next_near_text
 #define cedar_next_fitting cedar_nullable_next_fitting
 #define cedar_best cedar_nullable_best
 #define cedar_floor cedar_nullable_floor

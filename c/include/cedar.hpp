@@ -30,8 +30,11 @@
 //       best
 //     entries_from, range, lower_bound,             CEDAR_NOT_ASCENDING if the dictionary isn't ordered; memory
 //       upper_bound, floor, ceiling, before, last,
-//       within, completions_within
-//     matching                                      the same; CEDAR_PATTERN_TOO_LONG
+//       within, completions_within, reversed,
+//       reversed_range, reversed_with_prefix,
+//       rbegin
+//     within_text, completions_within_text          the same; CEDAR_QUERY_NOT_UTF8
+//     matching                                      the same as within; CEDAR_PATTERN_TOO_LONG
 //     a step (++) of an iterator                    closed, memory; CEDAR_NOT_ASCENDING if the dictionary isn't ordered, after find or
 //                                                   after an assignment or a swap
 //     scan, segment, keywords                       what the callable throws; scan also memory
@@ -62,6 +65,7 @@
 #define ROSKVIDH_CEDAR_HPP
 
 #include "cedar_basics.hpp"
+#include "cedar_completions.hpp"
 #include "cedar_entries.hpp"
 
 #include <algorithm>
@@ -338,18 +342,29 @@ public:
     /// Returns the first entry from a key on: at it, or else behind it. upper_bound leaves the key itself out.
     std::optional<owned_entry> ceiling(std::string_view key) const { return neighbour(cedar_ceiling, key, true); }
 
-    /// Returns the entries whose keys are near a text, ascending, the first `most` of them: one edit away at most, or two. The same of the
-    /// keys that begin with what is near a text, so of the completions of one that was typed with an error. Keys below a place where none
-    /// can be near any more aren't gone over.
+    /// Returns the entries whose keys are near a text, ascending, the first `most` of them: one edit of bytes away at most, or two. The
+    /// same of the keys that begin with what is near a text, so of the completions of one that was typed with an error. Keys below a place
+    /// where none can be near any more aren't gone over.
     std::vector<owned_entry> within(std::string_view text, edits most_edits, std::size_t most = SIZE_MAX) const {
-        return wanted(near_to{text, most_edits == edits::two, false}, most);
+        return near(cedar_next_near, text, most_edits, false, most);
     }
     std::vector<owned_entry> completions_within(std::string_view prefix, edits most_edits, std::size_t most = SIZE_MAX) const {
-        return wanted(near_to{prefix, most_edits == edits::two, true}, most);
+        return near(cedar_next_near, prefix, most_edits, true, most);
+    }
+
+    /// The same by edits of characters, of a text in UTF-8: what isn't UTF-8 isn't near.
+    std::vector<owned_entry> within_text(std::string_view text, edits most_edits, std::size_t most = SIZE_MAX) const {
+        return near(cedar_next_near_text, text, most_edits, false, most);
+    }
+    std::vector<owned_entry> completions_within_text(std::string_view prefix, edits most_edits, std::size_t most = SIZE_MAX) const {
+        return near(cedar_next_near_text, prefix, most_edits, true, most);
     }
 
     /// Returns the entries whose keys fit a pattern, ascending, the first `most` of them: ? stands for any byte, and * for any bytes.
-    std::vector<owned_entry> matching(std::string_view pattern, std::size_t most = SIZE_MAX) const { return wanted(fitting{pattern}, most); }
+    std::vector<owned_entry> matching(std::string_view pattern, std::size_t most = SIZE_MAX) const {
+        const cedar_dictionary mine = inside_;
+        return is_open() ? detail::fitting(mine, pattern, most) : std::vector<owned_entry>();
+    }
 
     /// Returns a range over all keys with their values. It takes them in pages while it is gone through: so the first few cost the same in
     /// a dictionary of any size. cedar_entries.hpp says how long its keys stay, and what it shows if the dictionary changes meanwhile.
@@ -372,12 +387,29 @@ public:
     }
     roskvidh::entries range(std::string_view from, std::string_view to) const && = delete;
 
+    /// The same backwards, the last key first: over all keys, over those from `from` on and before `to`, and over those that begin with a
+    /// text. cedar_completions.hpp says what a step costs, and what is shown if the dictionary changes meanwhile.
+    reversed_entries reversed() const & { return {&inside_, {}, std::nullopt}; }
+    reversed_entries reversed() const && = delete;
+    reversed_entries reversed_range(std::string_view from, std::string_view to) const & {
+        return {&inside_, std::string(from), std::string(to)};
+    }
+    reversed_entries reversed_range(std::string_view from, std::string_view to) const && = delete;
+    reversed_entries reversed_with_prefix(std::string_view prefix) const & {
+        return {&inside_, std::string(prefix), detail::behind_prefix(prefix)};
+    }
+    reversed_entries reversed_with_prefix(std::string_view prefix) const && = delete;
+
     /// Goes through all entries: `for (const auto &[key, value] : d)`. Unlike a range, these iterators keep no page that they have left: a
     /// key's bytes stay until the next step.
     const_iterator begin() const { return const_iterator(detail::page::first({&inside_, {}, std::nullopt})); }
     const_iterator end() const noexcept { return {}; }
     const_iterator cbegin() const { return begin(); }
     const_iterator cend() const noexcept { return {}; }
+
+    /// Goes through them backwards.
+    reversed_iterator rbegin() const { return reversed().begin(); }
+    reversed_iterator rend() const noexcept { return {}; }
 
     /// Returns an iterator at a key, or end() if the key isn't held. get is cheaper where only the value is wanted.
     const_iterator find(std::string_view key) const {
@@ -495,67 +527,17 @@ private:
     struct closed {};
     explicit dictionary(closed) noexcept {}
 
-    using beside = std::uint32_t (*)(const cedar_dictionary *, const std::uint8_t *, std::size_t, bool, std::uint8_t *, std::size_t,
-                                     std::int32_t *, std::size_t *);
-
     // The entry next to a key; none in a closed dictionary.
-    std::optional<owned_entry> neighbour(beside call, std::string_view key, bool included) const {
-        if (!is_open()) return std::nullopt;
+    std::optional<owned_entry> neighbour(detail::beside_call call, std::string_view key, bool included) const {
         const cedar_dictionary mine = inside_;
-        std::string found;
-        std::int32_t value = 0;
-        std::size_t needed = 64;
-        std::uint32_t status = CEDAR_NO_ROOM;
-        while (status == CEDAR_NO_ROOM) {
-            found.resize(needed + 1); // so that data() isn't null
-            status = call(&mine, detail::bytes(key), key.size(), included, reinterpret_cast<std::uint8_t *>(found.data()), found.size(),
-                          &value, &needed);
-        }
-        detail::check(status);
-        if (needed == 0) return std::nullopt;
-        found.resize(needed);
-        return owned_entry(std::move(found), value);
+        return is_open() ? detail::neighbour(mine, call, key, included) : std::nullopt;
     }
 
-    struct near_to {
-        std::string_view text;
-        bool two_edits, is_beginning;
-        std::uint32_t operator()(const cedar_dictionary *d, std::string_view behind, std::string &found, std::int32_t *value,
-                                 std::size_t *needed) const {
-            return cedar_next_near(d, detail::bytes(text), text.size(), two_edits, is_beginning, detail::bytes(behind), behind.size(),
-                                   reinterpret_cast<std::uint8_t *>(found.data()), found.size(), value, needed);
-        }
-    };
-
-    struct fitting {
-        std::string_view pattern;
-        std::uint32_t operator()(const cedar_dictionary *d, std::string_view behind, std::string &found, std::int32_t *value,
-                                 std::size_t *needed) const {
-            return cedar_next_fitting(d, detail::bytes(pattern), pattern.size(), detail::bytes(behind), behind.size(),
-                                      reinterpret_cast<std::uint8_t *>(found.data()), found.size(), value, needed);
-        }
-    };
-
-    // The first entries that a call finds, each behind the one before it; none in a closed dictionary.
-    template <class Call> std::vector<owned_entry> wanted(const Call &next, std::size_t most) const {
-        std::vector<owned_entry> kept;
-        if (!is_open()) return kept;
+    // The entries that are near a text; none in a closed dictionary.
+    std::vector<owned_entry> near(detail::near_call call, std::string_view text, edits most_edits, bool is_beginning,
+                                  std::size_t most) const {
         const cedar_dictionary mine = inside_;
-        std::string behind, found(64, '\0');
-        while (kept.size() < most) {
-            std::int32_t value = 0;
-            std::size_t needed = 0;
-            const std::uint32_t status = next(&mine, behind, found, &value, &needed);
-            if (status == CEDAR_NO_ROOM) {
-                found.resize(needed);
-                continue;
-            }
-            detail::check(status);
-            if (needed == 0) break;
-            behind.assign(found, 0, needed);
-            kept.emplace_back(behind, value);
-        }
-        return kept;
+        return is_open() ? detail::near(mine, call, text, most_edits, is_beginning, most) : std::vector<owned_entry>();
     }
 
     std::shared_ptr<detail::page> first_behind(std::string_view key, std::optional<std::string> end, bool is_within) const {

@@ -179,6 +179,7 @@ typedef struct Pages {
 typedef struct Wanted {
     Span query;
     int is_pattern;
+    bool is_text; /* near by characters */
     int two_edits;
     int is_beginning; /* those that begin with what is near */
 } Wanted;

@@ -268,19 +268,25 @@ uint32_t gather_neighbour(const cedar *dictionary, const Span *key, bool include
     return status;
 }
 
+/* Makes the call that finds the first key behind another one that is wanted. */
+static uint32_t next_wanted(const cedar *dictionary, const Wanted *wanted, const Span *behind, Gathered *found, int32_t *value, size_t *needed) {
+    const Span *query = &wanted->query;
+    if (wanted->is_pattern) {
+        return cedar_next_fitting(dictionary, query->at, query->length, behind->at, behind->length, found->bytes, found->room, value, needed);
+    }
+    return (wanted->is_text ? cedar_next_near_text : cedar_next_near)(dictionary, query->at, query->length, wanted->two_edits,
+                                                                       wanted->is_beginning, behind->at, behind->length, found->bytes,
+                                                                       found->room, value, needed);
+}
+
 /* The first key behind another one that is wanted, if there is one. Returns a status. */
 uint32_t gather_wanted(const cedar *dictionary, const Wanted *wanted, const Span *behind, Gathered *found) {
-    const Span *query = &wanted->query;
     int32_t value = 0;
     size_t needed = FIRST_ROOM;
     uint32_t status = CEDAR_NO_ROOM;
     while (status == CEDAR_NO_ROOM) {
         if (!bytes_room(found, needed) || !found_room(found, 1)) return CEDAR_MEMORY;
-        status = wanted->is_pattern
-                     ? cedar_next_fitting(dictionary, query->at, query->length, behind->at, behind->length, found->bytes, found->room, &value,
-                                          &needed)
-                     : cedar_next_near(dictionary, query->at, query->length, wanted->two_edits, wanted->is_beginning, behind->at,
-                                       behind->length, found->bytes, found->room, &value, &needed);
+        status = next_wanted(dictionary, wanted, behind, found, &value, &needed);
     }
     take_one(found, status, needed, value);
     return status;

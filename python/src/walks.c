@@ -386,6 +386,7 @@ PyObject *core_next_wanted(Core *core, PyObject *arguments) {
     Gathered found = {0};
     if (!PyArg_ParseTuple(arguments, "OpppO", &query, &wanted.is_pattern, &wanted.two_edits, &wanted.is_beginning, &given)) return NULL;
     if (span_take(core, query, &wanted.query) < 0) return NULL;
+    wanted.is_text = core->is_text;
     int taken = given == Py_None ? 0 : span_take(core, given, &behind);
     if (taken == 0 && begin_below(core, READS, NULL, &turn) == 0) {
         uint32_t status = gather_wanted(turn.dictionary, &wanted, &behind, &found);

@@ -73,6 +73,7 @@ constexpr bool has_entries<Dictionary, std::void_t<decltype(std::declval<Diction
 static_assert(has_entries<dictionary &> && has_entries<const dictionary &> && !has_entries<dictionary> && !has_entries<const dictionary>);
 #if __cplusplus >= 202002L && defined(__cpp_lib_ranges)
 static_assert(std::forward_iterator<Iterator> && std::ranges::forward_range<roskvidh::entries>);
+static_assert(std::input_iterator<roskvidh::reversed_iterator> && std::ranges::input_range<roskvidh::reversed_entries>);
 #endif
 
 // Checks that a call is refused with this status.
@@ -199,6 +200,41 @@ void changes_at_random(layout kind) {
         }
         CHECK(stays.empty() && listed(range) == shown && listed(d.entries()) == Pairs(plain.begin(), plain.end()));
     }
+}
+
+// Ranges backwards beside a map: all, those between two keys, and those of a prefix, also if what is shown is erased meanwhile.
+void backwards(layout kind) {
+    for (int round = 0; round < 60; ++round) {
+        dictionary d(kind);
+        Plain plain;
+        for (int i = 0; i < 300; ++i) plain[short_key()] = i;
+        d.update_all(plain);
+        CHECK(listed(d.reversed()) == Pairs(plain.rbegin(), plain.rend()) && std::distance(d.rbegin(), d.rend()) == static_cast<std::ptrdiff_t>(d.size()));
+        const std::string from = short_key(), to = short_key(), prefix = from.substr(0, 1);
+        Pairs some = listed(d.range(from, to)), with_prefix = below(plain, prefix);
+        std::reverse(some.begin(), some.end());
+        std::reverse(with_prefix.begin(), with_prefix.end());
+        CHECK(listed(d.reversed_range(from, to)) == some && d.reversed_range(from, to).empty() == some.empty());
+        CHECK(listed(d.reversed_with_prefix(prefix)) == with_prefix);
+        const roskvidh::reversed_entries range = d.reversed();
+        auto at = range.begin(), copy = at;
+        Pairs shown;
+        for (; at != range.end(); ++at) {
+            shown.emplace_back(at->key, at->value);
+            CHECK(d.erase((*at).key) && (shown.size() == 1 || shown.back() < shown[shown.size() - 2]));
+        }
+        CHECK(shown == Pairs(plain.rbegin(), plain.rend()) && d.empty() && copy->key == shown[0].first && ++copy == range.end() && d.reversed().empty());
+    }
+    dictionary d(kind);
+    d.update("\xff\xff", 1);
+    d.update("\xff", 2);
+    d.update("a", 3);
+    CHECK(listed(d.reversed_with_prefix("\xff")) == Pairs({{"\xff\xff", 1}, {"\xff", 2}}) && d.reversed_with_prefix("b").empty());
+    dictionary unordered(kind, false);
+    unordered.update("a", 1);
+    refused(CEDAR_NOT_ASCENDING, [&] { (void)unordered.reversed(); });
+    dictionary moved = std::move(d);
+    CHECK(d.reversed().empty() && listed(moved.reversed()).size() == 3);
 }
 
 // A dictionary that is assigned to or swapped: what was shown stays, and the next page is of what it holds then.
@@ -364,6 +400,7 @@ int main() {
         changes_meanwhile(kind);
         changes_at_random(kind);
         another_content(kind);
+        backwards(kind);
     }
     copies();
     lifetimes();

@@ -174,7 +174,7 @@ static void pages(void) {
     CHECK(cedar_entries_below(&d, net, 3, (const uint8_t *)"neta", 4, found, 2, bytes, 6, &count, &needed) == CEDAR_NO_ROOM && needed == 7);
     left = 1;
     CHECK(cedar_entries_below(&d, net, 3, (const uint8_t *)"netx", 4, found, 2, bytes, 3, &count, &needed) == CEDAR_OK && count == 0 && needed == 0);
-    for (int call = 0; call < 3; call++) {
+    for (int call = 0; call < 4; call++) {
         uint32_t status = CEDAR_MEMORY;
         int32_t value = 5;
         for (int refused = 0; status == CEDAR_MEMORY; refused++) {
@@ -182,7 +182,8 @@ static void pages(void) {
             left = refused;
             status = call == 0   ? cedar_best(&d, net, 3, false, found, 2, bytes, 8, &count, &needed)
                      : call == 1 ? cedar_floor(&d, (const uint8_t *)"neu", 3, true, bytes, 8, &value, &needed)
-                                 : cedar_ceiling(&d, (const uint8_t *)"neta", 4, true, bytes, 8, &value, &needed);
+                     : call == 2 ? cedar_ceiling(&d, (const uint8_t *)"neta", 4, true, bytes, 8, &value, &needed)
+                                 : cedar_next_near_text(&d, (const uint8_t *)"netw\xc3\xb6rk", 8, false, false, NULL, 0, bytes, 8, &value, &needed);
             left = -1;
             CHECK(refused > 0 || status == CEDAR_MEMORY);
             CHECK(status == CEDAR_MEMORY ? count == 77 && needed == 77 && value == 5 : call == 0 ? status == CEDAR_NO_ROOM && needed == 10 : value == 2 && needed == 7);

@@ -63,7 +63,8 @@ void lacks_memory(const std::function<void()> &call) {
 }
 
 // What a range shows: the same each time.
-Pairs listed(const roskvidh::entries &range) {
+template <class Range>
+Pairs listed(const Range &range) {
     Pairs pairs;
     for (const auto &[key, value] : range) pairs.emplace_back(key, value);
     CHECK(std::equal(range.begin(), range.end(), pairs.begin(), pairs.end(),
@@ -175,6 +176,12 @@ void each_member(layout kind) {
     CHECK(keys_of(d.within("nat", edits::two)) == Pairs({{"net", 7}, {"new", 2}, {"no", CEDAR_MAX_VALUE}}));
     CHECK(keys_of(d.completions_within("nat", edits::one)) == Pairs({{"net", 7}, {"network", 8}}) && d.completions_within("nat", edits::one, 1).size() == 1);
     CHECK(keys_of(d.matching("n*")) == all && keys_of(d.matching("?e?")) == Pairs({{"net", 7}, {"new", 2}}) && d.matching("n*", 2).size() == 2);
+    CHECK(keys_of(d.within_text("n\xc3\xa4t", edits::one)) == Pairs({{"net", 7}}) && d.within("n\xc3\xa4t", edits::one).empty());
+    CHECK(keys_of(d.completions_within_text("n\xc3\xa4t", edits::one)) == Pairs({{"net", 7}, {"network", 8}}));
+    refused(CEDAR_QUERY_NOT_UTF8, {}, "the query is not UTF-8", [&] { (void)d.within_text("n\xc3", edits::one); });
+    CHECK(listed(d.reversed()) == Pairs(all.rbegin(), all.rend()) && d.rbegin()->key == "no" && std::next(d.rbegin(), 4) == d.rend());
+    CHECK(listed(d.reversed_range("net", "new")) == Pairs({{"network", 8}, {"net", 7}}) && d.reversed_range("a", "b").empty());
+    CHECK(listed(d.reversed_with_prefix("ne")) == Pairs({{"new", 2}, {"network", 8}, {"net", 7}}) && d.reversed_range("a", "").empty());
     const auto longest = d.longest_match("networks");
     CHECK(longest && longest->value == 8 && longest->length == 7 && !d.longest_match("ten"));
     CHECK(scanned(d, "no network") == Tokens({{0, 2, CEDAR_MAX_VALUE}, {3, 3, 7}, {3, 7, 8}}) && scanned(d, "").empty());

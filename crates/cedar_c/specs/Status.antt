@@ -3,7 +3,7 @@ use Rattle.std.specs.Prelude.{◌≡◌, ◌⊎◌, ℕ, List, [], ◌∷◌, �
 use Rattle.cedar_c.specs.declared.status.TheConstants.{OK, CLOSED, MEMORY, SLOT_LIMIT, EMPTY_KEY}
 use Rattle.cedar_c.specs.declared.status.TheConstants.{NUL_BYTE, INVALID_VALUE, INVALID_MAX_TRIAL}
 use Rattle.cedar_c.specs.declared.status.TheConstants.{DUPLICATE_KEY, KEYS_NOT_SORTED, NO_ROOM}
-use Rattle.cedar_c.specs.declared.status.TheConstants.{NOT_ASCENDING, PATTERN_TOO_LONG}
+use Rattle.cedar_c.specs.declared.status.TheConstants.{NOT_ASCENDING, PATTERN_TOO_LONG, QUERY_NOT_UTF8}
 use Rattle.cedar_c.specs.declared.status.TheConstants.{FILE_TRUNCATED, FILE_MAGIC}
 use Rattle.cedar_c.specs.declared.status.TheConstants.{FILE_VERSION, FILE_BYTE_ORDER, FILE_LAYOUT}
 use Rattle.cedar_c.specs.declared.status.TheConstants.{FILE_HEADER, FILE_MEMORY_LIMIT, FILE_CORRUPT}
@@ -67,6 +67,7 @@ texts_by_status =
     ∷ (NOT_ASCENDING, codes "the labels of the dictionary do not ascend")
     ∷ (PATTERN_TOO_LONG, codes "the pattern has more than 63 bytes")
     ∷ (UNKNOWN_SEARCH, codes "there is no such search")
+    ∷ (QUERY_NOT_UTF8, codes "the query is not UTF-8")
     ∷ (FILE_TRUNCATED, codes "serialized cedar trie is truncated")
     ∷ (FILE_MAGIC, codes "input is not a cedarwood serialized trie")
     ∷ (FILE_VERSION, codes "unsupported cedarwood format version")

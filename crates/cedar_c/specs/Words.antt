@@ -1,5 +1,6 @@
 -- The words of clauses, from one place.
 pub use Rattle.best_few.specs.Orders.{found_entry}
+pub use Rattle.byte_automata.specs.Characters.{are_near, characters_of}
 pub use Rattle.byte_automata.specs.Distances.{is_near}
 pub use Rattle.cedar_complete.specs.Ends.{IsHeadOf}
 pub use Rattle.cedarwood.specs.Sorted.{entries_of}
@@ -28,8 +29,8 @@ pub use Rattle.cedar_c.specs.Layouts.{HasToGrow, inner_dictionary, inner_layout,
 pub use Rattle.cedar_c.specs.Lending.{as_shown, LendsCedar, LendsSeen}
 pub use Rattle.cedar_c.specs.Matches.{all_longer, filled_from, filled_matches, Fit, front_keys}
 pub use Rattle.cedar_c.specs.Matches.{longer, match_of, predicted_keys}
-pub use Rattle.cedar_c.specs.Matching.{edits_if, is_wanted_near, TellsFitting, TellsWanted}
-pub use Rattle.cedar_c.specs.Matching.{wanted_behind}
+pub use Rattle.cedar_c.specs.Matching.{edits_if, is_wanted_near, is_wanted_text, TellsFitting}
+pub use Rattle.cedar_c.specs.Matching.{TellsNearText, TellsWanted, wanted_behind}
 pub use Rattle.cedar_c.specs.Opens.{BuildsOrLacks, OpensBuilt, OpensLoaded, OpensNew}
 pub use Rattle.cedar_c.specs.Pairs.{build_fault, entries_in, IsBuildShortage, keys_in, named_keys}
 pub use Rattle.cedar_c.specs.Pairs.{StoresFront, StoresPart, taken_pair}
@@ -93,3 +94,4 @@ pub use Rattle.std.specs.Cmp.Lexicographic.{slice_cmp}
 pub use Rattle.std.specs.List.{starts_with}
 pub use Rattle.std.specs.Ordering.{is_lt, nat_cmp}
 pub use Rattle.std.specs.Range.Bound.{bound_map}
+pub use Rattle.std.specs.Str.{chars, IsUtf8}

@@ -217,7 +217,8 @@ pub extern "C" fn cedar_get(handle: &mut Reading, key: &[u8], value: &mut i32) -
     //  cedar_used_slots, cedar_capacity, cedar_spare_blocks, cedar_search_limit, cedar_is_reduced, cedar_prefixes, cedar_predictions,
     //  cedar_prefixes_from, cedar_predictions_from, cedar_scan, cedar_segment, cedar_keywords, cedar_cheapest, cedar_cheapest_by, cedar_save,
     //  cedar_keys, cedar_contains, cedar_longest_prefix, cedar_clone, cedar_entries_from, cedar_entries_below, cedar_first_predictions,
-    //  cedar_best, cedar_floor, cedar_ceiling, cedar_next_near, cedar_next_fitting, cedar_scanner_longest, cedar_scanner_find]
+    //  cedar_best, cedar_floor, cedar_ceiling, cedar_next_near, cedar_next_near_text, cedar_next_fitting, cedar_scanner_longest,
+    //  cedar_scanner_find]
     ensures kept { handle.new ≡ handle.old }
 {
     if !handle.is_open() {

@@ -24,6 +24,7 @@ mod keywords;
 mod loose;
 mod matching;
 mod models;
+mod near_texts;
 mod neighbours;
 mod pages;
 mod pairs;

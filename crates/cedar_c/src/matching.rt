@@ -31,7 +31,7 @@ fn next_wanted<L: Layout, const SLOTS: usize, M: Automaton>(
 }
 
 /// Writes the first entry behind a key that an automaton accepts.
-fn tell_wanted<L: Layout, const SLOTS: usize, M: Automaton>(
+pub(crate) fn tell_wanted<L: Layout, const SLOTS: usize, M: Automaton>(
     trie: &Trie<L, SLOTS, Global>,
     alloc: Global,
     wanted: &M,

@@ -173,7 +173,7 @@ pub extern "C" fn cedar_floor(
     //  [by floor, TellsNeighbour, entries_upto, IsLastOf]
     //= It is refused exactly if the handle is closed, with `NOT_ASCENDING` if labels don't ascend, with `NO_ROOM` if its key has more bytes
     //  than there is room for, and otherwise with `MEMORY`. Then nothing else is written. [with closed, closed_stays; also cedar_ceiling,
-    //  cedar_next_near, cedar_next_fitting]
+    //  cedar_next_near, cedar_next_near_text, cedar_next_fitting]
     ensures floor { IfSome (shown_in handle.old) (λ a. TellsNeighbour (inner_dictionary a).state (IsLastOf (entries_upto (inner_dictionary a).state.tree (bound_if is_included key.now))) buffer.old buffer.new value.old value.new needed.old needed.new result) }
     ensures closed_stays { result ≡ CLOSED → (buffer.new ≡ buffer.old) × (value.new ≡ value.old) × (needed.new ≡ needed.old) }
     ensures kept { handle.new ≡ handle.old }

@@ -47,8 +47,12 @@ pub(crate) const NOT_ASCENDING: u32 = 12;
 
 /// The pattern has more bytes than a pattern may have.
 pub(crate) const PATTERN_TOO_LONG: u32 = 13;
+
 /// No search has the number.
 pub(crate) const UNKNOWN_SEARCH: u32 = 14;
+
+/// The query isn't UTF-8.
+pub(crate) const QUERY_NOT_UTF8: u32 = 15;
 
 /// The file ends too early.
 pub(crate) const FILE_TRUNCATED: u32 = 20;
@@ -173,6 +177,7 @@ fn text_of(status: u32) -> &'static str
         NOT_ASCENDING => "the labels of the dictionary do not ascend",
         PATTERN_TOO_LONG => "the pattern has more than 63 bytes",
         UNKNOWN_SEARCH => "there is no such search",
+        QUERY_NOT_UTF8 => "the query is not UTF-8",
         FILE_TRUNCATED => "serialized cedar trie is truncated",
         FILE_MAGIC => "input is not a cedarwood serialized trie",
         FILE_VERSION => "unsupported cedarwood format version",

@@ -42,6 +42,7 @@ use Rattle.cedar_calls.specs.declared.call.Question.TheVariants as question
 use Rattle.cedar_calls.specs.declared.answer.Answer.{Answer}
 use Rattle.cedar_calls.specs.declared.answer.Answer.TheVariants as answer
 use Rattle.cedar_calls.proofs.BufferLemmas.{buffer_alike}
+use Rattle.cedar_calls.proofs.CompletionLemmas.{completion_alike}
 use Rattle.cedar_calls.proofs.InTextLemmas.{text_alike}
 use Rattle.cedar_calls.proofs.PlainRunLemmas.{step_goes}
 
@@ -94,6 +95,7 @@ reply_alike b s (question.Range k l) (question.Range x y) h =
 reply_alike b s (question.CountPrefix k) (question.CountPrefix l) h = ap (λ x. counted (length (entries_with s.tree x))) h
 reply_alike b s (question.InBuffer q) (question.InBuffer r) h = buffer_alike s.tree q r h
 reply_alike b s (question.InText k q) (question.InText l r) h = ap (λ x. text_says s.tree x q) h.0 ∙ text_alike s.tree l.now q r h.1
+reply_alike b s (question.Complete q) (question.Complete r) h = completion_alike s q r h
 reply_alike b s question.Len question.Len h = refl
 reply_alike b s (question.Figure f) (question.Figure g) h = ap (λ x. reply_says b s (question.Figure x)) h
 reply_alike b s question.IsEmpty question.IsEmpty h = refl

@@ -6,6 +6,7 @@ mod RunLemmas
 mod BufferLemmas
 mod FewCutsLemmas
 mod InTextLemmas
+mod CompletionLemmas
 mod PlainLemmas
 mod PlainRunLemmas
 mod KeyLemmas

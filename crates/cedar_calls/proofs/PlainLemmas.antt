@@ -31,6 +31,7 @@ use Rattle.cedar_calls.specs.declared.answer.Reply.{Reply}
 use Rattle.cedar_calls.specs.declared.answer.Reply.TheVariants as reply
 use Rattle.cedar_calls.proofs.BufferLemmas.{buffer_goes}
 use Rattle.cedar_calls.proofs.CollectLemmas.{short}
+use Rattle.cedar_calls.proofs.CompletionLemmas.{completion_goes}
 use Rattle.cedar_calls.proofs.InTextLemmas.{text_goes}
 use Rattle.cedar_calls.proofs.TextLemmas.{texts_are}
 
@@ -212,6 +213,7 @@ reply_goes b layout slots d (question.Range from to) (reply.Range (Err e)) k h m
 reply_goes b layout slots d (question.CountPrefix prefix) (reply.Count n) k h met = ap counted h
 reply_goes b layout slots d (question.InBuffer q) (reply.InBuffer a) k h met = buffer_goes d.state.tree q a h met
 reply_goes b layout slots d (question.InText text q) (reply.InText a) k h met = text_goes d.state.tree text.now q a h met
+reply_goes b layout slots d (question.Complete q) (reply.Completed a) k h met = completion_goes d.state q a h met
 reply_goes b layout slots d question.Len (reply.Len n) k h met = ap counted h
 reply_goes b layout slots d (question.Figure UsedSlots) (reply.Figure n) k h met = ap slots_held_of_tree (same_use b layout n (slots_of_tree d.state.tree) k h.1)
 reply_goes b layout slots d (question.Figure Capacity) (reply.Figure n) k h met = refl

@@ -4,6 +4,7 @@ use Rattle.std.specs.List.{AllByRecursion}
 use Rattle.cedarwood.specs.Words.{entries_of, keys_of}
 use Rattle.cedarwood.specs.Layouts.{LayoutKind, default_layout}
 use Rattle.cedarwood.specs.Dictionary.{Dictionary}
+use Rattle.cedar_calls.specs.Completions.{AreSameEnds}
 use Rattle.cedar_calls.specs.Plain.{plain_answers, states_of, IsLoadless, IsMet}
 use Rattle.cedar_calls.specs.Runs.{IsRun}
 use Rattle.cedar_calls.specs.declared.call.Call.{Call}
@@ -14,6 +15,8 @@ use Rattle.cedar_calls.specs.declared.call.Question.{Question}
 use Rattle.cedar_calls.specs.declared.call.Question.TheVariants as question
 use Rattle.cedar_calls.specs.declared.call.BufferQuery.{BufferQuery}
 use Rattle.cedar_calls.specs.declared.call.BufferQuery.TheVariants as buffer_query
+use Rattle.cedar_calls.specs.declared.call.CompletionQuery.{CompletionQuery}
+use Rattle.cedar_calls.specs.declared.call.CompletionQuery.TheVariants as completion_query
 use Rattle.cedar_calls.specs.declared.call.TextQuery.{TextQuery}
 use Rattle.cedar_calls.specs.declared.call.TextQuery.TheVariants as text_query
 use Rattle.cedar_calls.specs.declared.model.ModelTables.{ModelTables}
@@ -55,6 +58,16 @@ IsSameTextQuery (text_query.CheapestCuts m most) (text_query.CheapestCuts n othe
 IsSameTextQuery (text_query.Lattice m) (text_query.Lattice n) = AreSameTables m n
 IsSameTextQuery q r = q ≡ r
 
+-- the same question about completions, wherever its bytes lie
+abbrev pub IsSameCompletionQuery : CompletionQuery → CompletionQuery → Type 0
+IsSameCompletionQuery (completion_query.Best k m o) (completion_query.Best l n p) = (k.now ≡ l.now) × (m ≡ n) × (o ≡ p)
+IsSameCompletionQuery (completion_query.InRange m) (completion_query.InRange n) = AreSameEnds m n
+IsSameCompletionQuery (completion_query.FirstIn m) (completion_query.FirstIn n) = AreSameEnds m n
+IsSameCompletionQuery (completion_query.LastIn m) (completion_query.LastIn n) = AreSameEnds m n
+IsSameCompletionQuery (completion_query.Near k t b) (completion_query.Near l u c) = (k.now ≡ l.now) × (t ≡ u) × (b ≡ c)
+IsSameCompletionQuery (completion_query.Fitting k) (completion_query.Fitting l) = k.now ≡ l.now
+IsSameCompletionQuery q r = ⊥
+
 -- two questions are the same, wherever their bytes lie
 abbrev pub IsSameQuestion : Question → Question → Type 0
 IsSameQuestion (question.Exact k) (question.Exact l) = k.now ≡ l.now
@@ -74,6 +87,7 @@ IsSameQuestion (question.Range a b) (question.Range c d) = (a.now ≡ c.now) × 
 IsSameQuestion (question.CountPrefix k) (question.CountPrefix l) = k.now ≡ l.now
 IsSameQuestion (question.InBuffer q) (question.InBuffer r) = IsSameBufferQuery q r
 IsSameQuestion (question.InText k q) (question.InText l r) = (k.now ≡ l.now) × IsSameTextQuery q r
+IsSameQuestion (question.Complete q) (question.Complete r) = IsSameCompletionQuery q r
 IsSameQuestion question.Len question.Len = Unit {0}
 IsSameQuestion (question.Figure f) (question.Figure g) = f ≡ g
 IsSameQuestion question.IsEmpty question.IsEmpty = Unit {0}

@@ -1,6 +1,7 @@
 pub mod Making
 pub mod Changes
 pub mod Texts
+pub mod Completions
 pub mod Replies
 pub mod Runs
 pub mod Plain

@@ -1,5 +1,5 @@
 -- What runs return as far as trees go: places, bytes and settings but the order have no part in it.
-use Rattle.std.specs.Prelude.{◌≡◌, Bool, true, false, ℕ, ℤ, List, [], ◌∷◌, ◌++◌, ◌+◌, drop, length, map}
+use Rattle.std.specs.Prelude.{◌≡◌, Bool, true, false, ℕ, ℤ, List, [], ◌∷◌, ◌++◌, ◌+◌, drop, filter, length, map, nat_lt}
 use Rattle.std.specs.Prelude.{slice_get, slice_set, Option, option_map, Some, None, is_some}
 use Rattle.std.specs.Prelude.{string_bytes, if◌then◌else◌, Result, Ok, Err, unsigned_abs}
 use Rattle.std.specs.List.{AllByRecursion, remove}
@@ -29,6 +29,11 @@ use Rattle.cedar_words.specs.Runs.{cost_in_table}
 use Rattle.cedar_words.specs.Words.{byte_run, character_price, edges_from}
 use Rattle.cedar_words.specs.Words.{keywords_from, keywords_in, lists_of, longest}
 use Rattle.cedar_words.specs.Words.{segments, Spot, spots_from, Token, tokens_behind}
+use Rattle.best_few.specs.Orders.{best, found_entry}
+use Rattle.byte_automata.specs.Patterns.{fits}
+use Rattle.last_entries.specs.Nearness.{entry_told}
+use Rattle.cedar_calls.specs.Completions.{edits_counted, entries_between_ends, first_of_list}
+use Rattle.cedar_calls.specs.Completions.{if_ascending, is_close, last_of_list}
 use Rattle.cedar_calls.specs.Replies.{in_order}
 use Rattle.cedar_calls.specs.Runs.{IsRun}
 use Rattle.cedar_calls.specs.Texts.{model_cut_of, model_cuts_of, run_in_table}
@@ -41,6 +46,8 @@ use Rattle.cedar_calls.specs.declared.call.Question.{Question}
 use Rattle.cedar_calls.specs.declared.call.Question.TheVariants as question
 use Rattle.cedar_calls.specs.declared.call.BufferQuery.{BufferQuery}
 use Rattle.cedar_calls.specs.declared.call.BufferQuery.TheVariants as buffer_query
+use Rattle.cedar_calls.specs.declared.call.CompletionQuery.{CompletionQuery}
+use Rattle.cedar_calls.specs.declared.call.CompletionQuery.TheVariants as completion_query
 use Rattle.cedar_calls.specs.declared.call.TextQuery.{TextQuery}
 use Rattle.cedar_calls.specs.declared.call.TextQuery.TheVariants as text_query
 use Rattle.cedar_calls.specs.declared.answer.Answer.{Answer}
@@ -51,6 +58,8 @@ use Rattle.cedar_calls.specs.declared.answer.Reply.{Reply}
 use Rattle.cedar_calls.specs.declared.answer.Reply.TheVariants as reply
 use Rattle.cedar_calls.specs.declared.answer.BufferReply.{BufferReply}
 use Rattle.cedar_calls.specs.declared.answer.BufferReply.TheVariants as buffer_reply
+use Rattle.cedar_calls.specs.declared.answer.CompletionReply.{CompletionReply}
+use Rattle.cedar_calls.specs.declared.answer.CompletionReply.TheVariants as completion_reply
 use Rattle.cedar_calls.specs.declared.answer.TextReply.{TextReply}
 use Rattle.cedar_calls.specs.declared.answer.TextReply.TheVariants as text_reply
 
@@ -71,6 +80,9 @@ pub data PlainAnswer : Type 0 where
   walked : List Entry → PlainAnswer
   selected : Option (List Entry) → PlainAnswer
   ended : Option Entry → PlainAnswer
+  selected_end : Option (Option Entry) → PlainAnswer
+  -- a pattern that is too long
+  unfit : PlainAnswer
   worded : List (Option Entry) → PlainAnswer
   cut_into : List Token → PlainAnswer
   cut_in_turn : List (List Token) → PlainAnswer
@@ -124,6 +136,14 @@ plain_buffer_reply buffer_reply.NoBuffer = refused Memory
 plain_buffer_reply (buffer_reply.End result) = plain_result (λ o. ended (option_map (λ e. (e.0.items, e.1)) o)) result
 plain_buffer_reply (buffer_reply.Entries result) = plain_result (λ v. walked (map (λ e. (e.0.items, e.1)) v.items)) result
 
+-- what a question about completions returned
+abbrev pub plain_completion_reply : {A : Type 0} → CompletionReply A → PlainAnswer
+plain_completion_reply (completion_reply.Best result) = plain_result (λ v. walked (map found_entry v.items)) result
+plain_completion_reply (completion_reply.Range result) = plain_result (λ o. selected (option_map (λ v. map (λ e. (e.0.items, e.1)) v.items) o)) result
+plain_completion_reply (completion_reply.End result) = plain_result (λ o. selected_end (option_map entry_told o)) result
+plain_completion_reply (completion_reply.Wanted result) = plain_result (λ v. walked (map (λ e. (e.0.items, e.1)) v.items)) result
+plain_completion_reply completion_reply.PatternTooLong = unfit
+
 -- what a question about a text returned
 abbrev pub plain_text_reply : {A : Type 0} → TextReply A → PlainAnswer
 plain_text_reply (text_reply.Longest result) = found result
@@ -148,6 +168,7 @@ plain_reply by_default q (reply.End result) = plain_result (λ o. ended (option_
 plain_reply by_default q (reply.TextEntries result) = plain_result (λ v. worded (map (option_map (λ e. (string_bytes e.0, e.1))) v.items)) result
 plain_reply by_default q (reply.InBuffer result) = plain_buffer_reply result
 plain_reply by_default q (reply.InText result) = plain_text_reply result
+plain_reply by_default q (reply.Completed result) = plain_completion_reply result
 plain_reply by_default q (reply.Len n) = counted n
 plain_reply by_default q (reply.Count n) = counted n
 plain_reply by_default q (reply.Figure n) = plain_figure by_default q n
@@ -266,6 +287,15 @@ buffer_says tree (buffer_query.Last room) = ended (last_entry tree)
 buffer_says tree (buffer_query.EntriesWith prefix room) = walked (entries_with tree prefix.now)
 buffer_says tree (buffer_query.ByCursor prefix) = walked (entries_with tree prefix.now)
 
+-- what a question about completions returns
+abbrev pub completion_says : State → CompletionQuery → PlainAnswer
+completion_says s (completion_query.Best prefix most order) = walked (best order most (entries_with s.tree prefix.now))
+completion_says s (completion_query.InRange ends) = selected (if_ascending s.ordered (entries_between_ends s.tree ends))
+completion_says s (completion_query.FirstIn ends) = selected_end (if_ascending s.ordered (first_of_list (entries_between_ends s.tree ends)))
+completion_says s (completion_query.LastIn ends) = selected_end (if_ascending s.ordered (last_of_list (entries_between_ends s.tree ends)))
+completion_says s (completion_query.Near text two_edits is_beginning) = walked (filter (λ e. is_close is_beginning (edits_counted two_edits) text.now e.0) (walk s.tree))
+completion_says s (completion_query.Fitting pattern) = if nat_lt 63 (length pattern.now) then unfit else walked (filter (λ e. fits pattern.now e.0) (walk s.tree))
+
 -- what a question about a text returns
 abbrev pub text_says : Tree → List ℕ → TextQuery → PlainAnswer
 text_says tree text text_query.LongestPrefix = found (longest tree text)
@@ -305,6 +335,7 @@ reply_says by_default s (question.Range from to) = selected (in_order s.ordered 
 reply_says by_default s (question.CountPrefix prefix) = counted (length (entries_with s.tree prefix.now))
 reply_says by_default s (question.InBuffer q) = buffer_says s.tree q
 reply_says by_default s (question.InText text q) = text_says s.tree text.now q
+reply_says by_default s (question.Complete q) = completion_says s q
 reply_says by_default s question.Len = counted (length (walk s.tree))
 reply_says by_default s (question.Figure UsedSlots) = slots_held_of_tree (comparable_count by_default (slots_of_tree s.tree))
 reply_says by_default s question.IsEmpty = held (is_none_left (walk s.tree))

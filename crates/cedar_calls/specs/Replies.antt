@@ -1,8 +1,9 @@
 -- What a question to a dictionary returns.
-use Rattle.std.specs.Prelude.{◌≡◌, Bool, true, false, ℕ, ℤ, ◌+◌, ◌-◌, ◌*◌, ◌/◌, ◌<◌, List, [], ◌∷◌}
-use Rattle.std.specs.Prelude.{drop, length, map, Option, option_map, Some, None, is_some, IsTrue, ◌↔◌}
+use Rattle.std.specs.Prelude.{◌≡◌, Bool, true, false, ℕ, ℤ, ◌+◌, ◌-◌, ◌*◌, ◌/◌, ◌<◌, ◌≤◌, List, [], ◌∷◌}
+use Rattle.std.specs.Prelude.{drop, filter, length, map, Option, option_map, Some, None, is_some, IsTrue, ◌↔◌}
 use Rattle.std.specs.Prelude.{IfSome, MatchResult, Result, string_bytes, Vec}
 use Rattle.std.specs.Str.{IsUtf8}
+use Rattle.cedarwood.specs.State.{State}
 use Rattle.cedarwood.specs.Tree.{number_at, Tree}
 use Rattle.cedarwood.specs.Queries.{Entry, exact, front, predict, slots_of_tree, walk}
 use Rattle.cedarwood.specs.declared.error.CedarError.{CedarError}
@@ -23,14 +24,23 @@ use Rattle.cedar_calls.specs.declared.call.Question.{Question}
 use Rattle.cedar_calls.specs.declared.call.Question.TheVariants as question
 use Rattle.cedar_calls.specs.declared.call.BufferQuery.{BufferQuery}
 use Rattle.cedar_calls.specs.declared.call.BufferQuery.TheVariants as buffer_query
+use Rattle.cedar_calls.specs.declared.call.CompletionQuery.{CompletionQuery}
+use Rattle.cedar_calls.specs.declared.call.CompletionQuery.TheVariants as completion_query
 use Rattle.cedar_calls.specs.declared.call.TextQuery.{TextQuery}
 use Rattle.cedar_calls.specs.declared.call.TextQuery.TheVariants as text_query
 use Rattle.cedar_calls.specs.declared.answer.Reply.{Reply}
 use Rattle.cedar_calls.specs.declared.answer.Reply.TheVariants as reply
 use Rattle.cedar_calls.specs.declared.answer.BufferReply.{BufferReply}
 use Rattle.cedar_calls.specs.declared.answer.BufferReply.TheVariants as buffer_reply
+use Rattle.cedar_calls.specs.declared.answer.CompletionReply.{CompletionReply}
+use Rattle.cedar_calls.specs.declared.answer.CompletionReply.TheVariants as completion_reply
 use Rattle.cedar_calls.specs.declared.answer.TextReply.{TextReply}
 use Rattle.cedar_calls.specs.declared.answer.TextReply.TheVariants as text_reply
+use Rattle.best_few.specs.Orders.{best, found_entry}
+use Rattle.byte_automata.specs.Patterns.{fits}
+use Rattle.last_entries.specs.Nearness.{entry_told}
+use Rattle.cedar_calls.specs.Completions.{edits_counted, entries_between_ends, first_of_list}
+use Rattle.cedar_calls.specs.Completions.{if_ascending, is_close, last_of_list}
 use Rattle.cedar_calls.specs.Texts.{IsCheapCut, run_in_table}
 use Rattle.cedar_scan.specs.Words.{earliest, leftmost, overlapping}
 use Rattle.cedar_words.specs.Runs.{cost_in_table}
@@ -106,6 +116,30 @@ IsBufferReply tree (buffer_query.ByCursor prefix) (buffer_reply.Entries result) 
     CollectsSome result (λ found. map (λ e. (e.0.items, e.1)) found.items ≡ entries_with tree prefix.now) (entries_with tree prefix.now)
 IsBufferReply tree q r = ⊥
 
+-- what is told where labels ascend, and else nothing; or there was no memory for it
+abbrev pub CollectsAscending : {X Y : Type 0} → Result (Option X) CedarError → (X → Y) → Bool → Y → Type 0
+CollectsAscending result told ordered wanted = MatchResult result (λ found. option_map told found ≡ if_ascending ordered wanted) (λ e. e ≡ Memory)
+
+-- what is returned of the entries that fit a pattern, unless it is too long
+abbrev pub IsFittingReply : {A : Type 0} → Tree → List ℕ → CompletionReply A → Type 0
+IsFittingReply tree pattern (completion_reply.Wanted result) =
+    (length pattern ≤ 63) × Collects result (λ found. map (λ e. (e.0.items, e.1)) found.items ≡ filter (λ e. fits pattern e.0) (walk tree))
+IsFittingReply tree pattern completion_reply.PatternTooLong = 63 < length pattern
+IsFittingReply tree pattern r = ⊥
+
+-- what is returned of completions, and of what is in a range
+abbrev pub IsCompletionReply : {A : Type 0} → State → CompletionQuery → CompletionReply A → Type 0
+IsCompletionReply s (completion_query.Best prefix most order) (completion_reply.Best result) =
+    Collects result (λ found. map found_entry found.items ≡ best order most (entries_with s.tree prefix.now))
+IsCompletionReply s (completion_query.InRange ends) (completion_reply.Range result) =
+    CollectsAscending result (λ v. map (λ e. (e.0.items, e.1)) v.items) s.ordered (entries_between_ends s.tree ends)
+IsCompletionReply s (completion_query.FirstIn ends) (completion_reply.End result) = CollectsAscending result entry_told s.ordered (first_of_list (entries_between_ends s.tree ends))
+IsCompletionReply s (completion_query.LastIn ends) (completion_reply.End result) = CollectsAscending result entry_told s.ordered (last_of_list (entries_between_ends s.tree ends))
+IsCompletionReply s (completion_query.Near text two_edits is_beginning) (completion_reply.Wanted result) =
+    Collects result (λ found. map (λ e. (e.0.items, e.1)) found.items ≡ filter (λ e. is_close is_beginning (edits_counted two_edits) text.now e.0) (walk s.tree))
+IsCompletionReply s (completion_query.Fitting pattern) r = IsFittingReply s.tree pattern.now r
+IsCompletionReply s q r = ⊥
+
 -- what is returned of a text, by the keys of a tree
 abbrev pub IsTextReply : {A : Type 0} → Tree → List ℕ → TextQuery → TextReply A → Type 0
 IsTextReply tree text text_query.LongestPrefix (text_reply.Longest found) = found ≡ longest tree text
@@ -153,6 +187,7 @@ IsReply layout slots d (question.Range from to) (reply.Range result) =
 IsReply layout slots d (question.CountPrefix prefix) (reply.Count n) = n ≡ length (entries_with d.state.tree prefix.now)
 IsReply layout slots d (question.InBuffer q) (reply.InBuffer result) = IsBufferReply d.state.tree q result
 IsReply layout slots d (question.InText text q) (reply.InText result) = IsTextReply d.state.tree text.now q result
+IsReply layout slots d (question.Complete q) (reply.Completed result) = IsCompletionReply d.state q result
 IsReply layout slots d question.Len (reply.Len n) = n ≡ length (walk d.state.tree)
 IsReply layout slots d (question.Figure which) (reply.Figure n) = IsFigure layout d which n
 IsReply layout slots d question.IsEmpty (reply.IsEmpty result) = IsTrue result ↔ (walk d.state.tree ≡ [])

@@ -1,15 +1,23 @@
 -- The words that the contracts of this crate cite, from one place.
 pub use Rattle.cedar_calls.specs.Agreement.{RunsAgree}
 pub use Rattle.cedar_calls.specs.Changes.{IsChange, IsErasedBatch, IsErasedFound}
+pub use Rattle.cedar_calls.specs.Completions.{edits_counted, end_at, entries_between_ends, first_of_list}
+pub use Rattle.cedar_calls.specs.Completions.{is_between_ends, is_close, last_of_list, where_ascending}
 pub use Rattle.cedar_calls.specs.Files.{SavesLoadAgain}
 pub use Rattle.cedar_calls.specs.Keys.{KeysStandAlone, KeysStandAloneInRuns}
 pub use Rattle.cedar_calls.specs.Making.{IsCopy, Joins}
 pub use Rattle.cedar_calls.specs.Plain.{TreesDecide}
 pub use Rattle.cedar_calls.specs.Replies.{AreTexts, Collects, CollectsRange}
 pub use Rattle.cedar_calls.specs.Replies.{CollectsAll, CollectsFew, CollectsSome, IsFigure, IsReply}
-pub use Rattle.cedar_calls.specs.Replies.{IsBufferReply, IsTextReply}
+pub use Rattle.cedar_calls.specs.Replies.{CollectsAscending, IsBufferReply, IsCompletionReply}
+pub use Rattle.cedar_calls.specs.Replies.{IsFittingReply, IsTextReply}
 pub use Rattle.cedar_calls.specs.Runs.{AddsRun, IsRun, IsStep}
 pub use Rattle.cedar_calls.specs.Texts.{IsCheapCut, run_in_table}
+pub use Rattle.best_few.specs.Orders.{best, found_entry}
+pub use Rattle.byte_automata.specs.Distances.{is_near}
+pub use Rattle.key_ranges.specs.Spans.{entries_within, holds}
+pub use Rattle.last_entries.specs.Nearness.{entry_told}
+pub use Rattle.std.specs.Range.Bound.{bound_map}
 pub use Rattle.cedar_scan.specs.Words.{earliest, leftmost, overlapping}
 pub use Rattle.cedar_words.specs.Runs.{cost_in_table}
 pub use Rattle.cedar_words.specs.Words.{character_price, IsBestCut, IsBestCuts, lists_of}

@@ -82,6 +82,8 @@ pub enum Reply<A: Allocator> {
     InBuffer(BufferReply<A>),
     /// What is in the text.
     InText(TextReply<A>),
+    /// The completions, or what is in the range.
+    Completed(CompletionReply<A>),
     /// The keys that are held.
     Len(usize),
     /// How many keys begin with the prefix.
@@ -105,6 +107,21 @@ pub enum BufferReply<A: Allocator> {
     End(Result<Option<(Vec<u8, A>, i32)>, CedarError>),
     /// The keys of the entries, copied from the buffer, with their values. It is `Memory` only if there is one.
     Entries(Result<Vec<(Vec<u8, A>, i32), A>, CedarError>),
+}
+
+/// What a question about completions returned. If there was no memory to look or to collect, it is `Memory`.
+#[derive(Drop)]
+pub enum CompletionReply<A: Allocator> {
+    /// The best entries, each its value and its key.
+    Best(Result<Vec<(i32, Vec<u8, A>), A>, CedarError>),
+    /// The keys of a range with their values, and `None` if the dictionary's labels don't ascend.
+    Range(Result<Option<Vec<(Vec<u8, A>, i32), A>>, CedarError>),
+    /// The value and the key of the first entry of a range, or of its last one; and `None` if labels don't ascend.
+    End(Result<Option<Option<(i32, Vec<u8, A>)>>, CedarError>),
+    /// The keys that are wanted with their values, in the dictionary's order.
+    Wanted(Result<Vec<(Vec<u8, A>, i32), A>, CedarError>),
+    /// The pattern has more than 63 bytes.
+    PatternTooLong,
 }
 
 /// What a question about a text returned. If there was no memory to collect a result, it is `Memory`. An empty list needs none.

@@ -1,6 +1,7 @@
 //! Calls as values.
 
-use crate::ModelTables;
+use crate::{KeyEnds, ModelTables};
+use cedar_complete::ByValue;
 use cedar_scan::MatchKind;
 use cedarwood::CedarBuilder;
 
@@ -128,6 +129,8 @@ pub enum Question<'a> {
     InBuffer { ask: BufferQuery<'a> },
     /// What is in the text, by the keys that are held?
     InText { text: &'a [u8], ask: TextQuery<'a> },
+    /// Which entries complete what is typed, or are in a range?
+    Complete { ask: CompletionQuery<'a> },
     /// How many keys are held?
     Len,
     /// How many slots, blocks or bytes?
@@ -153,6 +156,31 @@ pub enum BufferQuery<'a> {
     EntriesWith { prefix: &'a [u8], room: usize },
     /// Which of them has a cursor, whose buffer has no room at first?
     ByCursor { prefix: &'a [u8] },
+}
+
+/// A question about completions.
+#[derive(Clone, Copy, Debug)]
+pub enum CompletionQuery<'a> {
+    /// Which of the entries with the prefix are the best by their values, so many at most?
+    Best {
+        prefix: &'a [u8],
+        most: usize,
+        order: ByValue,
+    },
+    /// Which entries are between two ends?
+    InRange { ends: KeyEnds<'a> },
+    /// Which is the first of them?
+    FirstIn { ends: KeyEnds<'a> },
+    /// Which is the last one?
+    LastIn { ends: KeyEnds<'a> },
+    /// Which keys are one edit of bytes away from the text at most, or two, or begin with what is?
+    Near {
+        text: &'a [u8],
+        two_edits: bool,
+        is_beginning: bool,
+    },
+    /// Which keys fit the pattern?
+    Fitting { pattern: &'a [u8] },
 }
 
 /// A question about a text, by the keys of a dictionary.

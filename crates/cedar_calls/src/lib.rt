@@ -9,6 +9,8 @@ mod answer;
 mod buffers;
 mod call;
 mod change;
+mod completions;
+mod ends;
 mod laws;
 mod make;
 mod model;
@@ -17,8 +19,10 @@ mod reply;
 mod run;
 mod texts;
 
-pub use answer::{Answer, BufferReply, Changed, Reply, TextReply};
-pub use call::{BufferQuery, Call, Change, Figure, Question, TextQuery};
+pub use answer::{Answer, BufferReply, Changed, CompletionReply, Reply, TextReply};
+pub use call::{BufferQuery, Call, Change, CompletionQuery, Figure, Question, TextQuery};
+pub use cedar_complete::ByValue;
+pub use ends::KeyEnds;
 pub use laws::{
     keys_stand_alone, keys_stand_alone_in_runs, runs_agree, saves_load_again, trees_decide,
 };

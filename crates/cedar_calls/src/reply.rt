@@ -7,6 +7,7 @@ ghost use Rattle.cedar_calls.specs.Words.{first_entry, front, IsFigure, IsReply,
 ghost use Rattle.cedar_calls.specs.Words.{keys_of, last_entry, predict, walk};
 
 use crate::buffers::buffer_reply;
+use crate::completions::completion_reply;
 use crate::place::places;
 use crate::texts::text_reply;
 use crate::{Figure, Question, Reply};
@@ -40,6 +41,7 @@ pub(crate) fn reply<L: Layout, const SLOTS: usize, A: Allocator + Copy>(
         Question::CountPrefix { prefix } => Reply::Count(trie.count_prefix_bytes(prefix)),
         Question::InBuffer { ask } => Reply::InBuffer(buffer_reply(trie, alloc, ask)),
         Question::InText { text, ask } => Reply::InText(text_reply(trie, alloc, text, ask)),
+        Question::Complete { ask } => Reply::Completed(completion_reply(trie, alloc, ask)),
         Question::Len => Reply::Len(trie.len()),
         Question::Figure { figure } => Reply::Figure(figure_of(trie, *figure)),
         Question::IsEmpty => Reply::IsEmpty(trie.is_empty()),
@@ -196,7 +198,7 @@ pub(crate) fn add<T: Drop, A: Allocator>(found: &mut Vec<T, A>, item: T) -> Resu
 }
 
 /// What is left of a range of entries. Nothing is allocated if that is none.
-fn collect<L: Layout, const SLOTS: usize, A: Allocator + Copy>(
+pub(crate) fn collect<L: Layout, const SLOTS: usize, A: Allocator + Copy>(
     alloc: A,
     entries: RangeEntries<'_, Trie<L, SLOTS, A>, A>,
 ) -> Result<Vec<(Vec<u8, A>, i32), A>, CedarError>

@@ -2,6 +2,7 @@
 
 mod batches;
 mod buffers;
+mod completions;
 mod drops;
 mod ends;
 mod files;
