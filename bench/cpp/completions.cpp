@@ -79,10 +79,27 @@ std::uint64_t page(const cedar_dictionary &d, const std::string &behind) {
     return sum;
 }
 
+// How many completions there are, by a walk over their pages.
+std::uint64_t counted(const cedar_dictionary &d) {
+    std::vector<cedar_found> found(256);
+    std::vector<std::uint8_t> keys(1 << 16);
+    std::uint64_t all = 0;
+    std::string behind;
+    for (std::size_t needed = 1; needed > 0;) {
+        std::size_t count = 0;
+        need(cedar_entries_below(&d, bytes_of(PREFIX), PREFIX.size(), bytes_of(behind), behind.size(), found.data(), found.size(),
+                                 keys.data(), keys.size(), &count, &needed));
+        if (count > 0) behind.assign(reinterpret_cast<char *>(keys.data()) + found[count - 1].place, found[count - 1].length);
+        all += count;
+    }
+    return all;
+}
+
 void completed(const cedar_dictionary &d, const std::vector<std::string> &keys) {
     cedar_match none{};
     const std::size_t all = cedar_predictions(&d, bytes_of(PREFIX), PREFIX.size(), &none, 0);
-    timed("counted", all, [&] { return cedar_predictions(&d, bytes_of(PREFIX), PREFIX.size(), &none, 0); });
+    timed("counted", all, [&] { return counted(d); });
+    timed("predicted", all, [&] { return cedar_predictions(&d, bytes_of(PREFIX), PREFIX.size(), &none, 0); });
     timed("best", 1, [&] {
         cedar_found found[SHOWN];
         std::uint8_t bytes[KEY_ROOM];

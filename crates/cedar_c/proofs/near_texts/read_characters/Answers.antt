@@ -2,6 +2,6 @@ use Rattle.std.proofs.lemmas.Iterator.{items_from_collect, YieldsList-from_chars
 use Rattle.cedar_c.proofs.near_texts.read_characters.Goals as goal
 
 pub returns : goal.returns
-returns g c =
+returns c =
     items_from_collect c.collect.result c.collect.ensures.ran
     (YieldsList-from_chars c.args.text.now c.utf8.text c.chars.ensures.rest)
