@@ -10,7 +10,9 @@ use Rattle.cedarwood.specs.Queries.{Entry, walk}
 use Rattle.cedarwood.specs.State.{State}
 use Rattle.cedarwood.specs.Tree.{Tree}
 use Rattle.cedar_walk.specs.Ranges.{entries_with}
+use Rattle.cedar_complete.specs.Ends.{IsHeadOf}
 use Rattle.key_ranges.specs.Spans.{follows_start, precedes_stop}
+use Rattle.last_entries.specs.Nearness.{IsLastOf}
 use Rattle.cedar_c.specs.Entries.{spots_of}
 use Rattle.cedar_c.specs.Pairs.{keys_in}
 use Rattle.cedar_c.specs.declared.scans.Found.{Found}
@@ -66,3 +68,13 @@ pub record TellsNeighbour (s : State) (IsIt : Option Entry → Type 0) (bytes wr
       → ((e : Option Entry) × IsIt e × TellsEntry e bytes written value told wanted status)
       ⊎ ((status ≡ MEMORY) × (written ≡ bytes) × (told ≡ value) × (wanted ≡ needed))
   pub unordered : s.ordered ≡ false → (status ≡ NOT_ASCENDING) × (written ≡ bytes) × (told ≡ value) × (wanted ≡ needed)
+
+-- the last entry before a key is written, or at it if that is included; of no key the last one of all
+abbrev pub TellsFloor : State → Bool → List ℕ → List ℕ → List ℕ → ℤ → ℤ → ℕ → ℕ → ℕ → Type 0
+TellsFloor s included key bytes written value told needed wanted status =
+    TellsNeighbour s (IsLastOf (entries_upto s.tree (bound_if included key))) bytes written value told needed wanted status
+
+-- the first entry behind a key is written, or at it if that is included; of no key the first one of all
+abbrev pub TellsCeiling : State → Bool → List ℕ → List ℕ → List ℕ → ℤ → ℤ → ℕ → ℕ → ℕ → Type 0
+TellsCeiling s included key bytes written value told needed wanted status =
+    TellsNeighbour s (IsHeadOf (entries_onwards s.tree (bound_if included key))) bytes written value told needed wanted status

@@ -4,7 +4,7 @@ use Rattle.std.specs.Coded.{Coded, code_by, coded×, coded_bool}
 use Rattle.std.proofs.Common.{refl}
 use Rattle.cedarwood.specs.Dictionary.{Dictionary, dictionary_code}
 use Rattle.cedarwood.specs.Limits.{most_slots}
-pub use Rattle.either_layout.specs.Layouts.{inner_dictionary, inner_layout, layout_for}
+pub use Rattle.either_layout.specs.Layouts.{HasSameSize, inner_dictionary, inner_layout, layout_for}
 use Rattle.either_layout.specs.declared.any.AnyCedar.{AnyCedar}
 use Rattle.either_layout.specs.declared.any.AnyCedar.TheVariants.{Default, Reduced}
 

@@ -10,8 +10,9 @@ use Rattle.cedarwood.specs.declared.builder.CedarBuilder.{CedarBuilder}
 use Rattle.cedar_c.specs.Content.{content, layout_in}
 use Rattle.cedar_c.specs.Files.{early_refusal, file_status, IsFileOf, IsOfNoTable, TellsHeader}
 use Rattle.cedar_c.specs.Layouts.{inner_dictionary, inner_layout}
-use Rattle.cedar_c.specs.Pairs.{MayWantSlots, build_fault, entries_in}
+use Rattle.cedar_c.specs.Pairs.{build_fault, entries_in}
 use Rattle.cedar_c.specs.Status.{TellsFault, TellsPosition}
+use Rattle.either_layout.specs.Builds.{MayWantSlots}
 use Rattle.either_layout.specs.declared.any.AnyCedar.{AnyCedar}
 use Rattle.cedar_c.specs.declared.handle.Handle.{Handle}
 use Rattle.cedar_c.specs.declared.pairs.Pair.{Pair}

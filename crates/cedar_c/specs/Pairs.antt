@@ -1,11 +1,10 @@
 -- Pairs and keys of C's.
-use Rattle.std.specs.Prelude.{◌≡◌, ◌⊎◌, ◌*◌, ◌<◌, ◌≤◌, ℕ, Bool, true, false, ℤ, List, [], ◌∷◌}
+use Rattle.std.specs.Prelude.{◌≡◌, ◌<◌, ◌≤◌, ℕ, Bool, true, false, ℤ, List, [], ◌∷◌}
 use Rattle.std.specs.Prelude.{◌++◌, length, map, take, Option, None}
 use Rattle.std.specs.Borrow.{Bor}
 use Rattle.cedarwood.specs.declared.error.CedarError.{CedarError}
-use Rattle.cedarwood.specs.declared.error.CedarError.TheVariants.{Memory, SlotLimit}
 use Rattle.cedarwood.specs.Tree.{number_at}
-use Rattle.cedarwood.specs.Queries.{Entry, asc, prefixes}
+use Rattle.cedarwood.specs.Queries.{Entry}
 use Rattle.cedarwood.specs.Builds.{all_stored, first_fault, path_at}
 use Rattle.cedarwood.specs.SortedInput.{fault_from}
 use Rattle.cedarwood.specs.State.{State}
@@ -42,12 +41,3 @@ StoresFront before after entries = (m : ℕ) × (m ≤ length entries) × (after
 abbrev pub StoresPart : State → State → List Entry → Type 0
 StoresPart before after entries =
     (m : ℕ) × (m < length entries) × (after ≡ all_stored before (take m entries)) × (number_at after.tree (path_at entries m) ≡ None)
-
--- 256 slots for each prefix of the keys of these entries are as many as `slots` or more
-abbrev pub MayWantSlots : ℕ → List Entry → Type 0
-MayWantSlots slots entries = slots ≤ 256 * length (prefixes (asc entries))
-
--- why a build of these entries, of which none has a fault, fails: for lack of memory, or, only if there might not be
--- enough, of slots
-abbrev pub IsBuildShortage : ℕ → List Entry → CedarError → Type 0
-IsBuildShortage slots entries e = (e ≡ Memory) ⊎ ((e ≡ SlotLimit) × MayWantSlots slots entries)

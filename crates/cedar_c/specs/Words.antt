@@ -8,10 +8,10 @@ pub use Rattle.cedar_c.specs.Below.{FindsNoRoom, first_length, following_below, 
 pub use Rattle.cedar_c.specs.Below.{MayWantMemory, PageBelow, prefixed_behind, TellsBelow}
 pub use Rattle.cedar_c.specs.Below.{TellsNext}
 pub use Rattle.cedar_c.specs.Best.{best_below, bound_if, entries_onwards, entries_upto}
-pub use Rattle.cedar_c.specs.Best.{LacksRoomForKeys, order_if, TellsEntry, TellsNeighbour}
-pub use Rattle.cedar_c.specs.Best.{WritesEntries}
-pub use Rattle.cedar_c.specs.BestCuts.{are_of_one_kind, is_same_kind, kind_in, kind_run}
-pub use Rattle.cedar_c.specs.BestCuts.{LacksRoomForBestCut, WritesBestCut}
+pub use Rattle.cedar_c.specs.Best.{LacksRoomForKeys, order_if, TellsCeiling, TellsEntry}
+pub use Rattle.cedar_c.specs.Best.{TellsFloor, TellsNeighbour, WritesEntries}
+pub use Rattle.cedar_c.specs.BestCuts.{are_of_one_kind, is_same_kind, key_costs, kind_in, kind_run}
+pub use Rattle.cedar_c.specs.BestCuts.{LacksRoomForBestCut, unknown_runs, WritesBestCut}
 pub use Rattle.cedar_c.specs.Changes.{IsRecord}
 pub use Rattle.cedar_c.specs.Content.{capacity_in, ChangesBy, content, ErasesUnder}
 pub use Rattle.cedar_c.specs.Content.{layout_in, marks_in, search_limit_in, size_in}
@@ -25,15 +25,16 @@ pub use Rattle.cedar_c.specs.Files.{early_refusal, file_in, file_layout, file_st
 pub use Rattle.cedar_c.specs.Files.{LacksOrCorrupt, minor_of, names_reduced_layout, TellsHeader}
 pub use Rattle.cedar_c.specs.Files.{TellsJust, TellsNoTable}
 pub use Rattle.cedar_c.specs.Groups.{AddsChange, group_head, group_records, IsGroup, LacksGroup}
-pub use Rattle.cedar_c.specs.Layouts.{HasToGrow, inner_dictionary, inner_layout, layout_for}
+pub use Rattle.cedar_c.specs.Layouts.{HasSameSize, HasToGrow, inner_dictionary, inner_layout}
+pub use Rattle.cedar_c.specs.Layouts.{layout_for}
 pub use Rattle.cedar_c.specs.Lending.{as_shown, LendsCedar, LendsSeen}
 pub use Rattle.cedar_c.specs.Matches.{all_longer, filled_from, filled_matches, Fit, front_keys}
 pub use Rattle.cedar_c.specs.Matches.{longer, match_of, predicted_keys}
 pub use Rattle.cedar_c.specs.Matching.{edits_if, is_wanted_near, is_wanted_text, TellsFitting}
 pub use Rattle.cedar_c.specs.Matching.{TellsNearText, TellsWanted, wanted_behind}
 pub use Rattle.cedar_c.specs.Opens.{BuildsOrLacks, OpensBuilt, OpensLoaded, OpensNew}
-pub use Rattle.cedar_c.specs.Pairs.{build_fault, entries_in, IsBuildShortage, keys_in, named_keys}
-pub use Rattle.cedar_c.specs.Pairs.{StoresFront, StoresPart, taken_pair}
+pub use Rattle.cedar_c.specs.Pairs.{build_fault, entries_in, keys_in, named_keys, StoresFront}
+pub use Rattle.cedar_c.specs.Pairs.{StoresPart, taken_pair}
 pub use Rattle.cedar_c.specs.Plans.{damage_of, format_if, IsErasurePlan, IsOpening, IsPutPlan}
 pub use Rattle.cedar_c.specs.Plans.{LacksChange, LacksRecord, MayCut}
 pub use Rattle.cedar_c.specs.Plans.{TellsWhy, store_status}
@@ -51,6 +52,7 @@ pub use Rattle.cedar_c.specs.Updates.{KeepsSlots, StoresValue}
 pub use Rattle.cedar_c.specs.declared.any_scanner.AnyScanner.{AnyScanner}
 pub use Rattle.cedar_scan.specs.Words.{earliest_behind, ending_behind, IsHeight, keys_ending}
 pub use Rattle.cedar_scan.specs.Words.{leftmost_from, slot_in}
+pub use Rattle.either_layout.specs.Builds.{IsBuildShortage}
 pub use Rattle.either_layout.specs.declared.any.AnyCedar.{AnyCedar}
 pub use Rattle.cedarwood.specs.Format.{header_answer}
 pub use Rattle.cedarwood.specs.Refusal.{refusal_of}

@@ -2,8 +2,9 @@
 
 ghost use Rattle.std.specs.Prelude.{◌++◌, ◌+◌, ◌≡◌, drop, IfSome, length, None};
 ghost use Rattle.std.specs.Prelude.{option_map, set, take};
-ghost use Rattle.cedar_c.specs.Words.{content, held_in_turn, inner_dictionary, inner_layout};
-ghost use Rattle.cedar_c.specs.Words.{KeepsSlots, keys_erased, named_keys, state_in, tree_in, walk};
+ghost use Rattle.cedar_c.specs.Words.{content, HasSameSize, held_in_turn, inner_dictionary};
+ghost use Rattle.cedar_c.specs.Words.{inner_layout, KeepsSlots, keys_erased, named_keys, state_in};
+ghost use Rattle.cedar_c.specs.Words.{tree_in, walk};
 
 use crate::handle::Handle;
 use cedarwood::{CACHED_SLOTS, Layout, Trie};
@@ -72,7 +73,7 @@ fn erase_keys(cedar: &mut AnyCedar, keys: &[Key<'_>], held: &mut [bool]) -> usiz
     ensures count { result + length (walk (inner_dictionary cedar.new).state.tree) ≡ length (walk (inner_dictionary cedar.old).state.tree) }
     ensures held { held.new ≡ take (length held.old) (held_in_turn (inner_dictionary cedar.old).state (named_keys keys.now)) ++ drop (length keys.now) held.old }
     ensures after { (inner_dictionary cedar.new).state ≡ keys_erased (inner_dictionary cedar.old).state (named_keys keys.now) }
-    ensures size { ((inner_dictionary cedar.new).size ≡ (inner_dictionary cedar.old).size) × ((inner_dictionary cedar.new).capacity ≡ (inner_dictionary cedar.old).capacity) }
+    ensures size { HasSameSize (inner_dictionary cedar.old) (inner_dictionary cedar.new) }
     ensures max_trial { (inner_dictionary cedar.new).max_trial ≡ (inner_dictionary cedar.old).max_trial }
     ensures search_limit { (inner_dictionary cedar.new).search_limit ≡ (inner_dictionary cedar.old).search_limit }
     ensures layout { inner_layout cedar.new ≡ inner_layout cedar.old }

@@ -2,8 +2,9 @@
 
 ghost use Rattle.std.specs.Prelude.{◌↔◌, ◌≡◌, ◌⊎◌, IfSome, None};
 ghost use Rattle.cedar_c.specs.Words.{are_of_one_kind, cost_in_table, inner_dictionary};
-ghost use Rattle.cedar_c.specs.Words.{is_same_kind, IsBestCut, kind_in, kind_run};
-ghost use Rattle.cedar_c.specs.Words.{LacksRoomForBestCut, shown_in, shown_tree, WritesBestCut};
+ghost use Rattle.cedar_c.specs.Words.{is_same_kind, IsBestCut, key_costs, kind_in, kind_run};
+ghost use Rattle.cedar_c.specs.Words.{LacksRoomForBestCut, shown_in, shown_tree, unknown_runs};
+ghost use Rattle.cedar_c.specs.Words.{WritesBestCut};
 
 use crate::cuts::write_whole;
 use crate::reading::Reading;
@@ -143,8 +144,8 @@ fn write_cheapest_by(
     found: &mut [Found],
     needed: &mut usize,
 ) -> u32
-    ensures cut { result ≡ OK → WritesBestCut (inner_dictionary cedar.now).state.tree (cost_in_table costs.now.keys.now costs.now.beyond) (kind_run costs.now.kinds.now costs.now.beside_keys costs.now.most costs.now.unknown text.now) text.now found.old found.new needed.new }
-    ensures room { result ≡ NO_ROOM → LacksRoomForBestCut (inner_dictionary cedar.now).state.tree (cost_in_table costs.now.keys.now costs.now.beyond) (kind_run costs.now.kinds.now costs.now.beside_keys costs.now.most costs.now.unknown text.now) text.now found.old needed.new }
+    ensures cut { result ≡ OK → WritesBestCut (inner_dictionary cedar.now).state.tree (key_costs costs.now) (unknown_runs costs.now text.now) text.now found.old found.new needed.new }
+    ensures room { result ≡ NO_ROOM → LacksRoomForBestCut (inner_dictionary cedar.now).state.tree (key_costs costs.now) (unknown_runs costs.now text.now) text.now found.old needed.new }
     ensures refused { (result ≡ OK) ⊎ (((result ≡ MEMORY) ⊎ (result ≡ NO_ROOM)) × (found.new ≡ found.old)) }
     ensures stays { (result ≡ OK) ⊎ (result ≡ NO_ROOM) ⊎ (needed.new ≡ needed.old) }
 {
@@ -161,7 +162,7 @@ fn best_cut(
     text: &[u8],
     costs: &Costs<'_>,
 ) -> Option<Vec<(usize, usize, Option<i32>), Global>>
-    ensures { IfSome result (λ tokens. IsBestCut (inner_dictionary cedar.now).state.tree (cost_in_table costs.now.keys.now costs.now.beyond) (kind_run costs.now.kinds.now costs.now.beside_keys costs.now.most costs.now.unknown text.now) text.now tokens.items) }
+    ensures { IfSome result (λ tokens. IsBestCut (inner_dictionary cedar.now).state.tree (key_costs costs.now) (unknown_runs costs.now text.now) text.now tokens.items) }
 {
     on_layout!(cedar, cedar => best_of_either(cedar, alloc, text, costs))
 }
@@ -173,7 +174,7 @@ fn best_of_either<L: Layout, const SLOTS: usize>(
     text: &[u8],
     costs: &Costs<'_>,
 ) -> Option<Vec<(usize, usize, Option<i32>), Global>>
-    ensures { IfSome result (λ tokens. IsBestCut trie.now.state.tree (cost_in_table costs.now.keys.now costs.now.beyond) (kind_run costs.now.kinds.now costs.now.beside_keys costs.now.most costs.now.unknown text.now) text.now tokens.items) }
+    ensures { IfSome result (λ tokens. IsBestCut trie.now.state.tree (key_costs costs.now) (unknown_runs costs.now text.now) text.now tokens.items) }
 {
     let keys = CostTable {
         costs: costs.keys,

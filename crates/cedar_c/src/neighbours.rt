@@ -3,7 +3,7 @@
 ghost use Rattle.std.specs.Prelude.{◌↔◌, ◌≡◌, IfSome, None};
 ghost use Rattle.cedar_c.specs.Words.{bound_if, bound_map, entries_onwards, entries_upto};
 ghost use Rattle.cedar_c.specs.Words.{entry_told, inner_dictionary, IsHeadOf, IsLastOf, shown_in};
-ghost use Rattle.cedar_c.specs.Words.{TellsEntry, TellsNeighbour};
+ghost use Rattle.cedar_c.specs.Words.{TellsCeiling, TellsEntry, TellsFloor};
 
 use crate::entries::is_ordered;
 use crate::reading::Reading;
@@ -87,7 +87,7 @@ fn floor_of<L: Layout, const SLOTS: usize>(
     value: &mut i32,
     needed: &mut usize,
 ) -> u32
-    ensures { TellsNeighbour trie.now.state (IsLastOf (entries_upto trie.now.state.tree (bound_if is_included key.now))) buffer.old buffer.new value.old value.new needed.old needed.new result }
+    ensures { TellsFloor trie.now.state is_included key.now buffer.old buffer.new value.old value.new needed.old needed.new result }
 {
     if !is_ordered(trie) {
         return NOT_ASCENDING;
@@ -108,7 +108,7 @@ fn ceiling_of<L: Layout, const SLOTS: usize>(
     value: &mut i32,
     needed: &mut usize,
 ) -> u32
-    ensures { TellsNeighbour trie.now.state (IsHeadOf (entries_onwards trie.now.state.tree (bound_if is_included key.now))) buffer.old buffer.new value.old value.new needed.old needed.new result }
+    ensures { TellsCeiling trie.now.state is_included key.now buffer.old buffer.new value.old value.new needed.old needed.new result }
 {
     if !is_ordered(trie) {
         return NOT_ASCENDING;
@@ -129,7 +129,7 @@ fn write_floor(
     value: &mut i32,
     needed: &mut usize,
 ) -> u32
-    ensures { TellsNeighbour (inner_dictionary cedar.now).state (IsLastOf (entries_upto (inner_dictionary cedar.now).state.tree (bound_if is_included key.now))) buffer.old buffer.new value.old value.new needed.old needed.new result }
+    ensures { TellsFloor (inner_dictionary cedar.now).state is_included key.now buffer.old buffer.new value.old value.new needed.old needed.new result }
 {
     on_layout!(cedar, cedar => floor_of(cedar, alloc, key, is_included, buffer, value, needed))
 }
@@ -144,7 +144,7 @@ fn write_ceiling(
     value: &mut i32,
     needed: &mut usize,
 ) -> u32
-    ensures { TellsNeighbour (inner_dictionary cedar.now).state (IsHeadOf (entries_onwards (inner_dictionary cedar.now).state.tree (bound_if is_included key.now))) buffer.old buffer.new value.old value.new needed.old needed.new result }
+    ensures { TellsCeiling (inner_dictionary cedar.now).state is_included key.now buffer.old buffer.new value.old value.new needed.old needed.new result }
 {
     on_layout!(cedar, cedar => ceiling_of(cedar, alloc, key, is_included, buffer, value, needed))
 }
@@ -170,11 +170,11 @@ pub extern "C" fn cedar_floor(
 
     //= The floor of a key is the last entry before it, or at it if that is included, and of no key the last one of all. Its key is written
     //  into the first bytes, and its value; the other bytes don't change. `needed` is how many bytes its key has, or 0 if there is none.
-    //  [by floor, TellsNeighbour, entries_upto, IsLastOf]
+    //  [by floor, TellsFloor, TellsNeighbour]
     //= It is refused exactly if the handle is closed, with `NOT_ASCENDING` if labels don't ascend, with `NO_ROOM` if its key has more bytes
     //  than there is room for, and otherwise with `MEMORY`. Then nothing else is written. [with closed, closed_stays; also cedar_ceiling,
     //  cedar_next_near, cedar_next_near_text, cedar_next_fitting]
-    ensures floor { IfSome (shown_in handle.old) (λ a. TellsNeighbour (inner_dictionary a).state (IsLastOf (entries_upto (inner_dictionary a).state.tree (bound_if is_included key.now))) buffer.old buffer.new value.old value.new needed.old needed.new result) }
+    ensures floor { IfSome (shown_in handle.old) (λ a. TellsFloor (inner_dictionary a).state is_included key.now buffer.old buffer.new value.old value.new needed.old needed.new result) }
     ensures closed_stays { result ≡ CLOSED → (buffer.new ≡ buffer.old) × (value.new ≡ value.old) × (needed.new ≡ needed.old) }
     ensures kept { handle.new ≡ handle.old }
 {
@@ -210,8 +210,8 @@ pub extern "C" fn cedar_ceiling(
     ensures closed { (result ≡ CLOSED) ↔ (shown_in handle.old ≡ None) }
 
     //= The ceiling of a key is the first entry behind it, or at it if that is included, and of no key the first one of all. It is written
-    //  as a floor is. [by ceiling, TellsNeighbour, entries_onwards, IsHeadOf]
-    ensures ceiling { IfSome (shown_in handle.old) (λ a. TellsNeighbour (inner_dictionary a).state (IsHeadOf (entries_onwards (inner_dictionary a).state.tree (bound_if is_included key.now))) buffer.old buffer.new value.old value.new needed.old needed.new result) }
+    //  as a floor is. [by ceiling, TellsCeiling, TellsNeighbour]
+    ensures ceiling { IfSome (shown_in handle.old) (λ a. TellsCeiling (inner_dictionary a).state is_included key.now buffer.old buffer.new value.old value.new needed.old needed.new result) }
     ensures closed_stays { result ≡ CLOSED → (buffer.new ≡ buffer.old) × (value.new ≡ value.old) × (needed.new ≡ needed.old) }
     ensures kept { handle.new ≡ handle.old }
 {

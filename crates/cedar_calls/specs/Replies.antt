@@ -96,6 +96,10 @@ pub record AreStats (layout : LayoutKind) (d : Dictionary) (stats : MemoryStats)
 abbrev pub CollectsAll : {X A : Type 0} → Result (Vec X A) CedarError → List X → Type 0
 CollectsAll result items = CollectsSome result (λ found. found.items ≡ items) items
 
+-- some entries are collected, each its key and its value; or there was no memory for them, which is so only if there are some
+abbrev pub CollectsEntries : {A : Type 0} → Result (Vec (Vec ℕ A × ℤ) A) CedarError → List Entry → Type 0
+CollectsEntries result es = CollectsSome result (λ found. map (λ e. (e.0.items, e.1)) found.items ≡ es) es
+
 -- what was asked for, or there was no memory to collect it; this only if some are wanted
 abbrev pub CollectsFew : {X : Type 0} → Result X CedarError → (X → Type 0) → ℕ → Type 0
 CollectsFew result P most = MatchResult result P (λ e. (e ≡ Memory) × (0 < most))

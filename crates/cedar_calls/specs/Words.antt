@@ -8,9 +8,10 @@ pub use Rattle.cedar_calls.specs.Keys.{KeysStandAlone, KeysStandAloneInRuns}
 pub use Rattle.cedar_calls.specs.Making.{IsCopy, Joins}
 pub use Rattle.cedar_calls.specs.Plain.{TreesDecide}
 pub use Rattle.cedar_calls.specs.Replies.{AreTexts, Collects, CollectsRange}
-pub use Rattle.cedar_calls.specs.Replies.{CollectsAll, CollectsFew, CollectsSome, IsFigure, IsReply}
-pub use Rattle.cedar_calls.specs.Replies.{CollectsAscending, IsBufferReply, IsCompletionReply}
-pub use Rattle.cedar_calls.specs.Replies.{IsFittingReply, IsTextReply}
+pub use Rattle.cedar_calls.specs.Replies.{CollectsAll, CollectsAscending, CollectsEntries}
+pub use Rattle.cedar_calls.specs.Replies.{CollectsFew, CollectsSome, IsBufferReply}
+pub use Rattle.cedar_calls.specs.Replies.{IsCompletionReply, IsFigure, IsFittingReply, IsReply}
+pub use Rattle.cedar_calls.specs.Replies.{IsTextReply}
 pub use Rattle.cedar_calls.specs.Runs.{AddsRun, IsRun, IsStep}
 pub use Rattle.cedar_calls.specs.Texts.{IsCheapCut, run_in_table}
 pub use Rattle.best_few.specs.Orders.{best, found_entry}

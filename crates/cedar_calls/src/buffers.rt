@@ -1,9 +1,9 @@
 //! Replies whose keys are written into a buffer.
 
-ghost use Rattle.std.specs.Prelude.{◌<◌, ◌≡◌, ◌≤◌, IfErr, IfOk, IfSome, length, map, MatchOption};
-ghost use Rattle.std.specs.Prelude.{OnErr, option_map, vec_capacity};
-ghost use Rattle.cedar_calls.specs.Words.{CollectsSome, entries_with, first_entry, IsBufferReply};
-ghost use Rattle.cedar_calls.specs.Words.{KeyOutgrows, last_entry, Memory, walk};
+ghost use Rattle.std.specs.Prelude.{◌<◌, ◌≡◌, ◌≤◌, IfErr, IfOk, IfSome, length, MatchOption, OnErr};
+ghost use Rattle.std.specs.Prelude.{option_map, vec_capacity};
+ghost use Rattle.cedar_calls.specs.Words.{CollectsEntries, entries_with, first_entry};
+ghost use Rattle.cedar_calls.specs.Words.{IsBufferReply, KeyOutgrows, last_entry, Memory, walk};
 
 use crate::reply::add;
 use crate::{BufferQuery, BufferReply};
@@ -85,7 +85,7 @@ fn entries_into<L: Layout, const SLOTS: usize, A: Allocator + Copy>(
     prefix: &[u8],
     key: Vec<u8, A>,
 ) -> Result<Vec<(Vec<u8, A>, i32), A>, CedarError>
-    ensures { CollectsSome result (λ found. map (λ e. (e.0.items, e.1)) found.items ≡ entries_with trie.now.state.tree prefix.now) (entries_with trie.now.state.tree prefix.now) }
+    ensures { CollectsEntries result (entries_with trie.now.state.tree prefix.now) }
 {
     collect_into(alloc, trie.entries_with_prefix_bytes(prefix), key)
 }
@@ -96,7 +96,7 @@ fn entries_by<L: Layout, const SLOTS: usize, A: Allocator + Copy>(
     alloc: A,
     prefix: &[u8],
 ) -> Result<Vec<(Vec<u8, A>, i32), A>, CedarError>
-    ensures { CollectsSome result (λ found. map (λ e. (e.0.items, e.1)) found.items ≡ entries_with trie.now.state.tree prefix.now) (entries_with trie.now.state.tree prefix.now) }
+    ensures { CollectsEntries result (entries_with trie.now.state.tree prefix.now) }
 {
     collect_by(alloc, trie.entries_with_prefix_bytes(prefix).into_cursor())
 }
@@ -107,7 +107,7 @@ fn collect_into<L: Layout, const SLOTS: usize, A: Allocator + Copy>(
     mut entries: RangeEntries<'_, Trie<L, SLOTS, A>, A>,
     mut key: Vec<u8, A>,
 ) -> Result<Vec<(Vec<u8, A>, i32), A>, CedarError>
-    ensures { CollectsSome result (λ found. map (λ e. (e.0.items, e.1)) found.items ≡ entries.entry) entries.entry }
+    ensures { CollectsEntries result entries.entry }
 {
     let mut found = Vec::new(alloc);
     while let Some(value) = entries.next_into(&mut key)? {
@@ -122,7 +122,7 @@ fn collect_by<L: Layout, const SLOTS: usize, A: Allocator + Copy>(
     alloc: A,
     mut cursor: EntryCursor<'_, Trie<L, SLOTS, A>, A>,
 ) -> Result<Vec<(Vec<u8, A>, i32), A>, CedarError>
-    ensures { CollectsSome result (λ found. map (λ e. (e.0.items, e.1)) found.items ≡ cursor.entry.left) cursor.entry.left }
+    ensures { CollectsEntries result cursor.entry.left }
 {
     let mut found = Vec::new(alloc);
     while let Some(value) = cursor.advance()? {

@@ -1,9 +1,9 @@
 //! Replies of a dictionary.
 
 ghost use Rattle.std.specs.Prelude.{◌++◌, ◌∷◌, ◌≡◌, [], cond, map, OnOk, option_map, string_bytes};
-ghost use Rattle.cedar_calls.specs.Words.{AreTexts, Collects, CollectsRange, CollectsSome};
-ghost use Rattle.cedar_calls.specs.Words.{entries_between, entries_since, entries_with, exact};
-ghost use Rattle.cedar_calls.specs.Words.{first_entry, front, IsFigure, IsReply, IsTableFile};
+ghost use Rattle.cedar_calls.specs.Words.{AreTexts, Collects, CollectsEntries, CollectsRange};
+ghost use Rattle.cedar_calls.specs.Words.{CollectsSome, entries_between, entries_since, entries_with};
+ghost use Rattle.cedar_calls.specs.Words.{exact, first_entry, front, IsFigure, IsReply, IsTableFile};
 ghost use Rattle.cedar_calls.specs.Words.{keys_of, last_entry, predict, walk};
 
 use crate::buffers::buffer_reply;
@@ -135,7 +135,7 @@ fn entries<L: Layout, const SLOTS: usize, A: Allocator + Copy>(
     trie: &Trie<L, SLOTS, A>,
     alloc: A,
 ) -> Result<Vec<(Vec<u8, A>, i32), A>, CedarError>
-    ensures { CollectsSome result (λ found. map (λ e. (e.0.items, e.1)) found.items ≡ walk trie.now.state.tree) (walk trie.now.state.tree) }
+    ensures { CollectsEntries result (walk trie.now.state.tree) }
 {
     if trie.is_empty() {
         return Ok(Vec::new(alloc));
@@ -202,7 +202,7 @@ pub(crate) fn collect<L: Layout, const SLOTS: usize, A: Allocator + Copy>(
     alloc: A,
     entries: RangeEntries<'_, Trie<L, SLOTS, A>, A>,
 ) -> Result<Vec<(Vec<u8, A>, i32), A>, CedarError>
-    ensures { CollectsSome result (λ found. map (λ e. (e.0.items, e.1)) found.items ≡ entries.entry) entries.entry }
+    ensures { CollectsEntries result entries.entry }
 {
     let mut found = Vec::new(alloc);
     for entry in entries {
@@ -217,7 +217,7 @@ fn beginning_with<L: Layout, const SLOTS: usize, A: Allocator + Copy>(
     alloc: A,
     prefix: &[u8],
 ) -> Result<Vec<(Vec<u8, A>, i32), A>, CedarError>
-    ensures { CollectsSome result (λ found. map (λ e. (e.0.items, e.1)) found.items ≡ entries_with trie.now.state.tree prefix.now) (entries_with trie.now.state.tree prefix.now) }
+    ensures { CollectsEntries result (entries_with trie.now.state.tree prefix.now) }
 {
     collect(alloc, trie.entries_with_prefix_bytes(prefix))
 }

@@ -1,5 +1,5 @@
 -- A dictionary of either layout.
-use Rattle.std.specs.Prelude.{Bool, true, false}
+use Rattle.std.specs.Prelude.{◌≡◌, Bool, true, false}
 use Rattle.cedarwood.specs.Layouts.{LayoutKind, default_layout, reduced_layout}
 use Rattle.cedarwood.specs.Dictionary.{Dictionary}
 use Rattle.either_layout.specs.declared.any.AnyCedar.{AnyCedar}
@@ -19,3 +19,7 @@ inner_layout (Reduced d) = reduced_layout
 abbrev pub layout_for : Bool → LayoutKind
 layout_for false = default_layout
 layout_for true = reduced_layout
+
+-- the size and the capacity are what they were
+abbrev pub HasSameSize : Dictionary → Dictionary → Type 0
+HasSameSize before after = (after.size ≡ before.size) × (after.capacity ≡ before.capacity)

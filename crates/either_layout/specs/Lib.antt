@@ -1,3 +1,5 @@
+pub mod Builds
+pub mod Ends
 pub mod Layouts
 pub mod Loads
 pub mod Words

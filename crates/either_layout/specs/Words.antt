@@ -1,5 +1,5 @@
 -- The words of clauses, from one place: a caller's crate takes them from here.
-pub use Rattle.cedarwood.specs.Words.{after_erase, all_stored, Appends, asc, capacity_after}
+pub use Rattle.cedarwood.specs.Words.{after_erase, all_stored, Appends, capacity_after}
 pub use Rattle.cedarwood.specs.Words.{default_layout, device_of, entries_of, entries_with, exact}
 pub use Rattle.cedarwood.specs.Words.{FailsToWrite, fault, first_entry, first_fault, front}
 pub use Rattle.cedarwood.specs.Words.{has_failed}
@@ -14,6 +14,8 @@ pub use Rattle.cedarwood.specs.Words.{PassesAgain, predict, prefixes, reduced_la
 pub use Rattle.cedarwood.specs.Words.{SetsSearchLimit, slots_of_tree, table_bytes, TellsBreaks}
 pub use Rattle.cedarwood.specs.Words.{value_fault, walk}
 pub use Rattle.cedarwood.specs.SortedInput.{fault_from}
-pub use Rattle.either_layout.specs.Layouts.{inner_dictionary, inner_layout, layout_for}
+pub use Rattle.either_layout.specs.Builds.{IsBuildShortage}
+pub use Rattle.either_layout.specs.Ends.{GivesEnd}
+pub use Rattle.either_layout.specs.Layouts.{HasSameSize, inner_dictionary, inner_layout, layout_for}
 pub use Rattle.either_layout.specs.Loads.{file_layout, LacksInEither, names_reduced_layout}
 pub use Rattle.either_layout.specs.Loads.{table_in}

@@ -1,10 +1,9 @@
 //! What a dictionary of either layout is, and how one is made.
 
-ghost use Rattle.std.specs.Prelude.{◌*◌, ◌↔◌, ◌≡◌, ◌≤◌, ◌⊎◌, [], Err, IfErr, IfOk, IfSome, IsTrue};
-ghost use Rattle.std.specs.Prelude.{length, None};
-ghost use Rattle.either_layout.specs.Words.{asc, entries_of, fault_from, first_fault};
-ghost use Rattle.either_layout.specs.Words.{inner_dictionary, inner_layout, IsEmpty, IsSorted};
-ghost use Rattle.either_layout.specs.Words.{layout_for, most_slots, prefixes, reduced_layout};
+ghost use Rattle.std.specs.Prelude.{◌↔◌, ◌≡◌, [], Err, IfErr, IfOk, IfSome, IsTrue, None};
+ghost use Rattle.either_layout.specs.Words.{entries_of, fault_from, first_fault, inner_dictionary};
+ghost use Rattle.either_layout.specs.Words.{inner_layout, IsBuildShortage, IsEmpty, IsSorted};
+ghost use Rattle.either_layout.specs.Words.{layout_for, most_slots, reduced_layout};
 
 use cedarwood::{Cedar, CedarBuilder, CedarError, ReducedCedar};
 use std::alloc::{AllocError, Global};
@@ -61,8 +60,7 @@ impl AnyCedar {
         //  of that layout, or what that lacks. [with made, refused; by IsSorted]
         ensures faulty { IfSome (fault_from 0 [] (entries_of pairs.now)) (λ e. result ≡ Err e) }
         ensures made { IfOk result (λ a. IsSorted (inner_layout a) settings (entries_of pairs.now) (inner_dictionary a)) }
-        ensures refused { fault_from 0 [] (entries_of pairs.now) ≡ None
-            → IfErr result (λ e. (e ≡ CedarError.Memory) ⊎ ((e ≡ CedarError.SlotLimit) × (most_slots ≤ 256 * length (prefixes (asc (entries_of pairs.now)))))) }
+        ensures refused { fault_from 0 [] (entries_of pairs.now) ≡ None → IfErr result (λ e. IsBuildShortage most_slots (entries_of pairs.now) e) }
         ensures layout { IfOk result (λ a. inner_layout a ≡ layout_for is_reduced) }
     {
         if is_reduced {
@@ -94,8 +92,7 @@ impl AnyCedar {
         //  `from_pairs_bytes_with` makes of that layout, or what that lacks. [with made, refused; by IsSorted]
         ensures faulty { IfSome (first_fault (entries_of pairs.now)) (λ e. result ≡ Err e) }
         ensures made { IfOk result (λ a. IsSorted (inner_layout a) settings (entries_of pairs.now) (inner_dictionary a)) }
-        ensures refused { first_fault (entries_of pairs.now) ≡ None
-            → IfErr result (λ e. (e ≡ CedarError.Memory) ⊎ ((e ≡ CedarError.SlotLimit) × (most_slots ≤ 256 * length (prefixes (asc (entries_of pairs.now)))))) }
+        ensures refused { first_fault (entries_of pairs.now) ≡ None → IfErr result (λ e. IsBuildShortage most_slots (entries_of pairs.now) e) }
         ensures layout { IfOk result (λ a. inner_layout a ≡ layout_for is_reduced) }
     {
         if is_reduced {

@@ -3,9 +3,9 @@
 ghost use Rattle.std.specs.Prelude.{◌++◌, ◌≡◌, drop, Err, IfErr, IfSome, IsSome, length, map, None};
 ghost use Rattle.std.specs.Prelude.{OnOk, take};
 ghost use Rattle.either_layout.specs.Words.{all_stored, entries_of, exact, first_fault};
-ghost use Rattle.either_layout.specs.Words.{held_in_turn, inner_dictionary, inner_layout, IsBuild};
-ghost use Rattle.either_layout.specs.Words.{IsErasures, IsRefusedBuild, IsUpdates, keys_erased};
-ghost use Rattle.either_layout.specs.Words.{keys_of, most_slots};
+ghost use Rattle.either_layout.specs.Words.{HasSameSize, held_in_turn, inner_dictionary};
+ghost use Rattle.either_layout.specs.Words.{inner_layout, IsBuild, IsErasures, IsRefusedBuild};
+ghost use Rattle.either_layout.specs.Words.{IsUpdates, keys_erased, keys_of, most_slots};
 
 use crate::{AnyCedar, on_layout};
 use cedarwood::{CedarError, RefusedPair};
@@ -63,7 +63,7 @@ impl AnyCedar {
         ensures erasures { IsErasures (inner_dictionary self.old) (inner_dictionary self.new) (take (length answers.old) (keys_of keys.now)) (take (length keys.now) answers.new) }
         ensures answers { answers.new ≡ held_in_turn (inner_dictionary self.old).state (take (length answers.old) (keys_of keys.now)) ++ drop (length keys.now) answers.old }
         ensures after { (inner_dictionary self.new).state ≡ keys_erased (inner_dictionary self.old).state (take (length answers.old) (keys_of keys.now)) }
-        ensures size { ((inner_dictionary self.new).size ≡ (inner_dictionary self.old).size) × ((inner_dictionary self.new).capacity ≡ (inner_dictionary self.old).capacity) }
+        ensures size { HasSameSize (inner_dictionary self.old) (inner_dictionary self.new) }
         ensures max_trial { (inner_dictionary self.new).max_trial ≡ (inner_dictionary self.old).max_trial }
         ensures search_limit { (inner_dictionary self.new).search_limit ≡ (inner_dictionary self.old).search_limit }
         ensures layout { inner_layout self.new ≡ inner_layout self.old }

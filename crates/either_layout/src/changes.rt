@@ -2,11 +2,11 @@
 
 ghost use Rattle.std.specs.Prelude.{◌*◌, ◌+◌, ◌-◌, ◌<◌, ◌↔◌, ◌≡◌, ◌≤◌, Err, IfErr, IfOk, IfSome};
 ghost use Rattle.std.specs.Prelude.{IsOk, IsSome, IsTrue, None, OnErr, OnOk};
-ghost use Rattle.either_layout.specs.Words.{after_erase, capacity_after, fault, inner_dictionary};
-ghost use Rattle.either_layout.specs.Words.{inner_layout, IsCleared, IsErasedUnder, IsMarked};
-ghost use Rattle.either_layout.specs.Words.{IsShrunk, IsSound, IsUpdate, LacksRoom, MarksCut};
-ghost use Rattle.either_layout.specs.Words.{most_slots, number_at, outcome, SetsSearchLimit};
-ghost use Rattle.either_layout.specs.Words.{value_fault};
+ghost use Rattle.either_layout.specs.Words.{after_erase, capacity_after, fault, HasSameSize};
+ghost use Rattle.either_layout.specs.Words.{inner_dictionary, inner_layout, IsCleared};
+ghost use Rattle.either_layout.specs.Words.{IsErasedUnder, IsMarked, IsShrunk, IsSound, IsUpdate};
+ghost use Rattle.either_layout.specs.Words.{LacksRoom, MarksCut, most_slots, number_at, outcome};
+ghost use Rattle.either_layout.specs.Words.{SetsSearchLimit, value_fault};
 
 use crate::{AnyCedar, on_layout};
 use cedarwood::CedarError;
@@ -59,7 +59,7 @@ impl AnyCedar {
         //  marked, size, max_trial, search_limit]
         ensures marks { MarksCut (inner_dictionary self.old).marked (inner_dictionary self.new).marked key.now }
         ensures marked { IsMarked (inner_dictionary self.new) }
-        ensures size { ((inner_dictionary self.new).size ≡ (inner_dictionary self.old).size) × ((inner_dictionary self.new).capacity ≡ (inner_dictionary self.old).capacity) }
+        ensures size { HasSameSize (inner_dictionary self.old) (inner_dictionary self.new) }
         ensures max_trial { (inner_dictionary self.new).max_trial ≡ (inner_dictionary self.old).max_trial }
         ensures search_limit { (inner_dictionary self.new).search_limit ≡ (inner_dictionary self.old).search_limit }
         ensures layout { inner_layout self.new ≡ inner_layout self.old }

@@ -1,8 +1,7 @@
 //! The queries of a dictionary of either layout.
 
-ghost use Rattle.std.specs.Prelude.{◌<◌, ◌≡◌, ◌≤◌, [], IfErr, IfOk, IfSome, is_some, length};
-ghost use Rattle.std.specs.Prelude.{MatchOption, None, Some};
-ghost use Rattle.either_layout.specs.Words.{entries_with, exact, first_entry, front};
+ghost use Rattle.std.specs.Prelude.{◌<◌, ◌≡◌, ◌≤◌, IfErr, IfOk, IfSome, is_some, length, None};
+ghost use Rattle.either_layout.specs.Words.{entries_with, exact, first_entry, front, GivesEnd};
 ghost use Rattle.either_layout.specs.Words.{inner_dictionary, IsSound, last_entry, longest_front};
 ghost use Rattle.either_layout.specs.Words.{number_at, predict, value_fault, walk};
 
@@ -99,8 +98,7 @@ impl AnyCedar {
     pub fn first(&self) -> Result<Option<(Vec<u8, Global>, i32)>, CedarError>
         //= `first` and `last` of either layout return the first and the last entry of the walk, and None exactly if there is none. They fail
         //  only with `Memory`, and only if there is an entry. [with refused; also last; by first_entry, last_entry]
-        ensures found { IfOk result (λ found. MatchOption found (walk (inner_dictionary self.now).state.tree ≡ [])
-            (λ entry. first_entry (inner_dictionary self.now).state.tree ≡ Some (entry.0.items, entry.1))) }
+        ensures found { IfOk result (λ found. GivesEnd (inner_dictionary self.now).state.tree (first_entry (inner_dictionary self.now).state.tree) found) }
         ensures refused { IfErr result (λ e. (e ≡ CedarError.Memory) × (0 < length (walk (inner_dictionary self.now).state.tree))) }
     {
         on_layout!(self, cedar => cedar.first())
@@ -111,8 +109,7 @@ impl AnyCedar {
     /// # Errors
     /// `Memory` if there is an entry and an allocation was refused.
     pub fn last(&self) -> Result<Option<(Vec<u8, Global>, i32)>, CedarError>
-        ensures found { IfOk result (λ found. MatchOption found (walk (inner_dictionary self.now).state.tree ≡ [])
-            (λ entry. last_entry (inner_dictionary self.now).state.tree ≡ Some (entry.0.items, entry.1))) }
+        ensures found { IfOk result (λ found. GivesEnd (inner_dictionary self.now).state.tree (last_entry (inner_dictionary self.now).state.tree) found) }
         ensures refused { IfErr result (λ e. (e ≡ CedarError.Memory) × (0 < length (walk (inner_dictionary self.now).state.tree))) }
     {
         on_layout!(self, cedar => cedar.last())

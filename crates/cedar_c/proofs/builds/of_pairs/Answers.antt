@@ -2,8 +2,9 @@ use Rattle.std.proofs.Common.{rules, ◌≡◌, ◌∙◌, List, None, Err, IfSo
 use Rattle.cedarwood.specs.Queries.{Entry}
 use Rattle.cedarwood.specs.Sorted.{entries_of}
 use Rattle.cedarwood.specs.Words.{IsSorted, most_slots}
+use Rattle.either_layout.specs.Builds.{IsBuildShortage}
 use Rattle.either_layout.specs.Layouts.{inner_dictionary, inner_layout}
-use Rattle.cedar_c.specs.Pairs.{build_fault, entries_in, IsBuildShortage, taken_pair}
+use Rattle.cedar_c.specs.Pairs.{build_fault, entries_in, taken_pair}
 use Rattle.cedar_c.proofs.PairLemmas.{entries_taken, fault_answered}
 use Rattle.cedar_c.proofs.builds.of_pairs.Goals as goal
 
