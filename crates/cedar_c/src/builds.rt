@@ -3,9 +3,9 @@
 ghost use Rattle.std.specs.Prelude.{◌≡◌, ◌⊎◌, Err, false, IfErr, IfOk, IfSome, None, Some, true};
 ghost use Rattle.cedar_c.specs.Words.{AnyCedar, build_fault, BuildsOrLacks, content};
 ghost use Rattle.cedar_c.specs.Words.{default_layout, entries_in, entries_of, inner_dictionary};
-ghost use Rattle.cedar_c.specs.Words.{inner_layout, IsBuildShortage, IsSorted, layout_for, layout_in};
-ghost use Rattle.cedar_c.specs.Words.{most_slots, OpensBuilt, reduced_layout, TellsFault};
-ghost use Rattle.cedar_c.specs.Words.{TellsPosition};
+ghost use Rattle.cedar_c.specs.Words.{inner_layout, IsBuildShortage, IsSorted, layout_for};
+ghost use Rattle.cedar_c.specs.Words.{layout_in, most_slots, OpensBuilt, reduced_layout};
+ghost use Rattle.cedar_c.specs.Words.{TellsFault, TellsPosition};
 
 use crate::handle::Handle;
 use crate::pairs::{Pair, take_pairs};

@@ -1,7 +1,8 @@
 //! A scanner on the heap, as a pointer that C can keep.
 
 ghost use Rattle.std.specs.Prelude.{◌≡◌, Option, None, Some, IsSome};
-ghost use Rattle.cedar_c.specs.FieldWords.{AnyScanner, coded_option, held_scanner_owns, scanner_code};
+ghost use Rattle.cedar_c.specs.FieldWords.{AnyScanner, coded_option, held_scanner_owns};
+ghost use Rattle.cedar_c.specs.FieldWords.{scanner_code};
 
 use crate::any_scanner::AnyScanner;
 use crate::loose::Loose;

@@ -2,10 +2,10 @@
 
 ghost use Rattle.std.specs.Prelude.{◌≡◌, filter, map};
 ghost use Rattle.cedar_calls.specs.Words.{best, Collects, CollectsAscending, edits_counted};
-ghost use Rattle.cedar_calls.specs.Words.{entries_between_ends, entries_with, entries_within, entry_told};
-ghost use Rattle.cedar_calls.specs.Words.{first_of_list, found_entry, is_close, is_near};
-ghost use Rattle.cedar_calls.specs.Words.{IsCompletionReply, IsFittingReply, last_of_list, walk};
-ghost use Rattle.cedar_calls.specs.Words.{where_ascending};
+ghost use Rattle.cedar_calls.specs.Words.{entries_between_ends, entries_with, entries_within};
+ghost use Rattle.cedar_calls.specs.Words.{entry_told, first_of_list, found_entry, is_close};
+ghost use Rattle.cedar_calls.specs.Words.{is_near, IsCompletionReply, IsFittingReply, last_of_list};
+ghost use Rattle.cedar_calls.specs.Words.{walk, where_ascending};
 
 use crate::ends::range_of;
 use crate::reply::{add, collect};

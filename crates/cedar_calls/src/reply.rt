@@ -2,9 +2,9 @@
 
 ghost use Rattle.std.specs.Prelude.{◌++◌, ◌∷◌, ◌≡◌, [], cond, map, OnOk, option_map, string_bytes};
 ghost use Rattle.cedar_calls.specs.Words.{AreTexts, Collects, CollectsEntries, CollectsRange};
-ghost use Rattle.cedar_calls.specs.Words.{CollectsSome, entries_between, entries_since, entries_with};
-ghost use Rattle.cedar_calls.specs.Words.{exact, first_entry, front, IsFigure, IsReply, IsTableFile};
-ghost use Rattle.cedar_calls.specs.Words.{keys_of, last_entry, predict, walk};
+ghost use Rattle.cedar_calls.specs.Words.{CollectsSome, entries_between, entries_since};
+ghost use Rattle.cedar_calls.specs.Words.{entries_with, exact, first_entry, front, IsFigure};
+ghost use Rattle.cedar_calls.specs.Words.{IsReply, IsTableFile, keys_of, last_entry, predict, walk};
 
 use crate::buffers::buffer_reply;
 use crate::completions::completion_reply;

@@ -1,6 +1,7 @@
 //! All keys in a text, by their ends.
 
-ghost use Rattle.std.specs.Prelude.{◌*◌, ◌+◌, ◌-◌, ◌≡◌, ◌≤◌, [], if◌then◌else◌, is_some, length, take, ⊤};
+ghost use Rattle.std.specs.Prelude.{◌*◌, ◌+◌, ◌-◌, ◌≡◌, ◌≤◌, [], if◌then◌else◌, is_some};
+ghost use Rattle.std.specs.Prelude.{length, take, ⊤};
 ghost use Rattle.cedar_scan.specs.Words.{all_left, ending_behind, held_suffix, IsAutomaton};
 ghost use Rattle.cedar_scan.specs.Words.{IsBlankOf, IsCursor, item_count, overlapping, scan_code};
 ghost use Rattle.cedar_scan.specs.Words.{ScanLeft, steps_left, YieldsFirst};

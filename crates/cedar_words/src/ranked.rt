@@ -3,9 +3,9 @@
 ghost use Rattle.std.specs.Prelude.{◌+◌, ◌++◌, ◌-◌, ◌<◌, ◌∷◌, ◌≡◌, ◌≤◌, [], drop, IfOk, length};
 ghost use Rattle.std.specs.Prelude.{slice_index_or, Some, take};
 ghost use Rattle.cedar_words.specs.Words.{AreWays, AreWithin, best_ways, front, insert_way};
-ghost use Rattle.cedar_words.specs.Words.{IsBestCuts, WaysGoOn, key_ways, lists_of, no_way, own_run};
-ghost use Rattle.cedar_words.specs.Words.{put_way, put_ways, run_ways, step_ways, way_along};
-ghost use Rattle.cedar_words.specs.Words.{way_at, way_before, ways_along, ways_behind};
+ghost use Rattle.cedar_words.specs.Words.{IsBestCuts, key_ways, lists_of, no_way, own_run, put_way};
+ghost use Rattle.cedar_words.specs.Words.{put_ways, run_ways, step_ways, way_along, way_at};
+ghost use Rattle.cedar_words.specs.Words.{way_before, ways_along, ways_behind, WaysGoOn};
 
 use crate::costs::NextFront;
 use crate::models::{CostModel, UnknownRun};

@@ -1,6 +1,7 @@
 //! What words cost by their numbers, as the lines of a file say it.
 
-ghost use Rattle.std.specs.Prelude.{◌++◌, ◌∷◌, ◌≡◌, [], Err, IfOk, length, map, None, OnOk, Some, ℕ};
+ghost use Rattle.std.specs.Prelude.{◌++◌, ◌∷◌, ◌≡◌, [], Err, IfOk, length, map, None, OnOk, Some};
+ghost use Rattle.std.specs.Prelude.{ℕ};
 ghost use Rattle.word_lists.specs.Words.{cost_of_line, cost_of_number, costs_of_lines};
 ghost use Rattle.word_lists.specs.Words.{IsFirstWithoutCost};
 
