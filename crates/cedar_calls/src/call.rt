@@ -168,11 +168,17 @@ pub enum CompletionQuery<'a> {
         order: ByValue,
     },
     /// Which entries are between two ends?
-    InRange { ends: KeyEnds<'a> },
+    InRange {
+        ends: KeyEnds<'a>,
+    },
     /// Which is the first of them?
-    FirstIn { ends: KeyEnds<'a> },
+    FirstIn {
+        ends: KeyEnds<'a>,
+    },
     /// Which is the last one?
-    LastIn { ends: KeyEnds<'a> },
+    LastIn {
+        ends: KeyEnds<'a>,
+    },
     /// Which keys are one edit of bytes away from the text at most, or two, or begin with what is?
     Near {
         text: &'a [u8],
@@ -180,7 +186,9 @@ pub enum CompletionQuery<'a> {
         is_beginning: bool,
     },
     /// Which keys fit the pattern?
-    Fitting { pattern: &'a [u8] },
+    Fitting {
+        pattern: &'a [u8],
+    },
 }
 
 /// A question about a text, by the keys of a dictionary.

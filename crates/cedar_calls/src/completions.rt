@@ -11,8 +11,9 @@ use crate::ends::range_of;
 use crate::reply::{add, collect};
 use crate::{CompletionQuery, CompletionReply, KeyEnds};
 use byte_automata::{Automaton, Beginning, Pattern, Within};
-use cedar_complete::{ByValue, KeyRange, RangeError};
-use cedar_complete::{best_with_prefix, entries_in, first_in, last_in};
+use cedar_complete::{
+    ByValue, KeyRange, RangeError, best_with_prefix, entries_in, first_in, last_in,
+};
 use cedar_match::{MatchingCursor, Nodes, cursor_matching};
 use cedarwood::{CedarError, Layout, Trie};
 use std::alloc::Allocator;

@@ -118,11 +118,7 @@ impl<T: Placed + Drop, A: Allocator + Copy> OwnedLeftmostScanner<T, A> {
     /// assert_eq!(rt; found.next(), Some((4, 4, 3)));
     /// assert_eq!(rt; found.next(), None);
     /// ```
-    pub fn leftmost_from<'s>(
-        &'s self,
-        text: &'s [u8],
-        place: usize,
-    ) -> Leftmost<'s, OwnedKeys<T>>
+    pub fn leftmost_from<'s>(&'s self, text: &'s [u8], place: usize) -> Leftmost<'s, OwnedKeys<T>>
         //= The leftmost matches from a position on are, from left to right, of the keys that begin at a position the one that counts, and
         //  so on from its end.
         ensures rest { result.rest ≡ leftmost_from self.now.kind self.now.tree place text.now }

@@ -65,7 +65,8 @@ impl CostedWords {
     }
 
     fn add(&mut self, line: &Line, id: i32) -> Result<()> {
-        self.by_cost.update_bytes(&line.key, line.cost.cast_signed())?;
+        self.by_cost
+            .update_bytes(&line.key, line.cost.cast_signed())?;
         self.by_id.update_bytes(&line.key, id)?;
         self.costs.push(line.cost)?;
         Ok(())

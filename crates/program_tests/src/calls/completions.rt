@@ -1,8 +1,9 @@
 //! Completions and ranges within runs, in both layouts.
 use crate::calls::runs::is_made;
 use crate::lists::{Tries, ask, run};
-use cedar_calls::{Answer, ByValue, Call, CompletionQuery, CompletionReply};
-use cedar_calls::{KeyEnds, Question, Reply};
+use cedar_calls::{
+    Answer, ByValue, Call, CompletionQuery, CompletionReply, KeyEnds, Question, Reply,
+};
 use cedarwood::{CedarBuilder, DefaultLayout, Layout, MOST_SLOTS, ReducedLayout};
 use std::alloc::Global;
 use std::process::Abort;

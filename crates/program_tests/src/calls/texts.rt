@@ -245,9 +245,18 @@ fn expect_few_cuts(rt: &impl Abort, answers: &[Answer<Global>]) {
         panic!(rt; "no empty list");
     };
     assert_eq!(rt; cuts.len(), 3);
-    assert_eq!(rt; cuts[0].as_slice(), [(0, 3, Some(4)), (3, 1, None)].as_slice());
-    assert_eq!(rt; cuts[1].as_slice(), [(0, 1, Some(5)), (1, 3, Some(1))].as_slice());
-    assert_eq!(rt; cuts[2].as_slice(), [(0, 1, None), (1, 3, Some(1))].as_slice());
+    assert_eq!(rt;
+        cuts[0].as_slice(),
+        [(0, 3, Some(4)), (3, 1, None)].as_slice()
+    );
+    assert_eq!(rt;
+        cuts[1].as_slice(),
+        [(0, 1, Some(5)), (1, 3, Some(1))].as_slice()
+    );
+    assert_eq!(rt;
+        cuts[2].as_slice(),
+        [(0, 1, None), (1, 3, Some(1))].as_slice()
+    );
     assert!(rt; none.is_empty());
 }
 

@@ -6,8 +6,7 @@ use Rattle.cedar_calls.proofs.completions.fitting.Goals as goal
 
 pub returns-in-Ok : goal.returns-in-Ok
 returns-in-Ok g c =
-    let made = c.in-Ok.ensures.made in
-    (
+    let made = c.in-Ok.ensures.made in (
       made.1,
       subst (λ (accepts : List ℕ → Bool). Collects c.wanted.result (λ found. map (λ e. (e.0.items, e.1)) found.items ≡ filter (λ e. accepts e.0) (walk c.args.trie.now.state.tree))) made.0 c.wanted.ensures,
     )
