@@ -64,7 +64,7 @@ ssize_t __wrap_pwrite(int file, const void *bytes, size_t length, off_t at) {
     if (fault != FAILS) __real_pwrite(file, bytes, length / 2, at);
     if (fault == ENDS_THE_PROCESS) _exit(7);
     if (fault == DOES_A_PART) {
-        left = 0; /* and the rest fails */
+        left = length > 1 ? 0 : -1; /* and the rest fails; a call that takes none of one byte has failed by that */
         fault = FAILS;
         return (ssize_t)(length / 2);
     }

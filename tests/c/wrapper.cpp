@@ -302,14 +302,15 @@ void refusals(layout kind) {
     refused(CEDAR_SLOT_LIMIT, {}, "cedar trie has no slot left", [&] { d.reserve(std::size_t{1} << 22); });
     lacks_memory([&] { dictionary another(kind); });
     lacks_memory([&] { d.reserve(100); });
-    lacks_memory([&] { (void)d.save(); });
     lacks_memory([&] { (void)d.clone(); });
     lacks_memory([&] { d.shrink_to_fit(); });
     lacks_memory([&] { (void)d.cheapest("held", 1); });
     lacks_memory([&] { (void)d.cheapest_by("held", {}); });
-    left = 0; // a range takes no memory of the library's
+    left = 0; // a range takes no memory of the library's, nor does a save
     CHECK(listed(d.entries()) == Pairs({{"held", 1}}));
+    const auto file = d.save();
     left = -1;
+    CHECK(dictionary::load(file).get("held") == 1);
     lacks_memory([&] { dictionary::from_sorted({{"a", 1}}, kind); });
     lacks_memory([&] { dictionary::from_pairs({{"a", 1}}, kind); });
     lacks_memory([&] { d.update_all({{"a", 1}}); });
