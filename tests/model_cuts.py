@@ -113,11 +113,15 @@ def main():
     print()
     print("use crate::models::{Made, Rule};")
     print()
-    print("/// The cases.")
-    print(f"pub const CASES: [Made; {CASES}] = [")
-    for _ in range(CASES):
-        print("\n".join(made(drawn(rng))))
-    print("];")
+    # Two lists, since a constant has some ten thousand expressions at the most.
+    for name, comment in ("CASES", "The first half of the cases."), ("OTHER_CASES", "The other half."):
+        print(f"/// {comment}")
+        print(f"pub const {name}: [Made; {CASES // 2}] = [")
+        for _ in range(CASES // 2):
+            print("\n".join(made(drawn(rng))))
+        print("];")
+        if name == "CASES":
+            print()
 
 
 main()
