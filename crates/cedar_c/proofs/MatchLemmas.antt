@@ -1,13 +1,12 @@
 -- A buffer that is filled an element at a time.
-use Rattle.std.proofs.Common.{◌≡◌, ℕ, ◌+◌, ◌-◌, ◌<◌, ◌≤◌, ◌^◌, List, [], ◌∷◌, ◌++◌, length, take, drop, set, add-one, Bool, refl, sym, ap, subst, ◌∙◌, arith}
-use Rattle.std.specs.Prelude.{ℤ, nat_eq, Option, None, option_map}
-use Rattle.std.specs.List.{Contains, filter, last_or, starts_with}
-use Rattle.std.proofs.lemmas.List.{append_assoc, drop-set-lt, drop-drop, drop_all, drop_more, take-append-drop, take_all, length-map}
+use Rattle.std.proofs.Common.{◌≡◌, ℕ, ◌+◌, ◌-◌, ◌<◌, ◌≤◌, ◌^◌, List, [], ◌∷◌, ◌++◌, length, take, drop, set, add-one, refl, sym, ap, subst, ◌∙◌, arith}
+use Rattle.std.specs.Prelude.{ℤ, Option, None, option_map}
+use Rattle.std.specs.List.{Contains, last_or}
+use Rattle.std.proofs.lemmas.List.{append_assoc, drop-set-lt, drop-drop, drop_all, drop_more, take-append-drop, take_all}
 use Rattle.std.proofs.lemmas.Option.{none-some}
 use Rattle.std.proofs.Math.Seq.{take-suc-set}
-use Rattle.std.proofs.lemmas.List.Sums.{count_by-le-length, length-filter}
 use Rattle.cedarwood.specs.Tree.{empty_tree, Tree}
-use Rattle.cedarwood.specs.Queries.{Entry, front, predict, walk}
+use Rattle.cedarwood.specs.Queries.{front}
 use Rattle.cedarwood.proofs.FrontLemmas.{held_from_front}
 use Rattle.cedarwood.proofs.TreeLemmas.{number_at-empty}
 use Rattle.cedarwood.proofs.FrontFromLemmas.{front_begins, front_short}
@@ -43,13 +42,6 @@ all_written ms p left none =
 pub fronts_fit : (t : Tree) (q : List ℕ) → length q < 2 ^ 64 → length (front t q) < 2 ^ 64
 fronts_fit t q h =
     let few : length (front t q) ≤ length q = omega (arith, front_short t q 0, ap length (front_begins t q)) in omega arith
-
--- nor are more keys predicted than held
-pub predictions_fit : (t : Tree) (q : List ℕ) → length (walk t) < 2 ^ 64 → length (predict t q) < 2 ^ 64
-predictions_fit t q h =
-    let test : Entry → Bool = λ e. starts_with nat_eq e.0 q in
-    let kept : length (predict t q) ≡ length (filter test (walk t)) = length-map (filter test (walk t)) (λ (e : Entry). (e.1, length e.0 - length q)) in
-    omega (arith, length-filter test (walk t), count_by-le-length test (walk t))
 
 -- where nothing is held, no text has a front
 pub no_fronts : (q : List ℕ) → front empty_tree q ≡ []

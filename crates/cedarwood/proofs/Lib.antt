@@ -14,6 +14,7 @@ pub mod GrowthLemmas
 pub mod SortedInputLemmas
 pub mod UnsortedLemmas
 pub mod UpdateLemmas
+pub mod CountLemmas
 pub mod PredictionLemmas
 pub mod BatchLemmas
 pub mod BuildLemmas

@@ -3,7 +3,7 @@ use Rattle.std.proofs.lemmas.List.{drop-map}
 use Rattle.cedarwood.specs.Queries.{predict, walk, prefixes}
 use Rattle.cedar_c.specs.Matches.{Fit, filled_matches, all_longer, longer}
 use Rattle.cedar_c.proofs.LengthLemmas.{predicted_fit, predicted_whole, prefixes_are_few}
-use Rattle.cedar_c.proofs.MatchLemmas.{predictions_fit}
+use Rattle.cedarwood.proofs.CountLemmas.{predictions_fit}
 use Rattle.cedar_c.proofs.pages.go_on_predictions.Goals as goal
 
 pub go_on-requires-clause-count : goal.go_on-requires-clause-count

@@ -2,7 +2,7 @@ use Rattle.std.proofs.Common.{rules, ◌<◌, ◌^◌, ◌∙◌, ap, sym, subst
 use Rattle.cedarwood.specs.Queries.{walk, prefixes}
 use Rattle.cedar_c.specs.Matches.{Fit, filled_matches, all_longer}
 use Rattle.cedar_c.proofs.LengthLemmas.{predicted_fit, predicted_whole, prefixes_are_few}
-use Rattle.cedar_c.proofs.MatchLemmas.{predictions_fit}
+use Rattle.cedarwood.proofs.CountLemmas.{predictions_fit}
 use Rattle.cedar_c.proofs.walks.fill_predictions.Goals as goal
 
 pub fill-requires-clause-count : goal.fill-requires-clause-count
