@@ -8,7 +8,7 @@ pub count-requires-clause-fits : goal.count-requires-clause-fits
 count-requires-clause-fits g c =
     let few : length (walk c.args.self.now.state.tree) < 2 ^ 64 = omega (arith, c.len-all.ensures.count) in
     let fit : length c.common_prefix_predict_iter_bytes.result < 2 ^ 64 =
-      subst (λ xs. length xs < 2 ^ 64) (sym c.common_prefix_predict_iter_bytes.ensures) (predictions_fit c.args.self.now.state.tree c.args.prefix.now few) in
+    subst (λ xs. length xs < 2 ^ 64) (sym c.common_prefix_predict_iter_bytes.ensures) (predictions_fit c.args.self.now.state.tree c.args.prefix.now few) in
     inl (omega (arith, fit))
 
 pub returns : goal.returns
