@@ -181,20 +181,20 @@ in_text finds place text s later inside on =
 
 key_short : (t : Tree) (w : List ℕ) (found : ℤ × ℕ) (keys : List (ℤ × ℕ)) → keys_ending t w ≡ found ∷ keys → found.1 ≤ length w
 key_short t [] found keys e = let none = ap length e in absurd (omega (arith, none))
-key_short t (b ∷ w) found keys =
+key_short t (b ∷ w) found keys e =
     (elim (number_at t (b ∷ w)) as (λ n. cons_option (option_map (λ (v : ℤ). (v, length (b ∷ w))) n) (keys_ending t w) ≡ found ∷ keys → found.1 ≤ length (b ∷ w)) [
       | None ↦ λ e. let low = key_short t w found keys e in omega (arith, low)
       | Some v ↦ λ e. let same : length (b ∷ w) ≡ found.1 = ap (λ (ks : List (ℤ × ℕ)). (get_or ks 0 found).1) e in omega (arith, same)
-    ])
+    ]) e
 
 earliest_on : (t : Tree) (read : List ℕ) (place : ℕ) (w : List ℕ) (s : Occurrence) (later : List Occurrence) → length read ≤ place → earliest_from t read place w ≡ s ∷ later → GoesOnIn (earliest_from t []) place w s later
 earliest_on t read place [] s later low e = absurd (none_some s later e)
-earliest_on t read place (b ∷ w) s later low =
+earliest_on t read place (b ∷ w) s later low e =
     let one = length-append read (b ∷ []) in
     let fits : length (read ++ b ∷ []) ≤ place + 1 = omega (arith, low, one) in
     (elim (keys_ending t (read ++ b ∷ [])) as (λ ks. keys_ending t (read ++ b ∷ []) ≡ ks
     → cons_option (option_map (occurrence_ending (place + 1)) (first_key ks)) (earliest_from t (cond (is_some (first_key ks)) [] (read ++ b ∷ [])) (place + 1) w) ≡ s ∷ later → GoesOnIn (earliest_from t []) place (b ∷ w) s later) [
-      | [] ↦ λ is e. one_later (earliest_from t []) place b w s later (earliest_on t (read ++ b ∷ []) (place + 1) w s later fits e)
+      | [] ↦ λ is f. one_later (earliest_from t []) place b w s later (earliest_on t (read ++ b ∷ []) (place + 1) w s later fits f)
       | found ∷ keys ↦ λ is e.
           let short = key_short t (read ++ b ∷ []) found keys is in
           let here = occurrence_ending (place + 1) found in
@@ -206,7 +206,7 @@ earliest_on t read place (b ∷ w) s later low =
             inside = omega (arith, at);
             left = sym (rest_of here s (earliest_from t [] (place + 1) w) later e) ∙ ap (λ n. earliest_from t [] n w) (sym at) ∙ ap (λ n. earliest_from t [] (end_of s) (drop n (b ∷ w))) (sym next);
           }
-    ]) refl
+    ]) refl e
 
 -- behind the key that ends first they are those from its end on
 pub earliest_goes_on : (t : Tree) (place : ℕ) (text : List ℕ) (s : Occurrence) (later : List Occurrence) → place ≤ length text → earliest_behind t place text ≡ s ∷ later → GoesOn (earliest_behind t) place text s later
@@ -224,7 +224,7 @@ key_within kind t text = subst (λ (o : Option (ℤ × ℕ)). IfSome o (λ found
 
 leftmost_on : (kind : MatchKind) (t : Tree) (place : ℕ) (w : List ℕ) (s : Occurrence) (later : List Occurrence) → leftmost_behind kind t 0 place w ≡ s ∷ later → GoesOnIn (leftmost_behind kind t 0) place w s later
 leftmost_on kind t place [] s later e = absurd (none_some s later e)
-leftmost_on kind t place (b ∷ w) s later =
+leftmost_on kind t place (b ∷ w) s later e =
     (elim (key_for kind t (b ∷ w)) as (λ o. IfSome o (λ found. found.1 < length (b ∷ w))
     → cons_option (option_map (spot place) o) (leftmost_behind kind t (len_of o - 1) (place + 1) w) ≡ s ∷ later → GoesOnIn (leftmost_behind kind t 0) place (b ∷ w) s later) [
       | None ↦ λ within e.
@@ -246,7 +246,7 @@ leftmost_on kind t place (b ∷ w) s later =
                 ∙ ap (λ n. leftmost_behind kind t 0 n (drop taken w)) reached
                 ∙ ap (λ n. leftmost_behind kind t 0 (end_of s) (drop n (b ∷ w))) next;
           }
-    ]) (key_within kind t (b ∷ w))
+    ]) (key_within kind t (b ∷ w)) e
 
 -- behind the first key that counts they are those from its end on
 pub leftmost_goes_on : (kind : MatchKind) (t : Tree) (place : ℕ) (text : List ℕ) (s : Occurrence) (later : List Occurrence) → place ≤ length text → leftmost_from kind t place text ≡ s ∷ later

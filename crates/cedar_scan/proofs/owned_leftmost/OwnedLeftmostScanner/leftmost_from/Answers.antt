@@ -1,11 +1,19 @@
-use Rattle.std.proofs.Common.{◌∙◌, ap}
+use Rattle.std.proofs.Common.{◌∙◌, ap, subst, sym}
+use Rattle.cedar_scan.specs.Keywords.{IsKeywordAutomaton}
+use Rattle.cedar_scan.specs.Preferred.{keys_for}
 use Rattle.cedar_scan.specs.Resumed.{leftmost_from}
 use Rattle.cedar_scan.specs.Scanners.{LeftmostKeys}
 use Rattle.cedar_scan.proofs.PreferredLemmas.{keywords_from_are_leftmost}
 use Rattle.cedar_scan.proofs.owned_leftmost.OwnedLeftmostScanner.leftmost_from.Goals as goal
 
 pub behind-requires : goal.behind-requires
-behind-requires g c = c.self.invariant.0
+behind-requires g c =
+    let t = keys_for c.self.inside.keys.kind (g.T.Placed.tree c.self.inside.keys.trie) in
+    let slots = g.T.Placed.slot_of c.self.inside.keys.trie in
+    let parts = c.self.inside.parts in
+    subst (λ states. IsKeywordAutomaton t slots states c.deref-2.result.now c.deref-3.result.now) (sym c.deref.ensures.value)
+    (subst (λ falls. IsKeywordAutomaton t slots parts.states.items falls c.deref-3.result.now) (sym c.deref-2.ensures.value)
+    (subst (IsKeywordAutomaton t slots parts.states.items parts.falls.items) (sym c.deref-3.ensures.value) c.self.invariant.0))
 
 pub returns-clause-rest : goal.returns-clause-rest
 returns-clause-rest g c =
