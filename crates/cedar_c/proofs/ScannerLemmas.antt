@@ -183,7 +183,7 @@ module _ (t : Tree) (text : List ℕ) (before next whole count : ℕ) (found : L
       let one = length-append so_far.done (s ∷ []) in
       let told = ap length so_far.written in
       let first = length-append (take whole found) (map found_keyword so_far.done) in
-      let mapped = length-map found_keyword so_far.done in
+      let mapped = length-map so_far.done found_keyword in
       let few = so_far.within.0 in
       let count_in = so_far.within.1 in
       let kept : length (take whole found) ≡ whole = length-take-le whole found (omega (arith, few, count_in)) in
@@ -201,7 +201,7 @@ module _ (t : Tree) (text : List ℕ) (before next whole count : ℕ) (found : L
           ap (λ n. length (all_ending t (take next text) next (take n (drop next text)))) one
           ∙ ap (λ w. length (all_ending t (take next text) next (take 1 w))) next_is
           ∙ ap length (append-nil (map (occurrence_ending (next + 1)) (keys_ending t (take next text ++ byte ∷ []))))
-          ∙ length-map (occurrence_ending (next + 1)) (keys_ending t (take next text ++ byte ∷ []))
+          ∙ length-map (keys_ending t (take next text ++ byte ∷ [])) (occurrence_ending (next + 1))
           ∙ ap (λ w. length (keys_ending t w)) read
 
 -- none is left: all that was found is written

@@ -1,8 +1,8 @@
 -- What the handles of scanners have.
 use Rattle.std.specs.Prelude.{Option}
 use Rattle.cedar_c.specs.declared.any_scanner.AnyScanner.{AnyScanner}
-use Rattle.cedar_c.specs.declared.scanners.ScannerHandle.{ScannerHandle}
-use Rattle.cedar_c.specs.declared.scanners.ScannerReading.{ScannerReading}
+use Rattle.cedar_c.specs.declared.scanner_handle.ScannerHandle.{ScannerHandle}
+use Rattle.cedar_c.specs.declared.scanner_reading.ScannerReading.{ScannerReading}
 
 -- the scanner that a handle has, or none if it is closed
 abbrev pub scanner_in : ScannerHandle → Option AnyScanner

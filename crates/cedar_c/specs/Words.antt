@@ -51,7 +51,7 @@ pub use Rattle.cedar_c.specs.Stores.{HoldsFront, HoldsPart, RefusesAll}
 pub use Rattle.cedar_c.specs.Updates.{KeepsSlots, StoresValue}
 pub use Rattle.cedar_c.specs.declared.any_scanner.AnyScanner.{AnyScanner}
 pub use Rattle.cedar_scan.specs.Words.{earliest_behind, ending_behind, IsHeight, keys_ending}
-pub use Rattle.cedar_scan.specs.Words.{leftmost_from, slot_in}
+pub use Rattle.cedar_scan.specs.Words.{leftmost_from}
 pub use Rattle.either_layout.specs.Builds.{IsBuildShortage}
 pub use Rattle.either_layout.specs.declared.any.AnyCedar.{AnyCedar}
 pub use Rattle.cedarwood.specs.Format.{header_answer}

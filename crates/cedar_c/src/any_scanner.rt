@@ -2,27 +2,12 @@
 
 ghost use Rattle.std.specs.Prelude.{◌≡◌, IfSome, Some};
 ghost use Rattle.cedar_c.specs.Words.{AnyScanner, inner_dictionary, IsHeight, scanned_tree};
-ghost use Rattle.cedar_c.specs.Words.{scanner_by, slot_in};
+ghost use Rattle.cedar_c.specs.Words.{scanner_by};
 
-use cedar_scan::{MatchKind, OwnedLeftmostScanner, OwnedScanner, Placed, PlacedNode};
-use either_layout::{AnyCedar, on_layout};
-use std::alloc::{AllocError, Allocator, Global};
-
-/// The dictionary of a scanner, of either layout.
-#[derive(Drop)]
-pub struct ScannedCedar {
-    cedar: AnyCedar,
-}
-
-impl Placed for ScannedCedar {
-    ghost tree = { λ it. (inner_dictionary it.cedar).state.tree };
-
-    ghost slot_of = { λ it. slot_in (inner_dictionary it.cedar).table };
-
-    fn nodes<A: Allocator + Copy>(&self, alloc: A) -> Result<Vec<PlacedNode, A>, AllocError> {
-        on_layout!(&self.cedar, cedar => cedar.nodes(alloc))
-    }
-}
+use crate::scanned_cedar::ScannedCedar;
+use cedar_scan::{MatchKind, OwnedLeftmostScanner, OwnedScanner};
+use either_layout::AnyCedar;
+use std::alloc::Global;
 
 /// A scanner, by the search that it is made for.
 #[derive(Drop)]

@@ -1,83 +1,22 @@
 //! Scanners: keys found in a text in linear time, by an automaton that owns a copy of its dictionary.
 
-ghost use Rattle.std.specs.Prelude.{◌<◌, ◌↔◌, ◌≡◌, ◌≤◌, ◌⊎◌, IfSome, IsSome, IsTrue, length};
-ghost use Rattle.std.specs.Prelude.{None, option_map, Some, take};
+ghost use Rattle.std.specs.Prelude.{◌↔◌, ◌≡◌, ◌≤◌, ◌⊎◌, IfSome, IsSome, length, None, Some, take};
 ghost use Rattle.cedar_c.specs.Words.{AnyScanner, inner_dictionary, IsFullAt, IsHeight};
 ghost use Rattle.cedar_c.specs.Words.{scanned_tree, scanner_by, scanner_in, shown_in};
 ghost use Rattle.cedar_c.specs.Words.{shown_scanner_in, shown_tree, WritesFound};
 
 use crate::any_scanner::AnyScanner;
-use crate::held_scanner::HeldScanner;
-use crate::loose::Loose;
 use crate::reading::Reading;
+use crate::scanner_handle::ScannerHandle;
+use crate::scanner_reading::ScannerReading;
 use crate::scans::Found;
 use crate::searches::{write_earliest, write_leftmost, write_overlapping};
-use crate::shown_scanner::ShownScanner;
 use crate::status::{CLOSED, MEMORY, OK, UNKNOWN_SEARCH};
 use either_layout::AnyCedar;
 use std::alloc::Global;
-use std::mem;
 
 /// How many kinds of searches there are, by their numbers from 0 on.
 const SEARCHES: u32 = 4;
-
-/// What C has of a scanner: the scanner, or none while it is closed. Whether it is open is a word, as in a `Handle`.
-#[repr(C)]
-#[derive(Drop)]
-pub struct ScannerHandle {
-    pub(crate) held: HeldScanner,
-    is_open: u32,
-    ghost tells: { (0 < is_open) ↔ IsSome held.value },
-}
-
-impl ScannerHandle {
-    fn new_closed() -> ScannerHandle
-        ensures { result.held.value ≡ None }
-    {
-        ScannerHandle {
-            held: HeldScanner::none(),
-            is_open: 0,
-        }
-    }
-
-    fn of(scanner: Box<AnyScanner, Global>) -> ScannerHandle
-        ensures { result.held.value ≡ Some scanner.value }
-    {
-        ScannerHandle {
-            held: HeldScanner::of(Loose::of(scanner)),
-            is_open: 1,
-        }
-    }
-
-    /// Takes the scanner out, which closes the handle.
-    fn take(&mut self, alloc: Global) -> Option<Box<AnyScanner, Global>>
-        ensures taken { option_map (λ b. b.value) result ≡ self.old.held.value }
-        ensures closed { self.new.held.value ≡ None }
-    {
-        if self.is_open == 0 {
-            return None;
-        }
-        let ScannerHandle { held, .. } = mem::replace(self, ScannerHandle::new_closed());
-        Some(held.into_loose(alloc).into_box())
-    }
-}
-
-/// A scanner that is lent for reading, or none while it is closed: the same words as a `ScannerHandle`'s.
-#[repr(C)]
-#[derive(Drop)]
-pub struct ScannerReading {
-    pub(crate) shown: ShownScanner,
-    is_open: u32,
-    ghost tells: { (0 < is_open) ↔ IsSome shown.value },
-}
-
-impl ScannerReading {
-    fn is_open(&self) -> bool
-        ensures { IsTrue result ↔ IsSome self.now.shown.value }
-    {
-        self.is_open != 0
-    }
-}
 
 /// Opens a handle with a scanner of a copy of a dictionary. If the handle is open, the new one replaces the old one. Later changes of the
 /// dictionary don't change the scanner. `search` says what it finds: 0 all keys, by their ends; 1 keys that don't overlap, of those that

@@ -3,12 +3,12 @@ use Rattle.std.proofs.lemmas.List.{length-set}
 use Rattle.cedar_c.proofs.ScannerLemmas.{before_next, begins_ends, end_inside, none_ending, stays_at, too_many}
 use Rattle.cedar_c.proofs.searches.write_overlapping.Goals as goal
 
-pub loop-spot-init : goal.loop-spot-init
-loop-spot-init g c = (begins_ends c.args.scanner.now c.args.text.now c.args.next.now c.args.found.now c.overlapping_from.result.rest c.overlapping_from.ensures.rest, refl)
+pub loop-next-init : goal.loop-next-init
+loop-next-init g c = (begins_ends c.args.scanner.now c.args.text.now c.args.next.now c.args.found.now c.overlapping_from.result.rest c.overlapping_from.ensures.rest, refl)
 
 pub overflow_add-move_before : goal.overflow_add-move_before
 overflow_add-move_before g c =
-    let l = c.loop-spot in
+    let l = c.loop-next in
     let inside = end_inside c.args.scanner.now c.args.text.now c.args.next.now l.next l.whole l.count l.found l.walk.rest l.invariant.0 c.in-Some.spot c.next-spot.new.self.rest c.in-Some.ensures in
     let short : length c.args.text.now < 2 ^ 64 = search rules in
     omega (arith, inside, short)
@@ -16,20 +16,20 @@ overflow_add-move_before g c =
 -- without room for the next key
 pub returns-then-count-found-clause-told : goal.returns-then-count-found-clause-told
 returns-then-count-found-clause-told g c =
-    let l = c.loop-spot in
+    let l = c.loop-next in
     (before_next c.args.scanner.now c.args.text.now c.args.next.now l.next l.whole l.count l.found l.walk.rest l.invariant.0 c.in-Some.spot c.next-spot.new.self.rest c.in-Some.ensures c.move_before.new.next c.move_before.new.whole c.move_before.ensures).0.told
 
 pub returns-then-count-found-clause-full : goal.returns-then-count-found-clause-full
 returns-then-count-found-clause-full g c =
-    let l = c.loop-spot in
+    let l = c.loop-next in
     let s = c.in-Some.spot in
     let later = c.next-spot.new.self.rest in
     let now = before_next c.args.scanner.now c.args.text.now c.args.next.now l.next l.whole l.count l.found l.walk.rest l.invariant.0 s later c.in-Some.ensures c.move_before.new.next c.move_before.new.whole c.move_before.ensures in
     inr (too_many c.args.scanner.now c.args.text.now c.args.next.now c.move_before.new.next c.move_before.new.whole l.count l.found (s ∷ later) now.0 s later refl now.1 c.if-count-found.true)
 
-pub loop-spot-preserved : goal.loop-spot-preserved
-loop-spot-preserved g c =
-    let l = c.loop-spot in
+pub loop-next-preserved : goal.loop-next-preserved
+loop-next-preserved g c =
+    let l = c.loop-next in
     let s = c.in-Some.spot in
     let later = c.next-spot.new.self.rest in
     let now = before_next c.args.scanner.now c.args.text.now c.args.next.now l.next l.whole l.count l.found l.walk.rest l.invariant.0 s later c.in-Some.ensures c.move_before.new.next c.move_before.new.whole c.move_before.ensures in
@@ -41,9 +41,9 @@ loop-spot-preserved g c =
 
 pub returns-clause-told : goal.returns-clause-told
 returns-clause-told g c =
-    let l = c.loop-spot in
+    let l = c.loop-next in
     let most = c.max-next.ensures in
-    none_ending c.args.scanner.now c.args.text.now c.args.next.now l.next l.whole l.count c.max-next.result l.found l.walk.rest l.invariant.0 c.loop-spot-test.none (omega (arith, most))
+    none_ending c.args.scanner.now c.args.text.now c.args.next.now l.next l.whole l.count c.max-next.result l.found l.walk.rest l.invariant.0 c.loop-next-test.none (omega (arith, most))
 
 pub returns-clause-full : goal.returns-clause-full
 returns-clause-full g c = let most = c.max-next.ensures in inl (omega (arith, most))
