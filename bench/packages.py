@@ -26,10 +26,27 @@ class Packages:
         found = self.find(name)
         if found or self.is_offline:
             return found
+        self.fetch(package)
+        return self.find(name)
+
+    def fetch(self, package):
+        """Downloads a package and unpacks it into the folder."""
         self.folder.mkdir(parents=True, exist_ok=True)
         command = f"apt-get download {package} && for file in {package}_*.deb; do dpkg -x \"$file\" .; done"
         subprocess.run(["sh", "-c", command], cwd=self.folder, stdout=subprocess.DEVNULL, stderr=subprocess.DEVNULL, check=False)
-        return self.find(name)
+
+    def crates(self, versions):
+        """The folder of crates' sources, as Debian packs them, that has a version of each crate that begins so: crates({"memchr": "2."}).
+        What isn't there is downloaded. Nothing if one can't be had."""
+        for is_last in (False, True):
+            for root in (Path("/"), self.folder):
+                registry = root / "usr/share/cargo/registry"
+                if all(list(registry.glob(f"{name}-{version}*")) for name, version in versions.items()):
+                    return registry
+            for package in () if is_last else (f"librust-{name}-dev" for name in versions):
+                if not self.is_offline and not list(self.folder.glob(f"{package}_*.deb")):
+                    self.fetch(package)
+        return None
 
     def version(self, package):
         """The version of a package that was downloaded, or of the installed one."""

@@ -40,6 +40,22 @@ def compiled(out, name, source, *words):
     return program
 
 
+def built_by_cargo(out, name, program, crates):
+    """The program of bench/NAME, of a copy of its sources, since cargo writes beside them. With a folder of crates nothing is fetched."""
+    copy = out / name
+    shutil.copytree(TOP / "bench" / name, copy, dirs_exist_ok=True)
+    for made in (copy / "Cargo.lock", copy / ".cargo" / "config.toml"):
+        made.unlink(missing_ok=True)
+    command = ["cargo", "build", "--release", "--quiet"]
+    if crates:
+        (copy / ".cargo").mkdir(exist_ok=True)
+        source = f'[source.crates-io]\nreplace-with = "debian"\n[source.debian]\ndirectory = "{crates}"\n'
+        (copy / ".cargo" / "config.toml").write_text(source)
+        command.append("--offline")
+    subprocess.run(command, cwd=copy, check=True, env={**os.environ, "CARGO_TARGET_DIR": str(copy / "target")})
+    return copy / "target" / "release" / program
+
+
 def version_here():
     return (TOP / "VERSION").read_text().strip()
 
