@@ -6,7 +6,7 @@ use Rattle.cedar_c.proofs.ScannerLemmas.{begins_apart, in_text_apart, none_apart
 use Rattle.cedar_c.proofs.searches.write_earliest.Goals as goal
 
 pub loop-count-init : goal.loop-count-init
-loop-count-init g c = (begins_apart (earliest_behind c.args.scanner.now) c.args.text.now c.args.next.now c.args.found.now c.earliest_from.result.rest c.earliest_from.ensures.rest, refl)
+loop-count-init g c = (begins_apart (earliest_behind c.args.scanner.now) c.args.text.now c.args.next.now c.args.found.now c.earliest_from-walk.result.rest c.earliest_from-walk.ensures.rest, refl)
 
 -- the match that comes next, and what is left behind it
 goes_on : goal.loop-count-preserved
@@ -15,8 +15,8 @@ goes_on g c =
     let so_far = l.invariant.0 in
     let text = c.args.text.now in
     let s = c.in-Some.spot in
-    let later = c.next-spot.new.self.rest in
-    let is = c.in-Some.ensures in
+    let later = c.next.new.self.rest in
+    let is = c.in-Some.ensures.steps in
     let on = earliest_goes_on c.args.scanner.now l.next text s later (in_text_apart (earliest_behind c.args.scanner.now) text c.args.next.now l.next l.count l.found l.walk.rest so_far s later is (no_earliest c.args.scanner.now c.args.text.now)) (sym so_far.left_is ∙ is) in
     let size = ap length c.put_spot.ensures ∙ length-set l.found l.count _ in
     (rw c.put_spot.ensures (spot_apart (earliest_behind c.args.scanner.now) text c.args.next.now l.next l.count l.found l.walk.rest so_far s later is c.loop-count-test.true on), size ∙ l.invariant.1)
@@ -29,8 +29,8 @@ overflow_add-next g c =
     let l = c.loop-count in
     let text = c.args.text.now in
     let s = c.in-Some.spot in
-    let later = c.next-spot.new.self.rest in
-    let is = c.in-Some.ensures in
+    let later = c.next.new.self.rest in
+    let is = c.in-Some.ensures.steps in
     let on = earliest_goes_on c.args.scanner.now l.next text s later (in_text_apart (earliest_behind c.args.scanner.now) text c.args.next.now l.next l.count l.found l.walk.rest l.invariant.0 s later is (no_earliest c.args.scanner.now c.args.text.now)) (sym l.invariant.0.left_is ∙ is) in
     let inside = on.inside in
     let short : length text < 2 ^ 64 = search rules in
@@ -40,16 +40,16 @@ pub returns-in_default-clause-told : goal.returns-in_default-clause-told
 returns-in_default-clause-told g c =
     let l = c.loop-count in
     let text = c.args.text.now in
-    none_apart (earliest_behind c.args.scanner.now) text c.args.next.now l.next l.count l.found l.walk.rest l.invariant.0 c.max-next.result c.in_default.is (no_earliest c.args.scanner.now c.args.text.now c.max-next.result (let most = c.max-next.ensures in omega (arith, most)))
+    none_apart (earliest_behind c.args.scanner.now) text c.args.next.now l.next l.count l.found l.walk.rest l.invariant.0 c.max.result c.in_default.ensures.steps.0 (no_earliest c.args.scanner.now c.args.text.now c.max.result (let most = c.max.ensures in omega (arith, most)))
 
 pub returns-in_default-clause-full : goal.returns-in_default-clause-full
-returns-in_default-clause-full g c = let most = c.max-next.ensures in inl (omega (arith, most))
+returns-in_default-clause-full g c = let most = c.max.ensures in inl (omega (arith, most))
 
 pub returns-in_default-clause-within : goal.returns-in_default-clause-within
 returns-in_default-clause-within g c =
     let l = c.loop-count in
     let low = l.invariant.0.within.1 in
-    let most = c.max-next.ensures in
+    let most = c.max.ensures in
     (l.invariant.0.within.0, omega (arith, low, most))
 
 pub returns-clause-told : goal.returns-clause-told
