@@ -1,7 +1,6 @@
 -- Some entries, or others where there are none of them.
-use Rattle.std.proofs.Common.{◌≡◌, ℕ, zero, suc, true, false, List, [], ◌∷◌, length, refl, sym, ap, ◌∙◌, arith}
-use Rattle.std.specs.Prelude.{◌==◌, Err, IfOk, Ok, Result}
-use Rattle.std.proofs.lemmas.Bool.{true≢false}
+use Rattle.std.proofs.Common.{◌≡◌, List, [], ◌∷◌, length, refl, ap, ◌∙◌, arith}
+use Rattle.std.specs.Prelude.{Err, IfOk, Ok, Result}
 use Rattle.cedarwood.specs.Queries.{Entry}
 use Rattle.uses.specs.Suggestions.{first_filled}
 
@@ -22,11 +21,3 @@ pub others_told : (X E : Type 0) (entries : X → List Entry) (result : Result X
     → IfOk result (λ x. entries x ≡ others) → IfOk result (λ x. entries x ≡ first_filled first others)
 others_told X E entries (Ok x) found first others is none same = same ∙ none_first found others none ∙ ap (λ es. first_filled es others) is
 others_told X E entries (Err e) found first others is none same = tt
-
-pub is_none : (n : ℕ) → (n == 0) ≡ true → n ≡ 0
-is_none zero h = refl
-is_none (suc n) h = absurd (true≢false (sym h))
-
-pub is_some : (n : ℕ) → (n == 0) ≡ false → n ≡ 0 → ⊥
-is_some zero h z = true≢false h
-is_some (suc n) h z = omega (arith, z)
