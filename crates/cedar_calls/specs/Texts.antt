@@ -39,7 +39,7 @@ lists_by begin more (suc left) = let table = lists_by begin more left in table +
 abbrev pub model_cuts_of : ℕ → Tree → (ℤ → ℕ) → (ℕ → UnknownRun) → List ℕ → List (List Token)
 model_cuts_of most tree key run text =
     ways_along
-        (lists_by (take most (no_way ∷ []))
-            (λ table left. best_ways most key table (run (length text - suc left)) (front tree (drop (length text - suc left) text)))
-            (length text))
-        (length text)
+    (lists_by (take most (no_way ∷ []))
+    (λ table left. best_ways most key table (run (length text - suc left)) (front tree (drop (length text - suc left) text)))
+    (length text))
+    (length text)
