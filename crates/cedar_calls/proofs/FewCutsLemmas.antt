@@ -9,11 +9,10 @@ use Rattle.cedar_words.specs.Models.{cost_with}
 use Rattle.cedar_words.specs.Ranked.{AreInOrder, AreWays, best_ways, IsBestCuts, IsCutBefore, kind_number, no_way}
 use Rattle.cedar_words.specs.Tokens.{Token}
 use Rattle.cedar_words.specs.declared.models.UnknownRun.{UnknownRun}
-use Rattle.cedar_words.specs.declared.ranked.Way.{Way}
 use Rattle.cedar_words.proofs.RankedLemmas.{ways_best_cuts}
 use Rattle.cedar_words.proofs.RankLemmas.{Less, More}
 use Rattle.cedar_words.proofs.TableLemmas.{ways_begin, ways_more}
-use Rattle.cedar_calls.specs.Texts.{model_cuts_of, ways_by_model}
+use Rattle.cedar_calls.specs.Texts.{lists_by, model_cuts_of}
 
 -- ---- of two cuts one at most comes before the other
 
@@ -82,17 +81,21 @@ one_order key run most (x ∷ xs) (y ∷ ys) a b few many c d =
 -- ---- the best cuts that a tree decides
 
 module _ (most : ℕ) (t : Tree) (key : ℤ → ℕ) (run : ℕ → UnknownRun) (text : List ℕ) where
-  ways_so_far : (left : ℕ) → (length (ways_by_model most t key run text left) ≡ suc left) × AreWays most t key run text (ways_by_model most t key run text left)
+  ways_so_far : (left : ℕ) → let table = lists_by (take most (no_way ∷ [])) (λ later fewer. best_ways most key later (run (length text - suc fewer)) (front t (drop (length text - suc fewer) text))) left in
+      (length table ≡ suc left) × AreWays most t key run text table
   ways_so_far zero = (refl, ways_begin most t key run text (take most (no_way ∷ [])) refl)
   ways_so_far (suc left) =
       let fewer = ways_so_far left in
-      let table : List (List Way) = ways_by_model most t key run text left in
-      let ways : List Way = best_ways most key table (run (length text - suc left)) (front t (drop (length text - suc left) text)) in
+      let table = lists_by (take most (no_way ∷ [])) (λ later fewer. best_ways most key later (run (length text - suc fewer)) (front t (drop (length text - suc fewer) text))) left in
+      let ways = best_ways most key table (run (length text - suc left)) (front t (drop (length text - suc left) text)) in
       let some : 0 < suc left = omega arith in
       (length_push table ways ∙ omega (arith, fewer.0), ways_more most t key run text table ways (suc left) some fewer.0 refl fewer.1)
 
   decided : IsBestCuts t key run text most (model_cuts_of most t key run text)
-  decided = let all = ways_so_far (length text) in ways_best_cuts most t key run text (ways_by_model most t key run text (length text)) all.1 (omega (arith, all.0))
+  decided =
+      let all = ways_so_far (length text) in
+      let table = lists_by (take most (no_way ∷ [])) (λ later fewer. best_ways most key later (run (length text - suc fewer)) (front t (drop (length text - suc fewer) text))) (length text) in
+      ways_best_cuts most t key run text table all.1 (omega (arith, all.0))
 
   -- they are the only ones
   pub same_cuts : (cuts : List (List Token)) → IsBestCuts t key run text most cuts → cuts ≡ model_cuts_of most t key run text

@@ -5,7 +5,6 @@ use Rattle.cedar_words.specs.Words.{best_by, best_cut_by, best_ways, byte_run, f
 use Rattle.cedar_words.specs.Words.{IsBestCut, IsCheapestBy, IsCut, IsLeastCapped, no_way, Token}
 use Rattle.cedar_words.specs.Words.{Tree, ways_along}
 use Rattle.cedar_words.specs.declared.models.UnknownRun.{UnknownRun}
-use Rattle.cedar_words.specs.declared.ranked.Way.{Way}
 
 -- a cut that costs no more than any and is ahead of each that costs as little, where a key costs its number and a byte without one what is
 -- said of its position, and sums above 2 ^ 64 - 1 count as 2 ^ 64 - 1. By that model it is the best cut
@@ -31,13 +30,16 @@ costs_by_model tree key run text (suc left) =
 abbrev pub model_cut_of : Tree → (ℤ → ℕ) → (ℕ → UnknownRun) → List ℕ → List Token
 model_cut_of tree key run text = best_cut_by tree key run text (costs_by_model tree key run text (length text))
 
--- by a model, the best ways over the last bytes of a text, none of them, one, and so on up to so many
-abbrev pub ways_by_model : ℕ → Tree → (ℤ → ℕ) → (ℕ → UnknownRun) → List ℕ → ℕ → List (List Way)
-ways_by_model most tree key run text zero = take most (no_way ∷ []) ∷ []
-ways_by_model most tree key run text (suc left) =
-    let table = ways_by_model most tree key run text left in
-    table ++ best_ways most key table (run (length text - suc left)) (front tree (drop (length text - suc left) text)) ∷ []
+-- a list for none of the last bytes of a text, and for one more and one more of them what comes of the lists before
+abbrev pub lists_by : {W : Type 0} → List W → (List (List W) → ℕ → List W) → ℕ → List (List W)
+lists_by begin more zero = begin ∷ []
+lists_by begin more (suc left) = let table = lists_by begin more left in table ++ more table left ∷ []
 
--- the tokens of the best cuts by a model, so many at most
+-- the tokens of the best cuts by a model, so many at most: those along the best ways over none of the last bytes of a text, one, and so on
 abbrev pub model_cuts_of : ℕ → Tree → (ℤ → ℕ) → (ℕ → UnknownRun) → List ℕ → List (List Token)
-model_cuts_of most tree key run text = ways_along (ways_by_model most tree key run text (length text)) (length text)
+model_cuts_of most tree key run text =
+    ways_along
+    (lists_by (take most (no_way ∷ []))
+    (λ table left. best_ways most key table (run (length text - suc left)) (front tree (drop (length text - suc left) text)))
+    (length text))
+    (length text)

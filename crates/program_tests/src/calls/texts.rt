@@ -244,17 +244,19 @@ fn expect_few_cuts(rt: &impl Abort, answers: &[Answer<Global>]) {
     let Answer::Replied(Reply::InText(TextReply::Cuts(Ok(none)))) = none else {
         panic!(rt; "no empty list");
     };
-    assert_eq!(rt; cuts.len(), 3);
+    let [first, second, third] = cuts.as_slice() else {
+        panic!(rt; "not three cuts");
+    };
     assert_eq!(rt;
-        cuts[0].as_slice(),
+        first.as_slice(),
         [(0, 3, Some(4)), (3, 1, None)].as_slice()
     );
     assert_eq!(rt;
-        cuts[1].as_slice(),
+        second.as_slice(),
         [(0, 1, Some(5)), (1, 3, Some(1))].as_slice()
     );
     assert_eq!(rt;
-        cuts[2].as_slice(),
+        third.as_slice(),
         [(0, 1, None), (1, 3, Some(1))].as_slice()
     );
     assert!(rt; none.is_empty());
