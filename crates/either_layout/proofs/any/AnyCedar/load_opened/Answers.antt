@@ -1,14 +1,9 @@
 use Rattle.std.proofs.Common.{inl, inr, refl}
-use Rattle.std.proofs.lemmas.Result.{err_from_is_err_and}
 use Rattle.either_layout.proofs.EitherLemmas.{lacks_either}
 use Rattle.either_layout.proofs.any.AnyCedar.load_opened.Goals as goal
 
 pub returns-in_default-clause-lacks : goal.returns-in_default-clause-lacks
 returns-in_default-clause-lacks g c = inl (inl refl)
-
-pub returns-in_err-is_reduced-clause-lacks : goal.returns-in_err-is_reduced-clause-lacks
-returns-in_err-is_reduced-clause-lacks g c =
-    let p = err_from_is_err_and c.from_residual.result c.from_residual.ensures.1 in rw (p.1, p.2) (inl (inr tt))
 
 pub returns-clause-formed : goal.returns-clause-formed
 returns-clause-formed g c = c.load_as.ensures.loads.formed
