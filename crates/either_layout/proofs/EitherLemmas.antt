@@ -1,16 +1,17 @@
 -- What a build and a load of a dictionary of one layout are for one of either layout.
 use Rattle.std.proofs.Common.{◌≡◌, ◌∙◌, ◌<◌, ◌++◌, ◌∷◌, [], ℕ, zero, suc, Bool, false, List, length, Option, None, Some, Result, Ok, Err, IfErr, IfOk, IfSome}
 use Rattle.std.proofs.Common.{ap, append-nil, arith, inl, inr, refl, subst, sym}
-use Rattle.core.specs.Fmt.{option_append}
 use Rattle.std.specs.List.{slice_get}
+use Rattle.std.specs.Prelude.{drop, IfNone, option_map}
+use Rattle.std.specs.Io.Chain.{chain_remaining}
 use Rattle.std.specs.Io.KnownBytes.{Consumes, IsAtEnd}
+use Rattle.std.specs.declared.io.traits.Chain.{Chain}
 use Rattle.cedar_disk.specs.OpenedFiles.{file_to_read, read_calls}
 use Rattle.cedar_disk.specs.Openings.{opened_to_read}
 use Rattle.cedar_disk.specs.declared.opening.FileToRead.{FileToRead}
 use Rattle.cedar_file.proofs.LoadLemmas.{stands_in, stays_refused}
-use Rattle.cedar_format.specs.Format.{IsVersion, Passes}
+use Rattle.cedar_format.specs.Format.{Passes}
 use Rattle.cedar_format.specs.Reading.{LacksNoMore}
-use Rattle.cedar_format.specs.Tables.{table_bytes}
 use Rattle.cedar_format.specs.declared.error.CedarPersistenceError.TheVariants as errors
 use Rattle.cedar_format.specs.declared.header.Header.{Header}
 use Rattle.cedarwood.specs.CedarPersistenceError.{CedarPersistenceError}
@@ -112,6 +113,20 @@ loads_short limit before seen rest head result same taken ended layout loads =
     let known : IfSome before (λ known. known ≡ head) = subst (λ o. IfSome o (λ known. known ≡ head)) same (whole_known seen rest head taken ended) in
     inr (inr (file_layout head, named_known before head known, layout, (loads.0, false, known_loads (file_layout head) limit loads.0 false before head result known loads.1)))
 
+-- what holds without a fault holds if there is none
+pub at_none : {X : Type 0} (fault : Option X) (P : Type 0) → IfNone fault P → ((x : X) → fault ≡ Some x → ⊥) → P
+at_none None P holds none = holds
+at_none (Some x) P holds none = absurd (none x refl)
+
+-- what a cursor at the beginning has left
+pub cursor_left : (position : ℕ) (inner head : List ℕ) → position ≡ 0 → inner ≡ head → option_map (drop position) (Some inner) ≡ Some head
+cursor_left position inner head first same = rw (first, same) refl
+
+-- what a chain of two readers has left, where the first one isn't done
+abbrev pub behind : Option (List ℕ) → Option (List ℕ) → Option (List ℕ)
+behind first second =
+    let chain : Chain (Option (List ℕ)) (Option (List ℕ)) = record { a_done = first; b_done = second; is_first_done = false } in chain_remaining (λ (o : Option (List ℕ)). o) (λ (o : Option (List ℕ)). o) chain
+
 -- a byte of what comes first is the same byte of all
 front_byte : (head rest : List ℕ) (i : ℕ) → i < length head → slice_get (head ++ rest) i ≡ slice_get head i
 front_byte [] rest i within = absurd (omega (arith, within))
@@ -120,7 +135,7 @@ front_byte (x ∷ head) rest (suc i) within = front_byte head rest i (omega (ari
 
 module _ (limit : ℕ) (is_reduced : Bool) (after : Option (List ℕ)) (failed : Bool) (result : Result AnyCedar CedarPersistenceError) where
   -- a load of the first bytes and of what is behind them is one of the file
-  long_loads : (seen rest whole : Option (List ℕ)) (head : List ℕ) → Consumes seen rest head → whole ≡ option_append (Some head) rest
+  long_loads : (seen rest whole : Option (List ℕ)) (head : List ℕ) → Consumes seen rest head → whole ≡ behind (Some head) rest
       → LoadsBy table_in (layout_for is_reduced) most_slots limit whole after failed result → LoadsBy table_in (layout_for is_reduced) most_slots limit seen after failed result
   long_loads None rest whole head taken joined loads = untold_loads (layout_for is_reduced) limit after failed whole result loads
   long_loads (Some known) None whole head taken joined loads = absurd taken
@@ -133,7 +148,7 @@ module _ (limit : ℕ) (is_reduced : Bool) (after : Option (List ℕ)) (failed :
   long_named (Some known) (Some rest) head taken long named =
       ap layout_for (named ∙ ap names_reduced_layout (sym (front_byte head rest 13 long))) ∙ ap file_layout (sym taken)
 
-  pub loads_long : (before seen rest whole : Option (List ℕ)) (head : List ℕ) → seen ≡ before → Consumes seen rest head → whole ≡ option_append (Some head) rest → 13 < length head
+  pub loads_long : (before seen rest whole : Option (List ℕ)) (head : List ℕ) → seen ≡ before → Consumes seen rest head → whole ≡ behind (Some head) rest → 13 < length head
       → is_reduced ≡ names_reduced_layout (slice_get head 13) → IfOk result (λ a. inner_layout a ≡ layout_for is_reduced) → LoadsBy table_in (layout_for is_reduced) most_slots limit whole after failed result
       → LoadsAnyOpened limit before result
   loads_long before seen rest whole head same taken joined long named layout loads =
