@@ -17,5 +17,6 @@ pub use Rattle.cedarwood.specs.SortedInput.{fault_from}
 pub use Rattle.either_layout.specs.Builds.{IsBuildShortage}
 pub use Rattle.either_layout.specs.Ends.{GivesEnd}
 pub use Rattle.either_layout.specs.Layouts.{HasSameSize, inner_dictionary, inner_layout, layout_for}
-pub use Rattle.either_layout.specs.Loads.{file_layout, LacksInEither, names_reduced_layout}
+pub use Rattle.either_layout.specs.Loads.{file_layout, LacksInEither, LoadsAnyFrom}
+pub use Rattle.either_layout.specs.Loads.{LoadsAnyOpened, names_reduced_layout, NamesLayout}
 pub use Rattle.either_layout.specs.Loads.{table_in}

@@ -2,19 +2,23 @@
 
 ghost use Rattle.std.specs.Prelude.{◌≡◌, false, IfErr, IfOk, List, Option, Some, slice_get, ℕ};
 ghost use Rattle.either_layout.specs.Words.{file_layout, inner_dictionary, inner_layout};
-ghost use Rattle.either_layout.specs.Words.{IsWellFormed, LacksInEither, layout_for, LoadsBy};
-ghost use Rattle.either_layout.specs.Words.{most_slots, names_reduced_layout, no_search_limit};
-ghost use Rattle.either_layout.specs.Words.{table_in, TellsBreaks};
+ghost use Rattle.either_layout.specs.Words.{IsWellFormed, LacksInEither, layout_for, LoadsAnyFrom};
+ghost use Rattle.either_layout.specs.Words.{LoadsAnyOpened, LoadsBy, most_slots};
+ghost use Rattle.either_layout.specs.Words.{names_reduced_layout, no_search_limit, table_in};
+ghost use Rattle.either_layout.specs.Words.{TellsBreaks};
 
 use crate::AnyCedar;
+use cedar_disk::open_to_read;
 use cedarwood::{Cedar, CedarPersistenceError, ReducedCedar, Source, Watched};
 use std::alloc::Global;
-use std::fs::File;
-use std::io::{self, BufRead, BufReader, Read};
+use std::io::{BufReader, Cursor, Read};
 use std::rt::Files;
 
 /// Where a file has the byte of its layout.
 const LAYOUT_PLACE: usize = 13;
+
+/// How many bytes a file has up to that byte.
+const HEAD_LEN: usize = 14;
 
 /// The byte of the reduced layout.
 const REDUCED_LAYOUT: u8 = 1;
@@ -91,8 +95,7 @@ impl AnyCedar {
     }
 
     /// Loads the dictionary that was saved in a file, of the layout that the file names, through a buffer of 8192 bytes, if its table needs
-    /// at most `memory_limit` bytes of memory. The layout is that of the bytes that the first read gives: of a pipe whose first piece is
-    /// shorter than 14 bytes the default one.
+    /// at most `memory_limit` bytes of memory.
     ///
     /// # Errors
     /// As `load_any`; also `Io` if the file can't be opened or read, and `AllocationFailed` with 8192 if there is no memory for the buffer.
@@ -106,35 +109,46 @@ impl AnyCedar {
         //  of the layouts. [with lacks; by LacksInEither]
         ensures formed { IfOk result (λ a. IsWellFormed most_slots (table_in a)) }
         ensures lacks { IfErr result (LacksInEither memory_limit) }
+
+        //= A load of either layout by path has opened a file at just that path, and does with it, from its first byte on, what `load_any` does
+        //  with its bytes: it is a load of the layout that they name, as far as they are known, and what is loaded is of that layout. Or there
+        //  was no memory for the buffer, or the file's first 14 bytes couldn't be read, or the system hasn't opened it. No contract of the
+        //  system's files says which bytes these are. [by LoadsAnyFrom, LoadsAnyOpened, LoadsBy, NamesLayout]
+        ensures loads { LoadsAnyFrom memory_limit F.File.remaining path.now result }
         ensures unbounded { IfOk result (λ a. (inner_dictionary a).search_limit ≡ no_search_limit) }
     {
-        let file = File::open(files, path)?;
-        AnyCedar::load_opened(alloc, file, memory_limit)
+        let opened = open_to_read(files, path)?;
+        AnyCedar::load_opened(alloc, opened.into_file(), memory_limit)
     }
 
-    /// Loads the dictionary that was saved in a file that is open, of the layout that its first bytes name.
+    /// Loads the dictionary that was saved in a file that is open, of the layout that its first 14 bytes name. They are read first, and then
+    /// once more as what comes before the others.
     fn load_opened<R: Read + Drop>(
         alloc: Global,
         file: R,
         memory_limit: usize,
     ) -> Result<AnyCedar, CedarPersistenceError>
+        ensures loads { LoadsAnyOpened memory_limit (R.remaining file) result }
         ensures formed { IfOk result (λ a. IsWellFormed most_slots (table_in a)) }
         ensures lacks { IfErr result (LacksInEither memory_limit) }
         ensures unbounded { IfOk result (λ a. (inner_dictionary a).search_limit ≡ no_search_limit) }
     {
-        let Ok(mut buffered) = BufReader::new(alloc, file) else {
+        let Ok(buffered) = BufReader::new(alloc, file) else {
             return Err(CedarPersistenceError::AllocationFailed {
                 requested: BUFFER_LEN,
             });
         };
-        let is_reduced = begins_reduced(&mut buffered)?;
         let mut reader = Watched::new(buffered);
-        AnyCedar::load_as(alloc, is_reduced, &mut reader, memory_limit)
+        let mut head = [0; HEAD_LEN];
+        let (count, fault) = reader.read_available(&mut head);
+        if let Some(error) = fault {
+            return Err(CedarPersistenceError::Io(error));
+        }
+        if count < HEAD_LEN {
+            return AnyCedar::load_any(alloc, &head[..count], memory_limit);
+        }
+        let is_reduced = names_reduced(&head);
+        let mut whole = Watched::new(Cursor::new(head).chain(reader.into_inner()));
+        AnyCedar::load_as(alloc, is_reduced, &mut whole, memory_limit)
     }
-}
-
-/// Whether what a reader has buffered names the reduced layout. Nothing is consumed.
-fn begins_reduced<R: BufRead>(reader: &mut R) -> io::Result<bool> {
-    let head = reader.fill_buf()?;
-    Ok(names_reduced(head))
 }
