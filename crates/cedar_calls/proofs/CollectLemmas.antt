@@ -1,8 +1,8 @@
 -- What is collected, and refused only if there is something to collect.
-use Rattle.std.proofs.Common.{◌≡◌, ◌<◌, ◌↔◌, Bool, true, false, List, [], ◌∷◌, ◌++◌, length, length-append, Option, Some, None, is_some, Ok, Err, IfOk, IfErr, IsTrue, arith, refl, sym, subst, ◌∙◌}
+use Rattle.std.proofs.Common.{◌≡◌, ◌<◌, ◌↔◌, ◌==◌, ℕ, Bool, true, false, List, [], ◌∷◌, ◌++◌, length, length-append, map, Option, Some, None, is_some, Ok, Err, IfOk, IfErr, IsTrue, arith, refl, ap, sym, subst, ◌∙◌}
 use Rattle.std.specs.Prelude.{MatchOption, Vec}
 use Rattle.std.specs.declared.result.Result.{Result}
-use Rattle.std.proofs.lemmas.Bool.{false≢true, true≢false}
+use Rattle.std.proofs.lemmas.Bool.{eqb-true, false≢true, true≢false}
 use Rattle.cedarwood.specs.declared.error.CedarError.{CedarError}
 use Rattle.cedarwood.specs.declared.error.CedarError.TheVariants.{Memory}
 use Rattle.cedarwood.specs.Fault.{IsShortage}
@@ -38,3 +38,38 @@ some_listed (Err e) items ok err some = (err, some)
 -- lack of memory is no fault of the call
 pub short : (e : CedarError) → e ≡ Memory → IsShortage e
 short e h = subst IsShortage (sym h) tt
+
+-- what can't be collected for want of memory, where there is something to collect
+pub refused : {X Y : Type 0} (result : Result X CedarError) (e : CedarError) (P : X → Type 0) (items : List Y) → result ≡ Err e → e ≡ Memory → 0 < length items → CollectsSome result P items
+refused result e P items is memory some = subst (λ r. CollectsSome r P items) (sym is) (memory, some)
+
+-- one of what is left is collected
+pushed : {X : Type 0} (found : List X) (x : X) (next : List X) → (found ++ x ∷ []) ++ next ≡ found ++ x ∷ next
+pushed [] x next = refl
+pushed (y ∷ found) x next = ap (λ xs. y ∷ xs) (pushed found x next)
+
+pub one_more : {X : Type 0} (found more rest next all : List X) (x : X) → found ++ rest ≡ all → rest ≡ x ∷ next → more ≡ found ++ x ∷ [] → more ++ next ≡ all
+one_more found more rest next all x whole first added = ap (λ xs. xs ++ next) added ∙ pushed found x next ∙ ap (λ xs. found ++ xs) (sym first) ∙ whole
+
+-- the same where what is shown of it is what is left
+shown_pushed : {X Y : Type 0} (f : X → Y) (found : List X) (x : X) (next : List Y) → map f (found ++ x ∷ []) ++ next ≡ map f found ++ f x ∷ next
+shown_pushed f [] x next = refl
+shown_pushed f (y ∷ found) x next = ap (λ ys. f y ∷ ys) (shown_pushed f found x next)
+
+pub one_shown : {X Y : Type 0} (f : X → Y) (found more : List X) (rest next all : List Y) (x : X) (y : Y) → map f found ++ rest ≡ all → rest ≡ y ∷ next → f x ≡ y
+    → more ≡ found ++ x ∷ [] → map f more ++ next ≡ all
+one_shown f found more rest next all x y whole first same added =
+    ap (λ xs. map f xs ++ next) added ∙ shown_pushed f found x next ∙ ap (λ z. map f found ++ z ∷ next) same ∙ ap (λ ys. map f found ++ ys) (sym first) ∙ whole
+
+-- where one is left, there is something to collect
+pub some_more : {X : Type 0} (found rest next all : List X) (x : X) → found ++ rest ≡ all → rest ≡ x ∷ next → 0 < length all
+some_more found rest next all x whole first = some_of found rest all whole (subst (λ xs. 0 < length xs) (sym first) (omega arith))
+
+-- whether a text has a byte
+pub no_text : (text : List ℕ) (b : Bool) → b ≡ (length text == 0) → b ≡ true → text ≡ []
+no_text [] b same empty = refl
+no_text (x ∷ text) b same empty = let none = eqb-true (length (x ∷ text)) 0 (sym same ∙ empty) in absurd (omega (arith, none))
+
+pub some_text : (text : List ℕ) (b : Bool) → b ≡ (length text == 0) → b ≡ false → 0 < length text
+some_text [] b same not_empty = absurd (false≢true (sym not_empty ∙ same))
+some_text (x ∷ text) b same not_empty = omega arith

@@ -5,6 +5,7 @@ mod CollectLemmas
 mod RunLemmas
 mod BufferLemmas
 mod FewCutsLemmas
+mod EmptyTextLemmas
 mod InTextLemmas
 mod CompletionLemmas
 mod PlainLemmas

@@ -10,11 +10,11 @@ use crate::reply::add;
 use crate::{ModelTables, TextQuery, TextReply};
 use cedar_scan::{Earliest, Leftmost, LeftmostScanner, MatchKind, Overlapping, Placed, Scanner};
 use cedar_words::{
-    AllMatches, Edge, Edges, Fronts, Keywords, LongestPrefix, Segments, cheapest, cheapest_by,
-    cheapest_by_characters, cheapest_cuts, lattice, leftmost_longest, leftmost_longest_from,
-    matches, matches_from, segment, segment_from,
+    AllMatches, Edge, Edges, Fronts, Keywords, LongestPrefix, NextFront, Segments, cheapest,
+    cheapest_by, cheapest_by_characters, cheapest_cuts, lattice, leftmost_longest,
+    leftmost_longest_from, matches, matches_from, segment, segment_from,
 };
-use cedarwood::{CedarError, Layout, PrefixIter, Trie};
+use cedarwood::{CedarError, Layout, Trie};
 use std::alloc::{AllocError, Allocator};
 
 /// Answers a question about a text. Lists are allocated from `alloc`, and an empty one isn't allocated.
@@ -66,14 +66,14 @@ pub(crate) fn text_reply<L: Layout, const SLOTS: usize, A: Allocator + Copy>(
 }
 
 /// What is left of a walk over the keys that a text begins with.
-fn collect_fronts<L: Layout, const SLOTS: usize, A: Allocator + Copy>(
+fn collect_fronts<F: NextFront + Drop, A: Allocator + Copy>(
     alloc: A,
-    walk: PrefixIter<'_, Trie<L, SLOTS, A>>,
+    mut walk: F,
 ) -> Result<Vec<(i32, usize), A>, CedarError>
-    ensures { CollectsAll result walk.entry.rest }
+    ensures { CollectsAll result (F.left walk) }
 {
     let mut found = Vec::new(alloc);
-    for front in walk {
+    while let Some(front) = walk.next_front() {
         add(&mut found, front)?;
     }
     Ok(found)
