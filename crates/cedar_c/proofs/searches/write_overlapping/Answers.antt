@@ -27,6 +27,11 @@ returns-then-count-found-clause-full g c =
     let now = before_next c.args.scanner.now c.args.text.now c.args.next.now l.next l.whole l.count l.found l.walk.rest l.invariant.0 s later c.in-Some.ensures.steps c.move_before.new.next c.move_before.new.whole c.move_before.ensures in
     inr (too_many c.args.scanner.now c.args.text.now c.args.next.now c.move_before.new.next c.move_before.new.whole l.count l.found (s ∷ later) now.0 s later refl now.1 c.if-count-found.true)
 
+pub returns-then-count-found-clause-ends : goal.returns-then-count-found-clause-ends
+returns-then-count-found-clause-ends g c =
+    let l = c.loop-next in
+    (before_next c.args.scanner.now c.args.text.now c.args.next.now l.next l.whole l.count l.found l.walk.rest l.invariant.0 c.in-Some.spot c.next.new.self.rest c.in-Some.ensures.steps c.move_before.new.next c.move_before.new.whole c.move_before.ensures).0.ends
+
 pub loop-next-preserved : goal.loop-next-preserved
 loop-next-preserved g c =
     let l = c.loop-next in
