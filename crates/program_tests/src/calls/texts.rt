@@ -211,15 +211,16 @@ fn expect_scans(rt: &impl Abort, answers: &[Answer<Global>]) {
     assert_eq!(rt; keys(first), [(0, 1, 5), (1, 3, 1)].as_slice());
     assert_eq!(rt; keys(longest), [(0, 2, 6), (2, 3, 1)].as_slice());
     assert_eq!(rt; keys(least), [(0, 1, 5), (2, 3, 1)].as_slice());
-    assert!(rt; is_listed(none) && is_listed(none_first) && is_listed(none_least));
+    expect_no_key(rt, none);
+    expect_no_key(rt, none_first);
+    expect_no_key(rt, none_least);
 }
 
-// Whether the answer has a list of keys.
-fn is_listed(answer: &Answer<Global>) -> bool {
-    matches!(
-        answer,
-        Answer::Replied(Reply::InText(TextReply::Keys(Ok(_))))
-    )
+fn expect_no_key(rt: &impl Abort, answer: &Answer<Global>) {
+    let Answer::Replied(Reply::InText(TextReply::Keys(Ok(found)))) = answer else {
+        panic!(rt; "no list of keys");
+    };
+    assert!(rt; found.is_empty());
 }
 
 // The best three cuts of "abcd", and none where none are wanted.
