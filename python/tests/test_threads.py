@@ -13,6 +13,9 @@ import warnings
 
 from roskvidh import Cedar, Scanner
 
+# A thread may have a lock of the address sanitizer when the process forks: then the child waits for it for good.
+FORKS = hasattr(os, "fork") and "asan" not in os.environ.get("LD_PRELOAD", "")
+
 SECONDS = float(os.environ.get("ROSKVIDH_SECONDS", "10"))
 
 
@@ -278,7 +281,7 @@ class Threads(unittest.TestCase):
         worker.join()
         self.assertLess(least, 1)
 
-    @unittest.skipUnless(hasattr(os, "fork"), "no fork")
+    @unittest.skipUnless(FORKS, "no fork beside threads")
     def test_a_forked_child_waits_for_nobody(self):
         cedar = Cedar({b"ab": 1})
         scan = threading.Thread(target=cedar.scan, args=(b"ab" * 8_000_000,))
@@ -447,7 +450,7 @@ class Signals(unittest.TestCase):
                     time.sleep(0.01)
                 self.assertEqual((len(done), d[b"ab"]), (1, 1))
 
-    @unittest.skipUnless(hasattr(os, "fork"), "no fork")
+    @unittest.skipUnless(FORKS, "no fork beside threads")
     def test_a_handler_that_forks_beside_a_wait(self):
         """The child has no other thread, and waits no more."""
         d, children, waits, is_right = Cedar({b"ab": 1}), [], [True], False
