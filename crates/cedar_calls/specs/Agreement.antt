@@ -68,7 +68,7 @@ IsSameCompletionQuery (completion_query.Near k t b) (completion_query.Near l u c
 IsSameCompletionQuery (completion_query.Fitting k) (completion_query.Fitting l) = k.now ≡ l.now
 IsSameCompletionQuery q r = ⊥
 
--- two questions are the same, wherever their bytes lie
+-- two questions are the same, wherever their bytes lie and whatever room a buffer has
 abbrev pub IsSameQuestion : Question → Question → Type 0
 IsSameQuestion (question.Exact k) (question.Exact l) = k.now ≡ l.now
 IsSameQuestion (question.Get k) (question.Get l) = k.now ≡ l.now
@@ -96,7 +96,8 @@ IsSameQuestion question.Save question.Save = Unit {0}
 IsSameQuestion question.SaveV1_0 question.SaveV1_0 = Unit {0}
 IsSameQuestion q r = ⊥
 
--- two calls are the same, whatever `max_trial` and search limit they set and wherever their bytes lie
+-- two calls are the same, whatever `max_trial` and search limit they set, whatever room a buffer has and wherever their
+-- bytes lie
 abbrev pub IsSameCall : Call → Call → Type 0
 IsSameCall (call.New s) (call.New z) = s.ordered ≡ z.ordered
 IsSameCall (call.Sorted s p) (call.Sorted z q) = (s.ordered ≡ z.ordered) × (entries_of p.now ≡ entries_of q.now)
@@ -115,8 +116,8 @@ AreSameCalls (c ∷ calls) (d ∷ others) = IsSameCall c d × AreSameCalls calls
 AreSameCalls calls others = ⊥
 
 -- two runs of the same calls from the same states, none of them refused for memory or slots, say the same and leave
--- the same states, whatever `max_trial`, the search limit and the tables are. If a load is among the calls, layout
--- and limit of slots are the same, since a file is of one layout
+-- the same states, whatever `max_trial`, the search limit, the room of buffers and the tables are. If a load is among
+-- the calls, layout and limit of slots are the same, since a file is of one layout
 abbrev pub RunsAgree : {A B : Type 0} → List Call → List (Answer A) → List Call → List (Answer B) → Type 0
 RunsAgree calls answers others replies =
     (by_default : Bool) (layout other : LayoutKind) (slots most : ℕ) (before after start end : List Dictionary)

@@ -151,9 +151,9 @@ fn near<L: Layout, const SLOTS: usize, A: Allocator + Copy>(
     let near = within(text, two_edits);
     if is_beginning {
         let beginning = Beginning::new(near);
-        return wanted(trie, alloc, beginning);
+        return collect_accepted(trie, alloc, beginning);
     }
-    wanted(trie, alloc, near)
+    collect_accepted(trie, alloc, near)
 }
 
 /// The entries whose keys fit a pattern, unless that is too long.
@@ -165,13 +165,13 @@ fn fitting<L: Layout, const SLOTS: usize, A: Allocator + Copy>(
     ensures { IsFittingReply trie.now.state.tree pattern.now result }
 {
     match Pattern::new(pattern) {
-        Ok(fitting) => CompletionReply::Wanted(wanted(trie, alloc, fitting)),
+        Ok(fitting) => CompletionReply::Wanted(collect_accepted(trie, alloc, fitting)),
         Err(_) => CompletionReply::PatternTooLong,
     }
 }
 
 /// The entries whose keys an automaton accepts.
-fn wanted<L: Layout, const SLOTS: usize, A: Allocator + Copy, M: Automaton + Drop>(
+fn collect_accepted<L: Layout, const SLOTS: usize, A: Allocator + Copy, M: Automaton + Drop>(
     trie: &Trie<L, SLOTS, A>,
     alloc: A,
     automaton: M,

@@ -30,8 +30,8 @@ pub fn runs_agree<A: Allocator, B: Allocator>(
     replies: &[Answer<B>],
 )
     //= Two runs of the same calls from the same states (tree and order) return the same and leave the same states, loads among them, if
-    //  nothing was refused for memory or slots. Calls may differ in `max_trial`; runs may differ in layout, limit and allocator, but with a
-    //  load among the calls layout and limit are one. [by RunsAgree]
+    //  nothing was refused for memory or slots. Calls may differ in `max_trial`, in the search limit, in a buffer's room and in where their
+    //  bytes lie; runs may differ in layout, limit and allocator, but with a load among the calls layout and limit are one. [by RunsAgree]
     ensures { RunsAgree calls.now answers.now others.now replies.now }
 {}
 

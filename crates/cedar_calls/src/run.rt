@@ -57,10 +57,13 @@ pub fn run_calls<L: Layout, const SLOTS: usize, A: Allocator + Copy>(
     //  [by IsNew, IsSortedBuild, IsUnsortedBuild, IsLoad, IsCopy]
     //= A dictionary that was loaded is the one that the table of its bytes holds. [by IsLoad, IsOnTable]
     //= If a dictionary is dropped, those after it come one earlier, and all others are as they were. [by DropsAt]
-    //= An update, an insert, an erasure of a key, of some keys, of a prefix or of all, `renew`, a build, a batch of updates, `try_reserve`
-    //  or `shrink_to_fit` changes only the dictionary at its index, as the rows of `cedarwood` say. [by ChangesAt, IsChange]
-    //= A query changes nothing, and returns what they say. If a result is collected it may be `Memory`, but only if there is something to
-    //  collect. [by AsksAt, IsReply, CollectsSome, CollectsRange]
+    //= An update, an insert, an erasure of a key, of some keys, of what was found, of a prefix or of all, `renew`, a build, a batch of
+    //  updates, `try_reserve`, `set_search_limit` or `shrink_to_fit` changes only the dictionary at its index, as the rows of `cedarwood`
+    //  say. [by ChangesAt, IsChange]
+    //= A query of the dictionary changes nothing, and returns what they say. If a result is collected it may be `Memory`, but only if
+    //  there is something to collect. [by AsksAt, IsReply, CollectsSome, CollectsRange]
+    //= A query for completions, or for what is in a range, changes nothing, and returns what the rows of `cedar_complete` and `cedar_match`
+    //  say. It may be `Memory` also if there is nothing to collect. [by AsksAt, IsCompletionReply, Collects, CollectsAscending]
     //= A query about a text changes nothing, and returns what the rows of `cedar_words` say: its tokens, keywords, matches and prefixes,
     //  also from a position on, what a scanner finds, a cut of least cost, the best cut by a model or the best few, or the tokens that such
     //  cuts may have. If it is collected it may be `Memory`, but only if there is something to collect, a byte to cut or to search, or a

@@ -8,7 +8,7 @@ pub returns-in-Ok : goal.returns-in-Ok
 returns-in-Ok g c =
     let made = c.in-Ok.ensures.made in (
       made.1,
-      subst (λ (accepts : List ℕ → Bool). Collects c.wanted.result (λ found. map (λ e. (e.0.items, e.1)) found.items ≡ filter (λ e. accepts e.0) (walk c.args.trie.now.state.tree))) made.0 c.wanted.ensures,
+      subst (λ (accepts : List ℕ → Bool). Collects c.collect_accepted.result (λ found. map (λ e. (e.0.items, e.1)) found.items ≡ filter (λ e. accepts e.0) (walk c.args.trie.now.state.tree))) made.0 c.collect_accepted.ensures,
     )
 
 pub returns-in-Err : goal.returns-in-Err

@@ -1,7 +1,7 @@
 use Rattle.std.proofs.Common.{◌≡◌, List, map, subst}
 use Rattle.cedarwood.specs.Queries.{Entry}
 use Rattle.cedar_calls.specs.Replies.{Collects}
-use Rattle.cedar_calls.proofs.completions.wanted.Goals as goal
+use Rattle.cedar_calls.proofs.completions.collect_accepted.Goals as goal
 
 pub returns : goal.returns
 returns g c =
