@@ -1,4 +1,4 @@
-use Rattle.std.proofs.Common.{sym, ◌∙◌}
+use Rattle.std.proofs.Common.{arith, sym, ◌∙◌}
 use Rattle.cedar_table.specs.Table.Views.{fields}
 use Rattle.cedar_file.proofs.TreeLemmas.WalkEnds.{root_looks, well_formed_met, well_formed_walked}
 use Rattle.cedar_file.proofs.TreeLemmas.Complete.{walked_well_formed}
@@ -26,3 +26,18 @@ returns-then-walk-entries-clause-faulty g c = λ w.
 pub returns-clause-well_formed : goal.returns-clause-well_formed
 returns-clause-well_formed g c =
     walked_well_formed g.row.SLOTS (fields c.args.table.now) c.in_ok-start.start _ _ _ c.in_ok-start.ensures.root.1 c.requires c.in_ok-start.ensures.root.0 c.in_ok-walk.ensures.ended (c.if-walk-count_held.false ∙ c.count_held.ensures.count) (c.if-walk-entries.false ∙ c.entries.ensures)
+
+pub returns-in_err-start-clause-cost : goal.returns-in_err-start-clause-cost
+returns-in_err-start-clause-cost g c = omega (arith, c.in_err-start.ensures.cost)
+
+pub returns-in_err-walk-clause-cost : goal.returns-in_err-walk-clause-cost
+returns-in_err-walk-clause-cost g c = omega (arith, c.in_ok-start.ensures.cost, c.in_err-walk.ensures.cost)
+
+pub returns-then-walk-count_held-clause-cost : goal.returns-then-walk-count_held-clause-cost
+returns-then-walk-count_held-clause-cost g c = omega (arith, c.in_ok-start.ensures.cost, c.in_ok-walk.ensures.cost, c.count_held.ensures.cost)
+
+pub returns-then-walk-entries-clause-cost : goal.returns-then-walk-entries-clause-cost
+returns-then-walk-entries-clause-cost g c = omega (arith, c.in_ok-start.ensures.cost, c.in_ok-walk.ensures.cost, c.count_held.ensures.cost)
+
+pub returns-clause-cost : goal.returns-clause-cost
+returns-clause-cost g c = omega (arith, c.in_ok-start.ensures.cost, c.in_ok-walk.ensures.cost, c.count_held.ensures.cost)

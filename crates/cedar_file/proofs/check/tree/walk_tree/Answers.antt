@@ -1,4 +1,4 @@
-use Rattle.std.proofs.Common.{◌≡◌, ◌≢◌, ◌+◌, ◌-◌, ◌*◌, ◌<◌, suc, sym, refl, subst, arith}
+use Rattle.std.proofs.Common.{◌≡◌, ◌≢◌, ◌+◌, ◌-◌, ◌*◌, ◌<◌, ◌≤◌, ◌^◌, suc, sym, refl, subst, arith, rules}
 use Rattle.cedar_file.specs.TreeWalk.{ComesBack}
 use Rattle.cedar_table.specs.Table.Views.{cells, fields}
 use Rattle.cedar_model.specs.Table.TableFields.{size_of}
@@ -58,3 +58,23 @@ returns-clause-faulty g c = λ m e h.
     let T = fields c.args.table.now in
     let left : 2 * size_of T - c.loop-step._step ≡ 0 = omega (arith, c.loop-step-test.false, c.size-step-end.ensures) in
     none_left (size_of T) T.ordered (cells c.args.table.now) c.loop-step.walk m e (subst (λ n. ComesBack n (size_of T) T.ordered (cells c.args.table.now) c.loop-step.walk m e) left (c.loop-step.invariant.from_start m e h))
+
+pub returns-then-walk-eq0-2-clause-cost : goal.returns-then-walk-eq0-2-clause-cost
+returns-then-walk-eq0-2-clause-cost g c = omega (arith, c.loop-step.invariant.cost, c.loop-step-test.true, c.size-step-end.ensures)
+
+pub returns-in_err-walk-clause-cost : goal.returns-in_err-walk-clause-cost
+returns-in_err-walk-clause-cost g c = omega (arith, c.loop-step.invariant.cost, c.in_err-walk.ensures.cost, c.loop-step-test.true, c.size-step-end.ensures)
+
+pub returns-clause-cost : goal.returns-clause-cost
+returns-clause-cost g c = omega (arith, c.loop-step.invariant.cost, c.loop-step.auto._step-end, c.size-step-end.ensures)
+
+pub go_on-requires : goal.go_on-requires
+go_on-requires g c =
+    let on = c.loop-step.invariant.on_way in
+    let away : c.loop-step.walk.label ≡ 0 → c.loop-step.walk.node ≢ 0 = elim c.else-walk-eq0.branch [
+      | else-walk-eq0-via-then-walk-eq0+else-walk-eq0-2 w ↦ (λ z. w.if-walk-eq0-2.false)
+      | else-walk-eq0-via-else-walk-eq0 w ↦ (λ z. absurd (w.if-walk-eq0.false z))
+    ] in
+    let few : c.loop-step._step < 2 * size_of (fields c.args.table.now) = omega (arith, c.loop-step-test.true, c.size-step-end.ensures) in
+    let most : size_of (fields c.args.table.now) ≤ 2 ^ 30 = omega (arith, c.args.table.now.shaped.blocks.active_in, c.args.table.now.shaped.blocks.fits) in
+    (search rules, (on.inside, (on.base, (away, ((omega (arith, on.met, few, most), omega (arith, on.numbers, few, most)), c.requires.root)))))
