@@ -35,31 +35,124 @@ fn answer(rt: &HostRuntime) -> Result<(), Fault> {
     };
     let words: Vec<String> = arguments.skip(1).collect(rt.alloc())?;
     let words = texts(rt.alloc(), &words)?;
-    match words.as_slice() {
-        ["append", path, count] => append(rt, path, number(count)?),
-        ["rewrite", path, count] => rewrite_often(rt, path, number(count)?),
-        ["list", path] => list(rt, path),
-        ["change", path, first, count] => change(rt, path, number(first)?, number(count)?),
-        ["batch", path, first, count, size] => {
-            let turns = Turns::of(Keys::Few, number(first)?, number(count)?, number(size)?);
-            batch(rt, path, turns, words::OFTEN)
-        }
-        ["grow", path, first, count, size] => {
-            let turns = Turns::of(Keys::Few, number(first)?, number(count)?, number(size)?);
-            batch(rt, path, turns, Compaction::Never)
-        }
-        ["fill", path, first, count, size] => {
-            let turns = Turns::of(Keys::Own, number(first)?, number(count)?, number(size)?);
-            batch(rt, path, turns, Compaction::Never)
-        }
-        ["insist", path, first, count] => insist(rt, path, number(first)?, number(count)?),
-        ["persist", path, first, count] => persist(rt, path, number(first)?, number(count)?),
-        ["mend", path] => mend(rt, path),
-        ["entries", path] => entries(rt, path),
-        ["len", path] => len(rt, path),
-        ["look", path] => look(rt, path),
-        ["reopen", paths @ ..] => reopen(rt, paths),
+    let [verb, arguments @ ..] = words.as_slice() else {
+        return Err(Fault::Arguments);
+    };
+    if *verb == "reopen" {
+        return reopen(rt, arguments);
+    }
+    let [path, numbers @ ..] = arguments else {
+        return Err(Fault::Arguments);
+    };
+    perform(rt, path, task_of(verb, numbers)?)
+}
+
+/// What is done with a file.
+#[derive(Clone, Copy)]
+enum Task {
+    /// It is opened once.
+    Opened(Work),
+    /// Its bytes are replaced so many times.
+    Rewrite(u64),
+    /// It is only read.
+    Look,
+}
+
+/// What is done with a file that is open.
+#[derive(Clone, Copy)]
+enum Work {
+    Append(u64),
+    List,
+    Change { first: u64, count: u64 },
+    Insist { first: u64, count: u64 },
+    Persist { first: u64, count: u64 },
+    Batch(Turns, Compaction),
+    Mend,
+    Entries,
+    Len,
+}
+
+/// Returns what a verb and its numbers ask for. The verbs differ by how many numbers they have: a function for each number of them has
+/// few ways out, which are cheap to prove.
+fn task_of(verb: &str, numbers: &[&str]) -> Result<Task, Fault> {
+    match numbers {
+        [] => alone(verb),
+        [count] => counted(verb, number(count)?),
+        [first, count] => numbered(verb, number(first)?, number(count)?),
+        [first, count, size] => grouped(verb, number(first)?, number(count)?, number(size)?),
         _ => Err(Fault::Arguments),
+    }
+}
+
+fn alone(verb: &str) -> Result<Task, Fault> {
+    match verb {
+        "list" => Ok(Task::Opened(Work::List)),
+        "mend" => Ok(Task::Opened(Work::Mend)),
+        "entries" => Ok(Task::Opened(Work::Entries)),
+        "len" => Ok(Task::Opened(Work::Len)),
+        "look" => Ok(Task::Look),
+        _ => Err(Fault::Arguments),
+    }
+}
+
+fn counted(verb: &str, count: u64) -> Result<Task, Fault> {
+    match verb {
+        "append" => Ok(Task::Opened(Work::Append(count))),
+        "rewrite" => Ok(Task::Rewrite(count)),
+        _ => Err(Fault::Arguments),
+    }
+}
+
+fn numbered(verb: &str, first: u64, count: u64) -> Result<Task, Fault> {
+    match verb {
+        "change" => Ok(Task::Opened(Work::Change { first, count })),
+        "insist" => Ok(Task::Opened(Work::Insist { first, count })),
+        "persist" => Ok(Task::Opened(Work::Persist { first, count })),
+        _ => Err(Fault::Arguments),
+    }
+}
+
+fn grouped(verb: &str, first: u64, count: u64, size: u64) -> Result<Task, Fault> {
+    let few = Turns::of(Keys::Few, first, count, size);
+    match verb {
+        "batch" => Ok(Task::Opened(Work::Batch(few, words::OFTEN))),
+        "grow" => Ok(Task::Opened(Work::Batch(few, Compaction::Never))),
+        "fill" => {
+            let own = Turns::of(Keys::Own, first, count, size);
+            Ok(Task::Opened(Work::Batch(own, Compaction::Never)))
+        }
+        _ => Err(Fault::Arguments),
+    }
+}
+
+/// Does what is asked for with the file at a path.
+fn perform(rt: &HostRuntime, path: &str, task: Task) -> Result<(), Fault> {
+    match task {
+        Task::Opened(work) => do_at(rt, path, work),
+        Task::Rewrite(count) => rewrite_often(rt, path, count),
+        Task::Look => look(rt, path),
+    }
+}
+
+/// Opens the file at a path, and does this with it. It is the one place with the type of a file's device: what follows is generic in it,
+/// and so is proved once.
+fn do_at(rt: &HostRuntime, path: &str, work: Work) -> Result<(), Fault> {
+    do_on(rt, FileDevice::open(rt, rt.alloc(), path)?, work)
+}
+
+fn do_on<D: ReplaceDevice + Drop>(rt: &HostRuntime, device: D, work: Work) -> Result<(), Fault>
+    requires restarted { Only (D.seen device) (D.may_leave device) }
+{
+    match work {
+        Work::Append(count) => append(rt, device, count),
+        Work::List => list(rt, device),
+        Work::Change { first, count } => change(rt, device, first, count),
+        Work::Insist { first, count } => insist(rt, device, first, count),
+        Work::Persist { first, count } => persist(rt, device, first, count),
+        Work::Batch(turns, compaction) => batch(rt, device, turns, compaction),
+        Work::Mend => mend(rt, device),
+        Work::Entries => entries(rt, device),
+        Work::Len => len(rt, device),
     }
 }
 
@@ -76,11 +169,7 @@ fn number(text: &str) -> Result<u64, Fault> {
 }
 
 /// Appends `count` records, numbered on from those that are there, and prints each number once the record is acknowledged.
-fn append(rt: &HostRuntime, path: &str, count: u64) -> Result<(), Fault> {
-    append_to(rt, FileDevice::open(rt, rt.alloc(), path)?, count)
-}
-
-fn append_to<D: Device + Drop>(rt: &HostRuntime, device: D, count: u64) -> Result<(), Fault>
+fn append<D: Device + Drop>(rt: &HostRuntime, device: D, count: u64) -> Result<(), Fault>
     requires restarted { Only (D.seen device) (D.may_leave device) }
 {
     let (mut journal, held) = open(device, rt.alloc())?;
@@ -101,18 +190,16 @@ fn rewrite_often(rt: &HostRuntime, path: &str, count: u64) -> Result<(), Fault> 
     Ok(())
 }
 
-/// Opens the file, and prints how many records are there, if they are the first ones.
-fn list(rt: &HostRuntime, path: &str) -> Result<(), Fault> {
-    let (_, count) = open(FileDevice::open(rt, rt.alloc(), path)?, rt.alloc())?;
+/// Prints how many records are there, if they are the first ones.
+fn list<D: Device + Drop>(rt: &HostRuntime, device: D) -> Result<(), Fault>
+    requires restarted { Only (D.seen device) (D.may_leave device) }
+{
+    let (_, count) = open(device, rt.alloc())?;
     print(rt, count)
 }
 
 /// Makes `count` changes in a dictionary, numbered from `first` on, and prints each number once the change is acknowledged.
-fn change(rt: &HostRuntime, path: &str, first: u64, count: u64) -> Result<(), Fault> {
-    change_on(rt, FileDevice::open(rt, rt.alloc(), path)?, first, count)
-}
-
-fn change_on<D: ReplaceDevice + Drop>(
+fn change<D: ReplaceDevice + Drop>(
     rt: &HostRuntime,
     device: D,
     first: u64,
@@ -130,11 +217,7 @@ fn change_on<D: ReplaceDevice + Drop>(
 }
 
 /// Makes changes as `change` does, and goes on after one that isn't made: then it prints its number and why.
-fn insist(rt: &HostRuntime, path: &str, first: u64, count: u64) -> Result<(), Fault> {
-    insist_on(rt, FileDevice::open(rt, rt.alloc(), path)?, first, count)
-}
-
-fn insist_on<D: ReplaceDevice + Drop>(
+fn insist<D: ReplaceDevice + Drop>(
     rt: &HostRuntime,
     device: D,
     first: u64,
@@ -154,11 +237,7 @@ fn insist_on<D: ReplaceDevice + Drop>(
 }
 
 /// Makes changes as `insist` does, and after one that isn't made puts the file anew in its place. If that succeeds, it says so.
-fn persist(rt: &HostRuntime, path: &str, first: u64, count: u64) -> Result<(), Fault> {
-    persist_on(rt, FileDevice::open(rt, rt.alloc(), path)?, first, count)
-}
-
-fn persist_on<D: ReplaceDevice + Drop>(
+fn persist<D: ReplaceDevice + Drop>(
     rt: &HostRuntime,
     device: D,
     first: u64,
@@ -224,16 +303,7 @@ impl Turns {
 
 /// Makes batches of changes in a dictionary, whose file is compacted by this rule, and prints each time how many changes are
 /// acknowledged.
-fn batch(rt: &HostRuntime, path: &str, turns: Turns, compaction: Compaction) -> Result<(), Fault> {
-    batch_on(
-        rt,
-        FileDevice::open(rt, rt.alloc(), path)?,
-        turns,
-        compaction,
-    )
-}
-
-fn batch_on<D: ReplaceDevice + Drop>(
+fn batch<D: ReplaceDevice + Drop>(
     rt: &HostRuntime,
     device: D,
     turns: Turns,
@@ -252,11 +322,7 @@ fn batch_on<D: ReplaceDevice + Drop>(
 }
 
 /// Opens a dictionary, puts its file anew in its place, and prints how many entries it has.
-fn mend(rt: &HostRuntime, path: &str) -> Result<(), Fault> {
-    mend_on(rt, FileDevice::open(rt, rt.alloc(), path)?)
-}
-
-fn mend_on<D: ReplaceDevice + Drop>(rt: &HostRuntime, device: D) -> Result<(), Fault>
+fn mend<D: ReplaceDevice + Drop>(rt: &HostRuntime, device: D) -> Result<(), Fault>
     requires restarted { Only (D.seen device) (D.may_leave device) }
 {
     let mut store = words::open(device, rt.alloc(), words::OFTEN)?;
@@ -265,15 +331,17 @@ fn mend_on<D: ReplaceDevice + Drop>(rt: &HostRuntime, device: D) -> Result<(), F
 }
 
 /// Opens a dictionary, and prints how many entries it has.
-fn len(rt: &HostRuntime, path: &str) -> Result<(), Fault> {
-    let device = FileDevice::open(rt, rt.alloc(), path)?;
+fn len<D: ReplaceDevice + Drop>(rt: &HostRuntime, device: D) -> Result<(), Fault>
+    requires restarted { Only (D.seen device) (D.may_leave device) }
+{
     let store = words::open(device, rt.alloc(), words::OFTEN)?;
     print(rt, store.dictionary().len() as u64)
 }
 
 /// Opens a dictionary, and prints its entries, a key, a space and a value a line.
-fn entries(rt: &HostRuntime, path: &str) -> Result<(), Fault> {
-    let device = FileDevice::open(rt, rt.alloc(), path)?;
+fn entries<D: ReplaceDevice + Drop>(rt: &HostRuntime, device: D) -> Result<(), Fault>
+    requires restarted { Only (D.seen device) (D.may_leave device) }
+{
     let store = words::open(device, rt.alloc(), words::OFTEN)?;
     print_all(rt, store.dictionary())
 }
@@ -302,7 +370,7 @@ fn print_all(rt: &HostRuntime, words: &Cedar<Global>) -> Result<(), Fault> {
 /// Opens dictionaries, and prints for each its entries and then whether it was opened.
 fn reopen(rt: &HostRuntime, paths: &[&str]) -> Result<(), Fault> {
     for path in paths {
-        let told = match entries(rt, path) {
+        let told = match do_at(rt, path, Work::Entries) {
             Ok(()) => println!(rt; "= opened"),
             Err(fault) => println!(rt; "= {fault}"),
         };

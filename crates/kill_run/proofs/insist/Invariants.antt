@@ -1,5 +1,5 @@
 use Rattle.cedar_store.specs.Store.{IsReady}
-use Rattle.kill_run.proofs.insist_on.Given as goal
+use Rattle.kill_run.proofs.insist.Given as goal
 
 -- the store is ready before each change
 abbrev pub invariant-loop-turn : goal.invariant-loop-turn

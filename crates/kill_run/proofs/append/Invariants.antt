@@ -1,5 +1,5 @@
 use Rattle.cedar_journal.specs.Journal.{IsSettled}
-use Rattle.kill_run.proofs.append_to.Given as goal
+use Rattle.kill_run.proofs.append.Given as goal
 
 -- the journal is at rest before each record
 abbrev pub invariant-loop-turn : goal.invariant-loop-turn

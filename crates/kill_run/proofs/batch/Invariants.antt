@@ -1,5 +1,5 @@
 use Rattle.cedar_store.specs.Store.{IsReady}
-use Rattle.kill_run.proofs.batch_on.Given as goal
+use Rattle.kill_run.proofs.batch.Given as goal
 
 -- the store is ready before each batch
 abbrev pub invariant-loop-turn : goal.invariant-loop-turn
