@@ -1,14 +1,13 @@
 -- That a cut where a key costs its number, and each byte without one what is said of its position, is the best by that model.
-use Rattle.std.proofs.Common.{◌≡◌, ℕ, zero, suc, ◌+◌, ◌-◌, ◌<◌, ◌≤◌, ◌⊎◌, inl, inr, max, min, ℤ, unsigned_abs, List, [], ◌∷◌, length, take, drop, Option, None, Result, Ok, Err, IfOk, Vec, refl, sym, ap, subst, ◌∙◌, arith}
+use Rattle.std.proofs.Common.{◌≡◌, ℕ, zero, suc, ◌+◌, ◌-◌, ◌<◌, ◌≤◌, inl, inr, ℤ, unsigned_abs, List, [], ◌∷◌, length, take, drop, None, refl, sym, ap, subst, ◌∙◌, arith}
 use Rattle.std.proofs.lemmas.Bool.{le-leb, lt-leb}
 use Rattle.std.proofs.lemmas.Bool.Decides.{leb_tells}
 use Rattle.cedarwood.specs.Tree.{Tree}
 use Rattle.cedarwood.specs.Queries.{front}
 use Rattle.cedar_words.specs.Models.{IsBestCut, run_len}
-use Rattle.cedar_words.specs.ModelSteps.{AreCostsBy, best_by, best_cut_by, best_priced, or_run, run_step, step_by}
+use Rattle.cedar_words.specs.ModelSteps.{AreCostsBy, best_by, best_priced, or_run, step_by}
 use Rattle.cedar_words.specs.Runs.{byte_run}
-use Rattle.cedar_words.specs.Steps.{AreCosts, best_cut, best_from, best_of, better_of, cut_along, IsFoundBy, key_step, step_at, step_over}
-use Rattle.cedar_words.specs.Tokens.{Token}
+use Rattle.cedar_words.specs.Steps.{AreCosts, best_cut, best_from, best_of, better_of, cut_along, key_step, step_at, step_over}
 use Rattle.cedar_words.specs.declared.costs.Step.{Step}
 use Rattle.cedar_words.proofs.ModelCutLemmas.{steps_best}
 use Rattle.cedar_words.proofs.ModelStepLemmas.{or_tells}

@@ -2,6 +2,7 @@ pub mod CharacterLemmas
 pub mod CutLemmas
 pub mod FirstLemmas
 pub mod InstanceLemmas
+pub mod KeptLemmas
 pub mod LatticeLemmas
 pub mod LongestLemmas
 pub mod MarkLemmas

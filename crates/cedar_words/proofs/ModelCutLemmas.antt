@@ -1,17 +1,15 @@
 -- What the cut costs that the best steps by a model lead along, and that it is the best.
-use Rattle.std.proofs.Common.{◌≡◌, ℕ, zero, suc, ◌+◌, ◌-◌, ◌^◌, ◌<◌, ◌≤◌, ◌⊎◌, inl, inr, min, ℤ, List, [], ◌∷◌, length, take, drop, get_or, Option, Some, None, MatchOption, Result, Ok, Err, IfOk, Vec, refl, sym, ap, subst, ◌∙◌, arith}
-use Rattle.std.proofs.lemmas.List.{get_or_default, length-drop, length-take-le}
+use Rattle.std.proofs.Common.{◌≡◌, ℕ, zero, suc, ◌+◌, ◌-◌, ◌^◌, ◌<◌, ◌≤◌, ◌⊎◌, inl, inr, min, ℤ, List, [], ◌∷◌, length, take, drop, Option, Some, None, MatchOption, Result, Ok, Err, IfOk, Vec, refl, sym, ap, subst, ◌∙◌, arith}
+use Rattle.std.proofs.lemmas.List.{length-drop, length-take-le}
 use Rattle.std.proofs.lemmas.Bool.Decides.{leb_tells}
 use Rattle.cedarwood.specs.Tree.{Tree, number_at}
 use Rattle.cedarwood.proofs.MemberLemmas.{either_part}
 use Rattle.cedar_words.specs.Cuts.{IsAhead}
 use Rattle.cedar_words.specs.Models.{cost_with, IsBestCut, IsCheapestByModel, IsCutFromBy, IsLeastFrom, IsLeastThroughout, IsPieceBy, MayRun, price_by, run_len}
-use Rattle.cedar_words.specs.ModelSteps.{AreCostsBy, AreKeptBy, best_cut_by, TellsStep, kept_at, step_by}
+use Rattle.cedar_words.specs.ModelSteps.{AreCostsBy, best_cut_by, step_by}
 use Rattle.cedar_words.specs.Steps.{cost_at, cut_along}
 use Rattle.cedar_words.specs.Tokens.{AreAdjacent, Token}
 use Rattle.cedar_words.specs.declared.costs.Step.{Step}
-use Rattle.cedar_words.specs.declared.cuts.Kept.{Kept}
-use Rattle.cedar_words.specs.declared.cuts.Kept.TheVariants.{Long}
 use Rattle.cedar_words.specs.declared.models.UnknownRun.{UnknownRun}
 use Rattle.cedar_words.proofs.CutLemmas.{within_first}
 use Rattle.cedar_words.proofs.ModelStepLemmas.{best_is, found_key, IsBestBy}
@@ -47,14 +45,6 @@ step_is t key run text costs are left some within =
       piece = best.is.piece;
       cost = are.1.best left some low ∙ best.is.costs ∙ ap (λ (c : ℕ). min (price_by key (run (length text - left)).cost step.value + c) (2 ^ 64 - 1)) (within_first costs left step.len best.is.some inside low);
     }
-
--- what is kept of the best step from a position on tells it, if it says anything
-pub kept_here : (t : Tree) (key : ℤ → ℕ) (run : ℕ → UnknownRun) (text costs : List ℕ) (kept : List Kept) (place : ℕ) (other one : Kept) → place < length text → AreKeptBy t key run text costs kept → get_or kept (length text - place) other ≡ one
-    → TellsStep (step_by t key run text costs (length text - place)) one
-kept_here t key run text costs kept place other one within are is =
-    let len = are.0 in
-    let same : kept_at kept (length text - place) ≡ one = get_or_default kept (length text - place) Long other (omega (arith, within, len)) ∙ is in
-    subst (λ m. TellsStep (step_by t key run text costs (length text - place)) m) same (are.1 (length text - place) (omega (arith, within)) (omega (arith, within, len)))
 
 pub step_here : (t : Tree) (key : ℤ → ℕ) (run : ℕ → UnknownRun) (text costs : List ℕ) (place : ℕ) → place < length text → AreCostsBy t key run text costs → IsStepAt t key run text costs (length text - place)
 step_here t key run text costs place within are = step_is t key run text costs are (length text - place) (omega (arith, within)) (omega arith)

@@ -9,11 +9,9 @@ use Rattle.cedarwood.specs.Queries.{front}
 use Rattle.cedarwood.proofs.FrontLemmas.{front_from_held, held_from_front}
 use Rattle.cedarwood.proofs.MemberLemmas.{contains_first_or_later, contains_here, contains_later, contains_none, either_part}
 use Rattle.cedar_words.specs.Models.{MayRun, price_by, run_len}
-use Rattle.cedar_words.specs.ModelSteps.{AreCostsUpTo, AreKeptUpTo, best_by, best_priced, TellsStep, kept_at, or_run, priced_step, run_step, step_by}
+use Rattle.cedar_words.specs.ModelSteps.{AreCostsUpTo, best_by, best_priced, or_run, priced_step, run_step}
 use Rattle.cedar_words.specs.Steps.{better_of, cost_at}
 use Rattle.cedar_words.specs.declared.costs.Step.{Step}
-use Rattle.cedar_words.specs.declared.cuts.Kept.{Kept}
-use Rattle.cedar_words.specs.declared.cuts.Kept.TheVariants.{Long}
 use Rattle.cedar_words.specs.declared.models.UnknownRun.{UnknownRun}
 use Rattle.cedar_words.proofs.StepLemmas.{Ascend, ascend_higher, better_first, better_second, fronts_ascend}
 
@@ -277,27 +275,3 @@ costs_up t key run text costs cost left some len is was = record {
         ∙ ap (λ l. (best_by key l (run (length text - k)) (front t (drop (length text - k) text))).cost) (sym (take-append-le k costs (cost ∷ []) (omega (arith, below))))
   ];
 }
-
-pub kept_up : (t : Tree) (key : ℤ → ℕ) (run : ℕ → UnknownRun) (text costs : List ℕ) (kept : List Kept) (cost : ℕ) (one : Kept) (left : ℕ) → 0 < left → length costs ≡ left → length kept ≡ left
-    → TellsStep (best_by key costs (run (length text - left)) (front t (drop (length text - left) text))) one → AreKeptUpTo t key run text costs kept
-    → AreKeptUpTo t key run text (costs ++ cost ∷ []) (kept ++ one ∷ [])
-kept_up t key run text costs kept cost one left some len same is was k low high = elim (eqb_tells (length kept) k) [
-  | inl end ↦
-      let here = end.1 in
-      let at : left ≡ k = omega (arith, here, same) in
-      let all : costs ≡ take k (costs ++ cost ∷ []) = sym (take-append-le k costs (cost ∷ []) (omega (arith, at, len)) ∙ take_all k costs (omega (arith, at, len))) in
-      subst (λ m. TellsStep (step_by t key run text (costs ++ cost ∷ []) k) m) (sym (get_or_push kept one Long k here))
-      (subst (λ l. TellsStep (best_by key l (run (length text - k)) (front t (drop (length text - k) text))) one) all
-      (subst (λ n. TellsStep (best_by key costs (run (length text - n)) (front t (drop (length text - n) text))) one) at is))
-  | inr other ↦
-      let differ = other.1 in
-      let more = length_push kept one in
-      let below : k < length kept = omega (arith, differ, high, more) in
-      let first : take k costs ≡ take k (costs ++ cost ∷ []) = sym (take-append-le k costs (cost ∷ []) (omega (arith, below, same, len))) in
-      subst (λ m. TellsStep (step_by t key run text (costs ++ cost ∷ []) k) m) (sym (get_or_append_left kept (one ∷ []) Long k below))
-      (subst (λ l. TellsStep (best_by key l (run (length text - k)) (front t (drop (length text - k) text))) (kept_at kept k)) first (was k low below))
-]
-
--- the same of the lists as they are after it
-pub kept_pushed : (t : Tree) (key : ℤ → ℕ) (run : ℕ → UnknownRun) (text costs all_costs : List ℕ) (kept all_kept : List Kept) → all_costs ≡ costs → all_kept ≡ kept → AreKeptUpTo t key run text costs kept → AreKeptUpTo t key run text all_costs all_kept
-kept_pushed t key run text costs all_costs kept all_kept is are was = subst (λ l. AreKeptUpTo t key run text l all_kept) (sym is) (subst (λ l. AreKeptUpTo t key run text costs l) (sym are) was)

@@ -1,5 +1,5 @@
 -- That unknown runs of whole characters, and cuts of them and of keys in UTF-8, part no character.
-use Rattle.std.proofs.Common.{◌≡◌, ℕ, zero, suc, ◌+◌, ◌-◌, ◌<◌, ◌≤◌, ◌⊎◌, inl, inr, max, min, Bool, true, false, cond, nat_le, nat_lt, ◌&&◌, ℤ, List, [], ◌∷◌, length, take, drop, get_or, Option, Some, None, MatchOption, All, IsUtf8, IsCharBoundary, refl, sym, ap, subst, ◌∙◌, arith}
+use Rattle.std.proofs.Common.{◌≡◌, ℕ, zero, suc, ◌+◌, ◌-◌, ◌<◌, ◌≤◌, inl, inr, max, min, Bool, true, false, cond, ℤ, List, [], ◌∷◌, length, take, drop, get_or, Option, Some, None, MatchOption, All, IsUtf8, IsCharBoundary, refl, sym, ap, subst, ◌∙◌, arith}
 use Rattle.std.proofs.lemmas.Bool.{le-leb, le-ltb, lt-ltb, true≢false}
 use Rattle.std.proofs.lemmas.Bool.Decides.{leb_tells}
 use Rattle.std.proofs.lemmas.List.{get_or-drop, length-drop}

@@ -6,7 +6,7 @@ use Rattle.std.specs.List.{Contains, range_with_len}
 use Rattle.cedarwood.specs.Tree.{Tree}
 use Rattle.cedarwood.specs.Queries.{front}
 use Rattle.cedar_words.specs.Lattice.{own_run}
-use Rattle.cedar_words.specs.Models.{cost_with, IsCutBy, price_by, run_len}
+use Rattle.cedar_words.specs.Models.{cost_with, IsCutBy, run_len}
 use Rattle.cedar_words.specs.Tokens.{Token}
 use Rattle.cedar_words.specs.declared.models.UnknownRun.{UnknownRun}
 use Rattle.cedar_words.specs.declared.ranked.Way.{Way}

@@ -1,7 +1,7 @@
 -- Unknown runs of a text: one character, or the characters of one class that follow one another.
-use Rattle.std.specs.Prelude.{◌≡◌, ℕ, zero, suc, ◌+◌, ◌-◌, ◌*◌, ◌%◌, ◌<◌, nat_le, nat_lt, Bool, true}
-use Rattle.std.specs.Prelude.{false, ◌&&◌, ◌||◌, cond, if◌then◌else◌, ℤ, pos, negsuc, List, [], ◌∷◌}
-use Rattle.std.specs.Prelude.{length, drop, MatchOption, Option, slice_index_or}
+use Rattle.std.specs.Prelude.{◌≡◌, ℕ, zero, suc, ◌+◌, ◌-◌, ◌*◌, ◌%◌, nat_le, nat_lt, Bool, true}
+use Rattle.std.specs.Prelude.{false, ◌&&◌, ◌||◌, if◌then◌else◌, ℤ, pos, negsuc, List, [], ◌∷◌}
+use Rattle.std.specs.Prelude.{drop, MatchOption, Option, slice_index_or}
 use Rattle.cedar_words.specs.declared.models.UnknownRun.{UnknownRun}
 
 -- what a key costs whose number is an index of a table, or how much it costs if it is none

@@ -1,9 +1,10 @@
 //! The best cut of a text by a model: of keys, and of unknown runs.
 
-ghost use Rattle.std.specs.Prelude.{◌+◌, ◌-◌, ◌<◌, ◌≡◌, ◌≤◌, drop, IfOk, length};
+ghost use Rattle.std.specs.Prelude.{◌+◌, ◌-◌, ◌<◌, ◌≡◌, ◌≤◌, drop, IfOk, length, take};
 ghost use Rattle.cedar_words.specs.Words.{AreCostsBy, AreKeptBy, AreWithin, beside_run, best_by};
-ghost use Rattle.cedar_words.specs.Words.{best_cut_by, best_priced, front, IsBestCut, or_run};
-ghost use Rattle.cedar_words.specs.Words.{priced_step, run_step, step_from, TellsStep};
+ghost use Rattle.cedar_words.specs.Words.{best_cut_by, best_priced, front, IsBestCut, KeepsStep};
+ghost use Rattle.cedar_words.specs.Words.{key_marks, or_run, priced_step, run_step, SaysStep};
+ghost use Rattle.cedar_words.specs.Words.{step_from, value_at};
 
 use crate::costs::{NextFront, Step, cheaper, over};
 use crate::models::{CostModel, UnknownRun};
@@ -11,24 +12,24 @@ use crate::spots::Fronts;
 use cedarwood::{Layout, Trie};
 use std::alloc::{AllocError, Allocator};
 
-/// What is kept of the best step at each position. A step over more bytes than these numbers can say is looked for once more.
-#[derive(Clone, Copy)]
-enum Kept {
-    /// A key: how many bytes it has, and its value.
-    Key(u16, i32),
-    /// An unknown run: how many bytes it has.
-    Run(u16),
-    /// Either, and longer than that.
-    Long,
-}
-
 /// What is known of the last bytes of a text: none of them, one, and so on up to all.
 #[derive(Drop)]
 struct Ends<B: Allocator> {
     // What they cost.
     costs: Vec<u64, B>,
-    // The first step over them.
-    kept: Vec<Kept, B>,
+    // What says the first step over them: 0 nothing, up to 127 that it is an unknown run of so many bytes, and from 128 on that it is a
+    // key of so many bytes more. A longer step is looked for once more.
+    marks: Vec<u8, B>,
+    // The values of the keys that marks say.
+    values: Vec<i32, B>,
+}
+
+/// The same, as it is read.
+#[derive(Clone, Copy)]
+struct Told<'a> {
+    costs: &'a [u64],
+    marks: &'a [u8],
+    values: &'a [i32],
 }
 
 /// The step over an unknown run.
@@ -125,17 +126,35 @@ fn best_step<T: Fronts, M: CostModel>(
     best_of_walk(&mut trie.fronts(&text[place..]), model, later, run)
 }
 
-/// What is kept of a step.
-fn kept_of(step: Step) -> Kept
-    ensures { TellsStep step result }
+/// What a byte says of a step.
+fn mark_of(step: Step) -> u8
+    ensures { SaysStep step result }
 {
-    if step.len > 65535 {
-        return Kept::Long;
+    if step.len > 127 {
+        return 0;
     }
     match step.value {
-        None => Kept::Run(step.len as u16),
-        Some(value) => Kept::Key(step.len as u16, value),
+        None => step.len as u8,
+        Some(_) => step.len as u8 + 128,
     }
+}
+
+/// Keeps the first step over one byte more: a mark, and a value if that says a key.
+fn keep<B: Allocator>(
+    marks: &mut Vec<u8, B>,
+    values: &mut Vec<i32, B>,
+    step: Step,
+) -> Result<(), AllocError>
+    ensures { IfOk result (λ _. KeepsStep step marks.old.items values.old.items marks.new.items values.new.items) }
+{
+    let mark = mark_of(step);
+    marks.push(mark)?;
+    if let Some(value) = step.value {
+        if 128 <= mark {
+            values.push(value)?;
+        }
+    }
+    Ok(())
 }
 
 /// What the last bytes of a text cost, and by which first steps.
@@ -146,46 +165,78 @@ fn ends_of<T: Fronts, M: CostModel, B: Allocator + Copy>(
     model: &M,
 ) -> Result<Ends<B>, AllocError>
     ensures costs { IfOk result (λ ends. AreCostsBy (T.fronts_of trie.now) (M.key_cost model.now) (M.unknown_at model.now text.now) text.now ends.costs.items) }
-    ensures kept { IfOk result (λ ends. AreKeptBy (T.fronts_of trie.now) (M.key_cost model.now) (M.unknown_at model.now text.now) text.now ends.costs.items ends.kept.items) }
+    ensures kept { IfOk result (λ ends. AreKeptBy (T.fronts_of trie.now) (M.key_cost model.now) (M.unknown_at model.now text.now) text.now ends.costs.items ends.marks.items ends.values.items) }
 {
     let mut costs = Vec::with_capacity(alloc, text.len() + 1)?;
-    let mut kept = Vec::with_capacity(alloc, text.len() + 1)?;
+    let mut marks = Vec::with_capacity(alloc, text.len() + 1)?;
+    let mut values = Vec::with_capacity(alloc, text.len())?;
     costs.push(0)?;
-    kept.push(Kept::Long)?;
+    marks.push(0)?;
     for left in 1..text.len() + 1 {
         let step = best_step(trie, model, text, text.len() - left, &costs);
         costs.push(step.cost)?;
-        kept.push(kept_of(step))?;
+        keep(&mut marks, &mut values, step)?;
     }
-    Ok(Ends { costs, kept })
+    Ok(Ends {
+        costs,
+        marks,
+        values,
+    })
 }
 
-/// The first token of the best cut of what is left of a text from a position on: how many bytes it has, and its value if it is a key.
+/// How many marks from one place up to another say keys.
+fn keys_between(marks: &[u8], start: usize, end: usize) -> usize
+    requires order { start ≤ end }
+    requires within { end ≤ length marks.now }
+    ensures { result + key_marks (take start marks.now) ≡ key_marks (take end marks.now) }
+{
+    let mut keys = 0;
+    for place in start..end {
+        if 128 <= marks[place] {
+            keys += 1;
+        }
+    }
+    keys
+}
+
+/// The last of so many values.
+fn last_of(values: &[i32], count: usize) -> i32
+    requires some { 0 < count }
+    requires within { count ≤ length values.now }
+    ensures { result ≡ value_at values.now (count - 1) }
+{
+    values[count - 1]
+}
+
+/// The first token of the best cut of what is left of a text from a position on: how many bytes it has, and its value if it is a key. It is
+/// told how many values there are up to that of the step there.
 fn best_token<T: Fronts, M: CostModel>(
     trie: &T,
     text: &[u8],
     model: &M,
-    costs: &[u64],
-    kept: &[Kept],
+    told: &Told<'_>,
     place: usize,
+    rank: usize,
 ) -> (usize, Option<i32>)
     requires some { place < length text.now }
-    requires costs { AreCostsBy (T.fronts_of trie.now) (M.key_cost model.now) (M.unknown_at model.now text.now) text.now costs.now }
-    requires kept { AreKeptBy (T.fronts_of trie.now) (M.key_cost model.now) (M.unknown_at model.now text.now) text.now costs.now kept.now }
+    requires costs { AreCostsBy (T.fronts_of trie.now) (M.key_cost model.now) (M.unknown_at model.now text.now) text.now told.now.costs.now }
+    requires kept { AreKeptBy (T.fronts_of trie.now) (M.key_cost model.now) (M.unknown_at model.now text.now) text.now told.now.costs.now told.now.marks.now told.now.values.now }
+    requires rank { rank ≡ key_marks (take (length text.now - place + 1) told.now.marks.now) }
     ensures some { 0 < result.0 }
     ensures within { result.0 ≤ length text.now - place }
-    ensures len { result.0 ≡ (step_from (T.fronts_of trie.now) (M.key_cost model.now) (M.unknown_at model.now text.now) text.now costs.now place).len }
-    ensures value { result.1 ≡ (step_from (T.fronts_of trie.now) (M.key_cost model.now) (M.unknown_at model.now text.now) text.now costs.now place).value }
+    ensures len { result.0 ≡ (step_from (T.fronts_of trie.now) (M.key_cost model.now) (M.unknown_at model.now text.now) text.now told.now.costs.now place).len }
+    ensures value { result.1 ≡ (step_from (T.fronts_of trie.now) (M.key_cost model.now) (M.unknown_at model.now text.now) text.now told.now.costs.now place).value }
 {
     let left = text.len() - place;
-    match kept[left] {
-        Kept::Key(len, value) => (usize::from(len), Some(value)),
-        Kept::Run(len) => (usize::from(len), None),
-        Kept::Long => {
-            let step = best_step(trie, model, text, place, &costs[..left]);
-            (step.len, step.value)
-        }
+    let mark = told.marks[left];
+    if 128 <= mark {
+        return (usize::from(mark - 128), Some(last_of(told.values, rank)));
     }
+    if 0 < mark {
+        return (usize::from(mark), None);
+    }
+    let step = best_step(trie, model, text, place, &told.costs[..left]);
+    (step.len, step.value)
 }
 
 /// The tokens along the best steps over a text.
@@ -194,18 +245,20 @@ fn best_tokens<T: Fronts, M: CostModel, B: Allocator>(
     trie: &T,
     text: &[u8],
     model: &M,
-    costs: &[u64],
-    kept: &[Kept],
+    told: &Told<'_>,
 ) -> Result<Vec<(usize, usize, Option<i32>), B>, AllocError>
-    requires costs { AreCostsBy (T.fronts_of trie.now) (M.key_cost model.now) (M.unknown_at model.now text.now) text.now costs.now }
-    requires kept { AreKeptBy (T.fronts_of trie.now) (M.key_cost model.now) (M.unknown_at model.now text.now) text.now costs.now kept.now }
-    ensures { IfOk result (λ cut. cut.items ≡ best_cut_by (T.fronts_of trie.now) (M.key_cost model.now) (M.unknown_at model.now text.now) text.now costs.now) }
+    requires costs { AreCostsBy (T.fronts_of trie.now) (M.key_cost model.now) (M.unknown_at model.now text.now) text.now told.now.costs.now }
+    requires kept { AreKeptBy (T.fronts_of trie.now) (M.key_cost model.now) (M.unknown_at model.now text.now) text.now told.now.costs.now told.now.marks.now told.now.values.now }
+    ensures { IfOk result (λ cut. cut.items ≡ best_cut_by (T.fronts_of trie.now) (M.key_cost model.now) (M.unknown_at model.now text.now) text.now told.now.costs.now) }
 {
     let mut tokens = Vec::new(alloc);
     let mut place = 0;
+    let mut rank = told.values.len();
     while place < text.len() {
-        let (len, value) = best_token(trie, text, model, costs, kept, place);
+        let (len, value) = best_token(trie, text, model, told, place, rank);
         tokens.push((place, len, value))?;
+        let end = text.len() - place + 1;
+        rank -= keys_between(told.marks, end - len, end);
         place += len;
     }
     Ok(tokens)
@@ -221,7 +274,12 @@ fn best_cut<T: Fronts, M: CostModel, B: Allocator + Copy>(
     ensures { IfOk result (λ tokens. IsBestCut (T.fronts_of trie.now) (M.key_cost model.now) (M.unknown_at model.now text.now) text.now tokens.items) }
 {
     let ends = ends_of(alloc, trie, text, model)?;
-    best_tokens(alloc, trie, text, model, &ends.costs, &ends.kept)
+    let told = Told {
+        costs: &ends.costs,
+        marks: &ends.marks,
+        values: &ends.values,
+    };
+    best_tokens(alloc, trie, text, model, &told)
 }
 
 /// Cuts a text into keys and unknown runs so that they cost the least together, by a model of costs: it says what a key costs by its value,
@@ -232,7 +290,7 @@ fn best_cut<T: Fronts, M: CostModel, B: Allocator + Copy>(
 /// many bytes. A sum above 2^64 - 1 counts as 2^64 - 1, for what is left from each token on. So a text of any length has one result, which
 /// is the same in both layouts.
 ///
-/// It allocates sixteen bytes for each byte of the text and sixteen more, in two allocations, and frees them when it ends; the result grows
+/// It allocates thirteen bytes for each byte of the text and nine more, in three allocations, and frees them when it ends; the result grows
 /// as any vector does. Each position costs a prefix walk and one call of `unknown`, and each key that begins there one call of `cost`.
 ///
 /// # Errors

@@ -1,4 +1,4 @@
-use Rattle.std.proofs.Common.{rules, ◌≡◌, ◌∙◌, ◌+◌, ◌-◌, ◌<◌, ◌≤◌, false, ap, arith, drop, length, slice_index_or, subst, sym, take}
+use Rattle.std.proofs.Common.{rules, ◌≡◌, ◌∙◌, ◌+◌, ◌-◌, ◌<◌, false, ap, arith, drop, length, slice_index_or, subst, take}
 use Rattle.std.proofs.lemmas.List.{drop-drop, length-drop, take_all}
 use Rattle.cedar_words.specs.Runs.{class_rest, character_code, is_continuation}
 use Rattle.cedar_words.proofs.classes.class_len.Goals as goal
