@@ -427,7 +427,7 @@ typedef struct cedar_range {
  * all at most. The kind of a character is that of the first range that has its number; one that no range has is a run by itself, and so is
  * each with `ranges` 0. With beside_keys a run may begin where a key begins too; without it only where none does. Of cuts with the same
  * cost it picks the one with the longer token where they first differ, and with a key rather than a run of as many bytes. A sum above
- * 2^64 - 1 counts as 2^64 - 1, for what is left from each token on. Returns what cedar_cheapest returns. It allocates 16 bytes for each
+ * 2^64 - 1 counts as 2^64 - 1, for what is left from each token on. Returns what cedar_cheapest returns. It allocates 13 bytes for each
  * byte of the text, and a list of the tokens; at each position it looks at `most` characters, and for each at the ranges up to its own. */
 uint32_t cedar_cheapest_by(const cedar_dictionary *d, const uint8_t *text, size_t length, const uint32_t *costs, size_t count,
                            uint32_t beyond, const cedar_range *kinds, size_t ranges, uint32_t unknown, size_t most, bool beside_keys,
@@ -454,10 +454,11 @@ enum {
     CEDAR_LEFTMOST_FIRST = 3    /* the same, of those that begin first the one with the least value, and of several with it the shortest */
 };
 
-/* Opens *s with a scanner of *d for one of these searches. If *s is open, the new scanner replaces the old one. It takes 24 bytes for
- * each slot of the dictionary up to that of its last node, or 36 for leftmost keys, besides the copy of the dictionary. For leftmost
- * keys it also takes 12 bytes for each key that a path of the dictionary gives where it can't go on: a few in most dictionaries, and 6
- * m^2 bytes at most for a key of m bytes. While it is made it takes a list of 24 bytes for each node, and what a sort of that needs.
+/* Opens *s with a scanner of *d for one of these searches. If *s is open, the new scanner replaces the old one. It takes about 28
+ * bytes for each node of the dictionary, or 40 for leftmost keys, and never more than that for each of the dictionary's slots up to that
+ * of its last node, besides the copy of the dictionary. For leftmost keys it also takes 12 bytes for each key that a path of the
+ * dictionary gives where it can't go on: a few in most dictionaries, and 6 m^2 bytes at most for a key of m bytes. While it is made it
+ * takes two lists of 24 bytes for each node, lists of 12 bytes for each slot of the dictionary, and what sorts of the nodes need.
  * Returns CEDAR_OK; CEDAR_IS_CLOSED if *d is closed; CEDAR_UNKNOWN_SEARCH; or CEDAR_MEMORY. After an error *s is as it was. */
 uint32_t cedar_scanner_new(const cedar_dictionary *d, uint32_t search, cedar_scanner *s);
 

@@ -1,10 +1,10 @@
 -- What is left behind a match, and between which positions matches end.
-use Rattle.std.proofs.Common.{◌≡◌, ◌⊎◌, inl, inr, ℕ, zero, suc, ◌+◌, ◌-◌, ◌<◌, ◌≤◌, ℤ, List, [], ◌∷◌, ◌++◌, append_assoc, drop, get_or, length, length-append, map, take, Option, Some, None, IfSome, option_map, is_some, cond, refl, sym, ap, subst, ◌∙◌, arith}
+use Rattle.std.proofs.Common.{◌≡◌, ℕ, zero, suc, ◌+◌, ◌-◌, ◌<◌, ◌≤◌, ℤ, List, [], ◌∷◌, ◌++◌, drop, get_or, length, length-append, map, take, Option, Some, None, IfSome, option_map, is_some, cond, refl, sym, ap, subst, ◌∙◌, arith}
 use Rattle.std.specs.List.{cons_option}
-use Rattle.std.proofs.lemmas.List.{append-nil, drop-drop, drop_all, length-drop, length-take-le, take-append-drop, take_all}
+use Rattle.std.proofs.lemmas.List.{drop-drop, drop_all, length-drop, length-take-le, take-append-drop, take_all}
 use Rattle.cedar_tree.specs.Tree.{number_at, Tree}
 use Rattle.cedar_words.specs.Spots.{spot}
-use Rattle.cedar_words.specs.Tokens.{len_of, longest}
+use Rattle.cedar_words.specs.Tokens.{len_of}
 use Rattle.cedar_words.proofs.LongestLemmas.{longest_within}
 use Rattle.cedar_scan.specs.Earliest.{earliest_from, first_key}
 use Rattle.cedar_scan.specs.Preferred.{key_for, keys_for, leftmost_behind}
@@ -99,10 +99,10 @@ behind_parts t place end text low inside =
     let left = length-drop place text in
     let long : length p ≡ k = length-take-le k w (omega (arith, left, low, inside)) in
     let on : place + k ≡ end = omega (arith, low) in
-    let reached : place + length p ≡ end = omega (arith, long, low) in
+    let slot_of_path : place + length p ≡ end = omega (arith, long, low) in
     let later : all_ending t (held_suffix t (read ++ p)) (place + length p) (drop k w) ≡ ending_behind t end text =
     sym (spots_of_held t (read ++ p) (place + length p) (drop k w))
-    ∙ ap (λ n. all_ending t (read ++ p) n (drop k w)) reached
+    ∙ ap (λ n. all_ending t (read ++ p) n (drop k w)) slot_of_path
     ∙ ap (λ x. all_ending t x end (drop k w)) (take_parts place k text ∙ ap (λ n. take n text) on)
     ∙ ap (all_ending t (take end text) end) (drop-drop k place text ∙ ap (λ n. drop n text) on) in
     ap (all_ending t read place) (sym (take-append-drop k w))
@@ -235,7 +235,7 @@ leftmost_on kind t place (b ∷ w) s later e =
           let taken = len_of (Some found) - 1 in
           let few : taken ≡ found.1 = omega arith in
           let at : end_of s ≡ place + (found.1 + 1) = ap end_of (sym (first_of here s (leftmost_behind kind t taken (place + 1) w) later e)) in
-          let reached : place + 1 + taken ≡ end_of s = omega (arith, at, few) in
+          let slot_of_path : place + 1 + taken ≡ end_of s = omega (arith, at, few) in
           let next : suc taken ≡ end_of s - place = omega (arith, at, few) in
           record {
             behind = omega (arith, at);
@@ -243,7 +243,7 @@ leftmost_on kind t place (b ∷ w) s later e =
             left =
                 sym (rest_of here s (leftmost_behind kind t taken (place + 1) w) later e)
                 ∙ passed kind t taken (place + 1) w
-                ∙ ap (λ n. leftmost_behind kind t 0 n (drop taken w)) reached
+                ∙ ap (λ n. leftmost_behind kind t 0 n (drop taken w)) slot_of_path
                 ∙ ap (λ n. leftmost_behind kind t 0 (end_of s) (drop n (b ∷ w))) next;
           }
     ]) (key_within kind t (b ∷ w)) e

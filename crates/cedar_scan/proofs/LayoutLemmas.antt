@@ -1,16 +1,27 @@
 -- What the states are once each node has its place.
-use Rattle.std.proofs.Common.{◌≡◌, ◌⊎◌, inl, inr, ℕ, ◌+◌, ◌<◌, true, false, cond, ◌&&◌, ◌==◌, ltb, ℤ, List, [], ◌∷◌, ◌++◌, get_or, length, length-append, Some, None, refl, sym, ap, subst, ◌∙◌, arith, eq-eqb}
-use Rattle.std.specs.Prelude.{bit_xor, pos, unwrap_or}
+use Rattle.std.proofs.Common.{◌≡◌, ◌⊎◌, inl, inr, ℕ, ◌+◌, ◌*◌, ◌%◌, ◌^◌, ◌<◌, true, false, cond, ◌&&◌, ◌==◌, ltb, ℤ, List, [], ◌∷◌, ◌++◌, get_or, length, length-append, Some, None, refl, sym, ap, subst, ◌∙◌, arith, eq-eqb, w32}
+use Rattle.std.specs.Prelude.{bit_or, bit_xor, pos, unwrap_or}
+use Rattle.std.specs.Int.{bit_at}
 use Rattle.std.proofs.lemmas.Bool.{and_from, and_parts, eqb-true, lt-ltb, ltb-true, true≢false}
 use Rattle.std.proofs.lemmas.Bool.Decides.{eqb_tells}
+use Rattle.std.proofs.lemmas.Nat.Bits.{bit_at_set_other, bit_at_set_same}
 use Rattle.cedar_tree.specs.Tree.{number_at, Tree}
 use Rattle.cedar_model.proofs.MeaningLemmas.ExclusiveOr.{xor_again, xor_injective}
 use Rattle.cedar_scan.specs.declared.state.PlacedNode.{PlacedNode}
 use Rattle.cedar_scan.specs.declared.state.State.{State}
-use Rattle.cedar_scan.specs.Automata.{AreLaid, AreNodes, child_in, IsChildSlot, IsGoto, IsLaid, IsListedNode, IsPlacing, state_at, with_base, with_node}
+use Rattle.cedar_scan.specs.Automata.{AreLaid, AreNodes, child_in, IsChildSlot, IsGoto, IsLaid, IsListedNode, IsPlacing, may_have, state_at, with_base, with_child_label, with_node}
 use Rattle.cedar_scan.specs.Suffixes.{is_node}
 use Rattle.cedar_scan.proofs.ListLemmas.{field_kept, same_front, same_last, snoc, snoc_not_empty, still_inside, written_elsewhere, written_here}
 use Rattle.cedar_scan.proofs.SuffixLemmas.{node_front, number_is_node}
+
+label_set : (labels l : ℕ) → bit_at (bit_or labels (1 * 2 ^ (l % 32) % 2 ^ 32)) (l % 32) ≡ 1
+label_set labels l = bit_at_set_same w32 labels (l % 32) (omega (arith))
+
+label_kept : (labels l i : ℕ) → bit_at labels i ≡ 1 → bit_at (bit_or labels (1 * 2 ^ (l % 32) % 2 ^ 32)) i ≡ 1
+label_kept labels l i was = elim (eqb_tells i (l % 32)) [
+  | inl same ↦ ap (bit_at (bit_or labels (1 * 2 ^ (l % 32) % 2 ^ 32))) same.1 ∙ label_set labels l
+  | inr other ↦ bit_at_set_other w32 labels (l % 32) (omega (arith)) i other.1 ∙ was
+]
 
 module _ (t : Tree) (slot_of : List ℕ → ℕ) (p : IsPlacing t slot_of) where
   -- the base of a node's children, by any of them
@@ -30,7 +41,7 @@ module _ (t : Tree) (slot_of : List ℕ → ℕ) (p : IsPlacing t slot_of) where
   module _ (states : List State) (x : PlacedNode) (b : IsListedNode t slot_of x) (parent_in : x.parent < length states) (slot_in : x.slot < length states) where
     -- the second of the two writes is inside too
     slot_still : x.slot < length (with_base states x)
-    slot_still = subst (λ n. x.slot < n) (sym (still_inside states x.parent (record (state_at states x.parent) { base = bit_xor x.slot x.label }))) slot_in
+    slot_still = subst (λ n. x.slot < n) (sym (still_inside states x.parent (with_child_label (state_at states x.parent) x))) slot_in
 
     -- what the two writes leave
     base_kept : (y : ℕ) → (state_at (with_node states x) y).base ≡ (state_at (with_base states x) y).base
@@ -39,32 +50,53 @@ module _ (t : Tree) (slot_of : List ℕ → ℕ) (p : IsPlacing t slot_of) where
     failure_kept : (y : ℕ) → (state_at (with_node states x) y).failure ≡ (state_at states y).failure
     failure_kept y =
         field_kept (λ (s : State). s.failure) (with_base states x) x.slot (record (state_at (with_base states x) x.slot) { owner = x.parent; depth = x.depth; value = unwrap_or x.number (pos 0) }) y slot_still refl
-        ∙ field_kept (λ (s : State). s.failure) states x.parent (record (state_at states x.parent) { base = bit_xor x.slot x.label }) y parent_in refl
+        ∙ field_kept (λ (s : State). s.failure) states x.parent (with_child_label (state_at states x.parent) x) y parent_in refl
 
     output_kept : (y : ℕ) → (state_at (with_node states x) y).output ≡ (state_at states y).output
     output_kept y =
         field_kept (λ (s : State). s.output) (with_base states x) x.slot (record (state_at (with_base states x) x.slot) { owner = x.parent; depth = x.depth; value = unwrap_or x.number (pos 0) }) y slot_still refl
-        ∙ field_kept (λ (s : State). s.output) states x.parent (record (state_at states x.parent) { base = bit_xor x.slot x.label }) y parent_in refl
+        ∙ field_kept (λ (s : State). s.output) states x.parent (with_child_label (state_at states x.parent) x) y parent_in refl
 
     base_here : (y : ℕ) → y ≡ x.parent → (state_at (with_node states x) y).base ≡ bit_xor x.slot x.label
-    base_here y e = base_kept y ∙ ap (λ (s : State). s.base) (written_here states x.parent (record (state_at states x.parent) { base = bit_xor x.slot x.label }) y parent_in e)
+    base_here y e = base_kept y ∙ ap (λ (s : State). s.base) (written_here states x.parent (with_child_label (state_at states x.parent) x) y parent_in e)
 
     base_elsewhere : (y : ℕ) → (y ≡ x.parent → ⊥) → (state_at (with_node states x) y).base ≡ (state_at states y).base
-    base_elsewhere y other = base_kept y ∙ ap (λ (s : State). s.base) (written_elsewhere states x.parent (record (state_at states x.parent) { base = bit_xor x.slot x.label }) y other)
+    base_elsewhere y other = base_kept y ∙ ap (λ (s : State). s.base) (written_elsewhere states x.parent (with_child_label (state_at states x.parent) x) y other)
+
+    labels_kept : (y : ℕ) → (state_at (with_node states x) y).labels ≡ (state_at (with_base states x) y).labels
+    labels_kept y = field_kept (λ (s : State). s.labels) (with_base states x) x.slot (record (state_at (with_base states x) x.slot) { owner = x.parent; depth = x.depth; value = unwrap_or x.number (pos 0) }) y slot_still refl
+
+    labels_here : (y : ℕ) → y ≡ x.parent → (state_at (with_node states x) y).labels ≡ (with_child_label (state_at states x.parent) x).labels
+    labels_here y e = labels_kept y ∙ ap (λ (s : State). s.labels) (written_here states x.parent (with_child_label (state_at states x.parent) x) y parent_in e)
+
+    labels_elsewhere : (y : ℕ) → (y ≡ x.parent → ⊥) → (state_at (with_node states x) y).labels ≡ (state_at states y).labels
+    labels_elsewhere y other = labels_kept y ∙ ap (λ (s : State). s.labels) (written_elsewhere states x.parent (with_child_label (state_at states x.parent) x) y other)
+
+    may_have_here : may_have (state_at (with_node states x) x.parent) x.label ≡ true
+    may_have_here = ap (λ m. bit_at m (x.label % 32) == 1) (labels_here x.parent refl) ∙ eq-eqb (bit_at (with_child_label (state_at states x.parent) x).labels (x.label % 32)) 1 (label_set (state_at states x.parent).labels x.label)
+
+    may_have_kept : (y l : ℕ) → may_have (state_at states y) l ≡ true → may_have (state_at (with_node states x) y) l ≡ true
+    may_have_kept y l was = elim (eqb_tells y x.parent) [
+      | inl here ↦
+          let old : bit_at (state_at states x.parent).labels (l % 32) ≡ 1 = ap (λ k. bit_at (state_at states k).labels (l % 32)) (sym here.1) ∙ eqb-true (bit_at (state_at states y).labels (l % 32)) 1 was in
+          ap (λ m. bit_at m (l % 32) == 1) (labels_here y here.1) ∙ eq-eqb (bit_at (with_child_label (state_at states x.parent) x).labels (l % 32)) 1 (label_kept (state_at states x.parent).labels x.label (l % 32) old)
+      | inr other ↦ ap (λ m. bit_at m (l % 32) == 1) (labels_elsewhere y other.1) ∙ was
+    ]
 
     -- in the slot of the node
     own : (y : ℕ) → y ≡ x.slot → state_at (with_node states x) y ≡ record (state_at (with_base states x) x.slot) { owner = x.parent; depth = x.depth; value = unwrap_or x.number (pos 0) }
     own y e = written_here (with_base states x) x.slot (record (state_at (with_base states x) x.slot) { owner = x.parent; depth = x.depth; value = unwrap_or x.number (pos 0) }) y slot_still e
 
     -- and in each other one
-    elsewhere : {X : Type 0} (f : State → X) (y : ℕ) → f (record (state_at states x.parent) { base = bit_xor x.slot x.label }) ≡ f (state_at states x.parent) → (y ≡ x.slot → ⊥) → f (state_at (with_node states x) y) ≡ f (state_at states y)
+    elsewhere : {X : Type 0} (f : State → X) (y : ℕ) → f (with_child_label (state_at states x.parent) x) ≡ f (state_at states x.parent) → (y ≡ x.slot → ⊥) → f (state_at (with_node states x) y) ≡ f (state_at states y)
     elsewhere f y same other =
         ap f (written_elsewhere (with_base states x) x.slot (record (state_at (with_base states x) x.slot) { owner = x.parent; depth = x.depth; value = unwrap_or x.number (pos 0) }) y other)
-        ∙ field_kept f states x.parent (record (state_at states x.parent) { base = bit_xor x.slot x.label }) y parent_in same
+        ∙ field_kept f states x.parent (with_child_label (state_at states x.parent) x) y parent_in same
 
     laid_here : IsLaid (with_node states x) x
     laid_here = record {
       base = base_here x.parent refl;
+      labels = may_have_here;
       owner = ap (λ (s : State). s.owner) (own x.slot refl);
       depth = ap (λ (s : State). s.depth) (own x.slot refl);
       value = ap (λ (s : State). s.value) (own x.slot refl);
@@ -76,6 +108,7 @@ module _ (t : Tree) (slot_of : List ℕ → ℕ) (p : IsPlacing t slot_of) where
         | inl same ↦ base_here m.parent same.1 ∙ child_base x b ∙ ap p.base (sym (one_above m x a b same.1)) ∙ sym (child_base m a)
         | inr other ↦ base_elsewhere m.parent other.1 ∙ laid.base
       ];
+      labels = may_have_kept m.parent m.label laid.labels;
       owner = elim (eqb_tells m.slot x.slot) [
         | inl same ↦ ap (λ (s : State). s.owner) (own m.slot same.1) ∙ b.parent ∙ ap slot_of (sym (same_front a.path b.path m.label x.label (one_path m x a b same.1))) ∙ sym a.parent
         | inr other ↦ elsewhere (λ (s : State). s.owner) m.slot refl other.1 ∙ laid.owner
@@ -130,7 +163,7 @@ module _ (t : Tree) (slot_of : List ℕ → ℕ) (p : IsPlacing t slot_of) where
         same_length : length (with_node states x) ≡ length states
         same_length =
             still_inside (with_base states x) x.slot (record (state_at (with_base states x) x.slot) { owner = x.parent; depth = x.depth; value = unwrap_or x.number (pos 0) })
-            ∙ still_inside states x.parent (record (state_at states x.parent) { base = bit_xor x.slot x.label })
+            ∙ still_inside states x.parent (with_child_label (state_at states x.parent) x)
 
   -- ---- all nodes have their places
 
@@ -138,6 +171,7 @@ module _ (t : Tree) (slot_of : List ℕ → ℕ) (p : IsPlacing t slot_of) where
     -- what is read of a node at the end of a path
     pub record IsRead (w : List ℕ) (l : ℕ) : Type 0 where
       pub base : (state_at states (slot_of w)).base ≡ bit_xor (slot_of (w ++ l ∷ [])) l
+      pub labels : may_have (state_at states (slot_of w)) l ≡ true
       pub owner : (state_at states (slot_of (w ++ l ∷ []))).owner ≡ slot_of w
       pub depth : (state_at states (slot_of (w ++ l ∷ []))).depth ≡ length w + 1
       pub value : (state_at states (slot_of (w ++ l ∷ []))).value ≡ unwrap_or (number_at t (w ++ l ∷ [])) (pos 0)
@@ -150,6 +184,7 @@ module _ (t : Tree) (slot_of : List ℕ → ℕ) (p : IsPlacing t slot_of) where
         let parent : n.parent ≡ slot_of w = is.parent ∙ ap slot_of front in
         record {
           base = ap (λ s. (state_at states s).base) (sym parent) ∙ here.base ∙ ap (λ s. bit_xor s n.label) slot ∙ ap (bit_xor (slot_of (w ++ l ∷ []))) last;
+          labels = ap (λ s. may_have (state_at states s) l) (sym parent) ∙ ap (may_have (state_at states n.parent)) (sym last) ∙ here.labels;
           owner = ap (λ s. (state_at states s).owner) (sym slot) ∙ here.owner ∙ parent;
           depth = ap (λ s. (state_at states s).depth) (sym slot) ∙ here.depth ∙ is.depth ∙ ap (λ v. length v + 1) front;
           value = ap (λ s. (state_at states s).value) (sym slot) ∙ here.value ∙ ap (λ x. unwrap_or x (pos 0)) (is.number ∙ ap (number_at t) path);
@@ -171,8 +206,8 @@ module _ (t : Tree) (slot_of : List ℕ → ℕ) (p : IsPlacing t slot_of) where
         let at : bit_xor (state_at states (slot_of w)).base l ≡ child = ap (λ b. bit_xor b l) read.base ∙ xor_again child l in
         let low : child < length states = inside (w ++ l ∷ []) node in
         let holds : (ltb child (length states) && ((state_at states child).owner == slot_of w)) ≡ true = and_from (ltb child (length states)) ((state_at states child).owner == slot_of w) (lt-ltb child (length states) low) (eq-eqb (state_at states child).owner (slot_of w) read.owner) in
-        ap (λ s. cond (ltb s (length states) && ((state_at states s).owner == slot_of w)) (Some s) None) at
-        ∙ ap (λ b. cond b (Some child) None) holds
+        ap (λ s. cond (may_have (state_at states (slot_of w)) l && (ltb s (length states) && ((state_at states s).owner == slot_of w))) (Some s) None) at
+        ∙ ap (λ b. cond b (Some child) None) (and_from (may_have (state_at states (slot_of w)) l) (ltb child (length states) && ((state_at states child).owner == slot_of w)) read.labels holds)
 
     -- and what isn't one isn't
     no_child : (w : List ℕ) (l : ℕ) → is_node t w ≡ true → is_node t (w ++ l ∷ []) ≡ false → (s : ℕ) → s ≡ bit_xor (state_at states (slot_of w)).base l → s < length states → (state_at states s).owner ≡ slot_of w → ⊥
@@ -191,9 +226,11 @@ module _ (t : Tree) (slot_of : List ℕ → ℕ) (p : IsPlacing t slot_of) where
     missed : (w : List ℕ) (l : ℕ) → is_node t w ≡ true → is_node t (w ++ l ∷ []) ≡ false → child_in states (slot_of w) l ≡ None
     missed w l node none =
         let s = bit_xor (state_at states (slot_of w)).base l in
-        (elim (ltb s (length states) && ((state_at states s).owner == slot_of w)) as (λ b. (ltb s (length states) && ((state_at states s).owner == slot_of w)) ≡ b → cond b (Some s) None ≡ None) [
+        let has = may_have (state_at states (slot_of w)) l in
+        let owned = ltb s (length states) && ((state_at states s).owner == slot_of w) in
+        (elim (has && owned) as (λ b. (has && owned) ≡ b → cond b (Some s) None ≡ None) [
           | true ↦ λ e.
-              let parts = and_parts (ltb s (length states)) ((state_at states s).owner == slot_of w) e in
+              let parts = and_parts (ltb s (length states)) ((state_at states s).owner == slot_of w) (and_parts has owned e).1 in
               absurd (no_child w l node none s refl (ltb-true s (length states) parts.0) (eqb-true (state_at states s).owner (slot_of w) parts.1))
           | false ↦ λ _. refl
         ]) refl

@@ -10,6 +10,7 @@ pub mod LinkLemmas
 pub mod ListLemmas
 pub mod NodesLemmas
 pub mod OccurrenceLemmas
+pub mod PlacingLemmas
 pub mod PlainLemmas
 pub mod PreferredLemmas
 pub mod ResumedLemmas

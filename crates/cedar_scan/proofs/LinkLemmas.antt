@@ -1,6 +1,7 @@
 -- How nodes get their links.
-use Rattle.std.proofs.Common.{◌≡◌, inl, inr, ℕ, ◌+◌, ◌^◌, ◌<◌, ◌≤◌, true, false, cond, ◌&&◌, ◌==◌, ltb, ℤ, List, [], ◌∷◌, ◌++◌, get_or, length, length-append, Some, None, is_some, refl, sym, ap, subst, ◌∙◌, arith}
+use Rattle.std.proofs.Common.{◌≡◌, inl, inr, ℕ, ◌+◌, ◌%◌, ◌^◌, ◌<◌, ◌≤◌, true, false, cond, ◌&&◌, ◌==◌, ltb, ℤ, List, [], ◌∷◌, ◌++◌, get_or, length, length-append, Some, None, is_some, refl, sym, ap, subst, ◌∙◌, arith}
 use Rattle.std.specs.Prelude.{bit_xor}
+use Rattle.std.specs.Int.{bit_at}
 use Rattle.std.specs.List.Sorted.{IsPermutation}
 use Rattle.std.proofs.lemmas.Bool.{false≢true, true≢false}
 use Rattle.std.proofs.lemmas.Bool.Decides.{eqb_tells, leb_tells}
@@ -9,7 +10,7 @@ use Rattle.std.proofs.lemmas.List.Sorted.{All-permutation, Contains-permutation}
 use Rattle.cedar_tree.specs.Tree.{number_at, Tree}
 use Rattle.cedar_scan.specs.declared.state.PlacedNode.{PlacedNode}
 use Rattle.cedar_scan.specs.declared.state.State.{State}
-use Rattle.cedar_scan.specs.Automata.{AreByDepth, AreLaid, AreLinkedFirst, AreNodes, AreSlotsWithin, CanLink, child_in, FailsTo, IsAutomaton, IsGoto, IsLinked, IsListedNode, IsPlacing, IsStepFrom, GetsLinks, state_at, GoesToSuffix, with_links, with_node}
+use Rattle.cedar_scan.specs.Automata.{AreByDepth, AreLaid, AreLinkedFirst, AreNodes, AreSlotsWithin, CanLink, child_in, FailsTo, IsAutomaton, IsGoto, IsLinked, IsListedNode, IsPlacing, IsStepFrom, GetsLinks, may_have, state_at, GoesToSuffix, with_links, with_node}
 use Rattle.cedar_scan.specs.Suffixes.{failure, held_suffix, is_node, key_suffix}
 use Rattle.cedar_scan.proofs.LayoutLemmas.{laid_goto, laid_more}
 use Rattle.cedar_scan.proofs.ListLemmas.{field_kept, same_front, snoc, still_inside, written_elsewhere, written_here}
@@ -132,9 +133,12 @@ module _ (t : Tree) (slot_of : List ℕ → ℕ) (states : List State) (n : Plac
 
       same_child : (s l : ℕ) → child_in (with_links states n.slot to out) s l ≡ child_in states s l
       same_child s l =
-          ap (λ b. cond (ltb (bit_xor b l) (length (with_links states n.slot to out)) && ((state_at (with_links states n.slot to out) (bit_xor b l)).owner == s)) (Some (bit_xor b l)) None) (kept_field (λ (x : State). x.base) s refl)
-          ∙ ap (λ m. cond (ltb (bit_xor (state_at states s).base l) m && ((state_at (with_links states n.slot to out) (bit_xor (state_at states s).base l)).owner == s)) (Some (bit_xor (state_at states s).base l)) None) same_length
-          ∙ ap (λ o. cond (ltb (bit_xor (state_at states s).base l) (length states) && (o == s)) (Some (bit_xor (state_at states s).base l)) None) (kept_field (λ (x : State). x.owner) (bit_xor (state_at states s).base l) refl)
+          let later = with_links states n.slot to out in
+          let slot = bit_xor (state_at states s).base l in
+          ap (λ m. cond ((bit_at m (l % 32) == 1) && (ltb (bit_xor (state_at later s).base l) (length later) && ((state_at later (bit_xor (state_at later s).base l)).owner == s))) (Some (bit_xor (state_at later s).base l)) None) (kept_field (λ (x : State). x.labels) s refl)
+          ∙ ap (λ b. cond (may_have (state_at states s) l && (ltb (bit_xor b l) (length later) && ((state_at later (bit_xor b l)).owner == s))) (Some (bit_xor b l)) None) (kept_field (λ (x : State). x.base) s refl)
+          ∙ ap (λ m. cond (may_have (state_at states s) l && (ltb slot m && ((state_at later slot).owner == s))) (Some slot) None) same_length
+          ∙ ap (λ o. cond (may_have (state_at states s) l && (ltb slot (length states) && (o == s))) (Some slot) None) (kept_field (λ (x : State). x.owner) slot refl)
 
       linked_here : (w : List ℕ) → w ≡ can.is.path ++ n.label ∷ [] → IsLinked t slot_of (with_links states n.slot to out) w
       linked_here w e =

@@ -1,5 +1,5 @@
 -- Searches that go on from a position of a text.
-use Rattle.std.proofs.Common.{◌≡◌, ◌⊎◌, inl, inr, ℕ, suc, ◌+◌, ◌-◌, ◌*◌, ◌<◌, ◌≤◌, Bool, true, false, List, [], ◌∷◌, ◌++◌, drop, get_or, length, length-append, map, min, take, refl, sym, ap, subst, ◌∙◌, arith}
+use Rattle.std.proofs.Common.{◌≡◌, ◌⊎◌, inl, inr, ℕ, suc, ◌+◌, ◌-◌, ◌*◌, ◌<◌, ◌≤◌, true, false, List, [], ◌∷◌, ◌++◌, drop, get_or, length, length-append, map, min, take, refl, sym, ap, subst, ◌∙◌, arith}
 use Rattle.std.specs.List.{All, Contains}
 use Rattle.std.proofs.Math.Seq.{drop-length, take-suc}
 use Rattle.std.proofs.lemmas.Bool.Decides.{leb_tells}
@@ -15,7 +15,6 @@ use Rattle.cedar_scan.specs.Resumed.{earliest_behind, ending_behind, IsHeight}
 use Rattle.cedar_scan.specs.Scans.{all_left, IsCursor, pending_key, read_of, steps_left}
 use Rattle.cedar_scan.specs.Suffixes.{all_ending, held_suffix, is_node, key_suffix, keys_ending, occurrence_ending}
 use Rattle.cedar_scan.proofs.LinkLemmas.{listed}
-use Rattle.cedar_scan.proofs.ListLemmas.{snoc}
 use Rattle.cedar_scan.proofs.ScanLemmas.{no_key_yet}
 use Rattle.cedar_scan.proofs.SuffixLemmas.{held_goes_on, held_is_node, held_of_other, held_shorter}
 

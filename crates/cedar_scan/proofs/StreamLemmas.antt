@@ -10,7 +10,7 @@ use Rattle.cedar_tree.specs.Walks.{forwards}
 use Rattle.cedar_scan.specs.declared.scan.Cursor.{Cursor}
 use Rattle.cedar_scan.specs.declared.scan.FoundKey.{FoundKey}
 use Rattle.cedar_scan.specs.declared.state.State.{State}
-use Rattle.cedar_scan.specs.Automata.{IsAutomaton, state_at}
+use Rattle.cedar_scan.specs.Automata.{IsAutomaton, may_have, state_at}
 use Rattle.cedar_scan.specs.Scans.{CostsNext, GivesFound, GivesNext, IsCursor, IsScanned, last_of, pending_key, read_of, all_left}
 use Rattle.cedar_scan.specs.Streams.{CostsInPiece, EndsPiece, GivesInPiece, IsStream, left_in, path_in, path_up, StreamAt}
 use Rattle.cedar_scan.specs.Suffixes.{held_suffix, is_node, key_suffix, keys_ending, Occurrence, occurrence_ending, all_ending}
@@ -61,14 +61,16 @@ module _ (t : Tree) (slot_of : List ℕ → ℕ) (states : List State) (h : IsAu
   below v l node =
       let s = slot_of v in
       let x = bit_xor (state_at states s).base l in
-      let test : Bool = ltb x (length states) && ((state_at states x).owner == s) in
+      let has : Bool = may_have (state_at states s) l in
+      let owned : Bool = ltb x (length states) && ((state_at states x).owner == s) in
+      let test : Bool = has && owned in
       let found : cond test (Some x) None ≡ Some (slot_of (v ++ l ∷ [])) = h.goto.child v l (node_front t v (l ∷ []) node) ∙ ap (λ b. cond b (Some (slot_of (v ++ l ∷ []))) None) node in
       (elim test as (λ b. test ≡ b → cond b (Some x) None ≡ Some (slot_of (v ++ l ∷ [])) → IsBelow v l) [
         | true ↦ λ e same.
             let here : x ≡ slot_of (v ++ l ∷ []) = some_is x (slot_of (v ++ l ∷ [])) same in
             record {
               slot = sym here;
-              owner = ap (λ y. (state_at states y).owner) (sym here) ∙ eqb-true (state_at states x).owner s (and_parts (ltb x (length states)) ((state_at states x).owner == s) e).1;
+              owner = ap (λ y. (state_at states y).owner) (sym here) ∙ eqb-true (state_at states x).owner s (and_parts (ltb x (length states)) ((state_at states x).owner == s) (and_parts has owned e).1).1;
             }
         | false ↦ λ e none. absurd (none_some (slot_of (v ++ l ∷ [])) none)
       ]) refl found

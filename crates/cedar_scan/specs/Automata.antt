@@ -1,7 +1,8 @@
 -- What the states of an automaton stand for.
-use Rattle.std.specs.Prelude.{◌≡◌, ◌⊎◌, ℕ, ◌+◌, ◌^◌, ◌<◌, ◌≤◌, ◌&&◌, ◌==◌, true, nat_lt, if◌then◌else◌}
-use Rattle.std.specs.Prelude.{ℤ, pos, List, [], ◌∷◌, ◌++◌, length, bit_xor, slice_index_or, slice_set}
+use Rattle.std.specs.Prelude.{◌≡◌, ◌⊎◌, ℕ, ◌+◌, ◌*◌, ◌%◌, ◌^◌, ◌<◌, ◌≤◌, Bool, ◌&&◌, ◌==◌, true, nat_lt, if◌then◌else◌}
+use Rattle.std.specs.Prelude.{ℤ, pos, List, [], ◌∷◌, ◌++◌, length, bit_or, bit_xor, slice_index_or, slice_set}
 use Rattle.std.specs.Prelude.{Option, None, Some, unwrap_or}
+use Rattle.std.specs.Int.{bit_at}
 use Rattle.std.specs.List.{All, Contains}
 use Rattle.std.specs.List.Sorted.{IsNonDecreasingBy}
 use Rattle.cedar_tree.specs.Tree.{number_at, Tree}
@@ -33,21 +34,39 @@ pub record AreNodes (t : Tree) (slot_of : List ℕ → ℕ) (nodes : List Placed
 
 -- what a slot has where no node is
 abbrev pub blank : State
-blank = record { base = 0; owner = 4294967295; failure = 0; output = 0; depth = 0; value = pos 0 }
+blank = record { base = 0; owner = 4294967295; labels = 0; failure = 0; output = 0; depth = 0; value = pos 0 }
 
 -- what a slot has, and zeros past the end
 abbrev pub state_at : List State → ℕ → State
-state_at states s = slice_index_or states s (record { base = 0; owner = 0; failure = 0; output = 0; depth = 0; value = pos 0 })
+state_at states s = slice_index_or states s (record { base = 0; owner = 0; labels = 0; failure = 0; output = 0; depth = 0; value = pos 0 })
+
+-- whether a child of a node may have a label: one has a label with the same last five bits
+abbrev pub may_have : State → ℕ → Bool
+may_have state l = bit_at state.labels (l % 32) == 1
 
 -- the child of the node in a slot under a label
 abbrev pub child_in : List State → ℕ → ℕ → Option ℕ
 child_in states s l =
     let slot = bit_xor (state_at states s).base l in
-    if nat_lt slot (length states) && (state_at states slot).owner == s then Some slot else None
+    if may_have (state_at states s) l && (nat_lt slot (length states) && (state_at states slot).owner == s) then Some slot else None
+
+-- a node's state with where a child of it is, and that a child has such a label
+abbrev pub with_child_label : State → PlacedNode → State
+with_child_label above n =
+    record above { base = bit_xor n.slot n.label; labels = bit_or above.labels (1 * 2 ^ (n.label % 32) % 2 ^ 32) }
+
+-- the slot that the states lead to from a slot by a path
+unfoldable pub slot_along : List State → ℕ → List ℕ → ℕ
+slot_along states s [] = s
+slot_along states s (l ∷ path) = slot_along states (unwrap_or (child_in states s l) 0) path
+
+-- the slot that the states lead to from the root by a path
+abbrev pub slot_of_path : List State → List ℕ → ℕ
+slot_of_path states path = slot_along states 0 path
 
 -- the states with a node's place among the others
 abbrev pub with_base : List State → PlacedNode → List State
-with_base states n = slice_set states n.parent (record (state_at states n.parent) { base = bit_xor n.slot n.label })
+with_base states n = slice_set states n.parent (with_child_label (state_at states n.parent) n)
 
 -- the states with a node's place among the others, and with what is read in the node's own slot
 abbrev pub with_node : List State → PlacedNode → List State
@@ -62,6 +81,7 @@ with_links states s to out = slice_set states s (record (state_at states s) { fa
 -- a listed node has its place
 pub record IsLaid (states : List State) (n : PlacedNode) : Type 0 where
   pub base : (state_at states n.parent).base ≡ bit_xor n.slot n.label
+  pub labels : may_have (state_at states n.parent) n.label ≡ true
   pub owner : (state_at states n.slot).owner ≡ n.parent
   pub depth : (state_at states n.slot).depth ≡ n.depth
   pub value : (state_at states n.slot).value ≡ unwrap_or n.number (pos 0)

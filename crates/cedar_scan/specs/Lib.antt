@@ -4,6 +4,7 @@ pub mod Falls
 pub mod Keywords
 pub mod Laws
 pub mod Leftmost
+pub mod Places
 pub mod Plain
 pub mod Preferred
 pub mod Resumed

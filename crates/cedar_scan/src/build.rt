@@ -1,12 +1,13 @@
 //! The automaton of a dictionary, made of the list of its nodes: first each node gets its place, then its links, the shorter paths first.
 
-ghost use Rattle.std.specs.Prelude.{◌<◌, ◌≡◌, IfOk, length, ℕ};
+ghost use Rattle.std.specs.Prelude.{◌<◌, ◌^◌, ◌≡◌, ◌≤◌, IfOk, length, ℕ};
 ghost use Rattle.cedar_scan.specs.Words.{AreByDepth, AreLaid, AreLinkedFirst, AreNodes};
 ghost use Rattle.cedar_scan.specs.Words.{AreSlotsWithin, blank, CanLink, FailsTo, GetsLinks};
-ghost use Rattle.cedar_scan.specs.Words.{IsAutomaton, IsBlankOf, IsGoto, IsPlacing, state_at};
-ghost use Rattle.cedar_scan.specs.Words.{with_node};
+ghost use Rattle.cedar_scan.specs.Words.{IsAutomaton, IsBlankOf, IsGoto, IsPlacing, placed_by};
+ghost use Rattle.cedar_scan.specs.Words.{slot_of_path, state_at, with_node};
 
 use crate::placed::Placed;
+use crate::places::nodes_anew;
 use crate::state::{BLANK, PlacedNode, State};
 use crate::step::step;
 use cedar_slots::Ticks;
@@ -22,6 +23,7 @@ fn place_node(states: &mut [State], node: PlacedNode)
 {
     let above = &mut states[node.parent as usize];
     above.base = node.slot ^ u32::from(node.label);
+    above.labels |= 1 << (u32::from(node.label) % 32);
     let state = &mut states[node.slot as usize];
     state.owner = node.parent;
     state.depth = node.depth;
@@ -29,13 +31,18 @@ fn place_node(states: &mut [State], node: PlacedNode)
 }
 
 /// Gives each node its place.
-pub(crate) fn place_nodes<T: Placed>(trie: &T, nodes: &[PlacedNode], states: &mut [State])
-    requires placed { IsPlacing (T.tree trie.now) (T.slot_of trie.now) }
-    requires nodes { AreNodes (T.tree trie.now) (T.slot_of trie.now) nodes.now }
+pub(crate) fn place_nodes<T: Placed>(
+    trie: &T,
+    places: &[u32],
+    nodes: &[PlacedNode],
+    states: &mut [State],
+)
+    requires placed { IsPlacing (T.tree trie.now) (placed_by places.now (T.slot_of trie.now)) }
+    requires nodes { AreNodes (T.tree trie.now) (placed_by places.now (T.slot_of trie.now)) nodes.now }
     requires some { 0 < length states.old }
     requires within { AreSlotsWithin (length states.old) nodes.now }
     requires free { (y : ℕ) → y < length states.old → state_at states.old y ≡ blank }
-    ensures { AreLaid (T.tree trie.now) (T.slot_of trie.now) nodes.now (length nodes.now) states.new }
+    ensures { AreLaid (T.tree trie.now) (placed_by places.now (T.slot_of trie.now)) nodes.now (length nodes.now) states.new }
 {
     for node in nodes {
         place_node(states, *node);
@@ -45,12 +52,13 @@ pub(crate) fn place_nodes<T: Placed>(trie: &T, nodes: &[PlacedNode], states: &mu
 /// Returns where the failure link of a node leads: on by its label from where that of the node above it does.
 fn failure_of<T: Placed, C: Ledger>(
     trie: &T,
+    places: &[u32],
     states: &[State],
     node: PlacedNode,
     ticks: &mut Ticks<C>,
 ) -> usize
-    requires { CanLink (T.tree trie.now) (T.slot_of trie.now) states.now node }
-    ensures { FailsTo (T.tree trie.now) (T.slot_of trie.now) node result }
+    requires { CanLink (T.tree trie.now) (placed_by places.now (T.slot_of trie.now)) states.now node }
+    ensures { FailsTo (T.tree trie.now) (placed_by places.now (T.slot_of trie.now)) node result }
 {
     if node.parent == 0 {
         return 0;
@@ -62,14 +70,15 @@ fn failure_of<T: Placed, C: Ledger>(
 /// Writes the links of a node.
 fn link_node<T: Placed, C: Ledger>(
     trie: &T,
+    places: &[u32],
     states: &mut [State],
     node: PlacedNode,
     ticks: &mut Ticks<C>,
 )
-    requires { CanLink (T.tree trie.now) (T.slot_of trie.now) states.old node }
-    ensures { GetsLinks (T.tree trie.now) (T.slot_of trie.now) node states.old states.new }
+    requires { CanLink (T.tree trie.now) (placed_by places.now (T.slot_of trie.now)) states.old node }
+    ensures { GetsLinks (T.tree trie.now) (placed_by places.now (T.slot_of trie.now)) node states.old states.new }
 {
-    let failure = failure_of(trie, states, node, ticks);
+    let failure = failure_of(trie, places, states, node, ticks);
     let output = if node.number.is_some() {
         node.slot
     } else {
@@ -83,24 +92,26 @@ fn link_node<T: Placed, C: Ledger>(
 /// Gives each node its links: the nodes with shorter paths have theirs by then.
 fn link_nodes<T: Placed, C: Ledger>(
     trie: &T,
+    places: &[u32],
     nodes: &[PlacedNode],
     states: &mut [State],
     ticks: &mut Ticks<C>,
 )
-    requires placed { IsPlacing (T.tree trie.now) (T.slot_of trie.now) }
-    requires nodes { AreNodes (T.tree trie.now) (T.slot_of trie.now) nodes.now }
+    requires placed { IsPlacing (T.tree trie.now) (placed_by places.now (T.slot_of trie.now)) }
+    requires nodes { AreNodes (T.tree trie.now) (placed_by places.now (T.slot_of trie.now)) nodes.now }
     requires sorted { AreByDepth nodes.now }
-    requires first { AreLinkedFirst (T.tree trie.now) (T.slot_of trie.now) nodes.now 0 states.old }
-    ensures { IsAutomaton (T.tree trie.now) (T.slot_of trie.now) states.new }
+    requires first { AreLinkedFirst (T.tree trie.now) (placed_by places.now (T.slot_of trie.now)) nodes.now 0 states.old }
+    ensures { IsAutomaton (T.tree trie.now) (placed_by places.now (T.slot_of trie.now)) states.new }
 {
     for node in nodes {
-        link_node(trie, states, *node, ticks);
+        link_node(trie, places, states, *node, ticks);
     }
 }
 
 /// Returns how many slots there are up to the last one of a node.
 pub(crate) fn slots_of(nodes: &[PlacedNode]) -> usize
     ensures some { 0 < result }
+    ensures few { result ≤ 2 ^ 32 }
     ensures within { AreSlotsWithin result nodes.now }
 {
     let mut slots = 1;
@@ -120,23 +131,23 @@ fn build_with<T: Placed, C: Ledger, A: Allocator + Copy>(
     unread: Blank,
 ) -> Result<Vec<State, A>, AllocError>
     requires { IsBlankOf C.name C.parts unread }
-    ensures { IfOk result (λ states. IsAutomaton (T.tree trie.now) (T.slot_of trie.now) states.items) }
+    ensures { IfOk result (λ states. IsAutomaton (T.tree trie.now) (slot_of_path states.items) states.items) }
 {
-    let mut nodes = trie.nodes(alloc)?;
-    nodes.sort_by_key(|node| node.depth)?;
-    let mut states = vec![in alloc; BLANK; slots_of(&nodes)]?;
-    place_nodes(trie, &nodes, &mut states);
-    link_nodes(trie, &nodes, &mut states, &mut Ticks::<C>::new(unread));
+    let placed = nodes_anew(trie, alloc)?;
+    let mut states = vec![in alloc; BLANK; slots_of(&placed.nodes)]?;
+    place_nodes(trie, &placed.places, &placed.nodes, &mut states);
+    let mut ticks = Ticks::<C>::new(unread);
+    link_nodes(trie, &placed.places, &placed.nodes, &mut states, &mut ticks);
     Ok(states)
 }
 
-/// Makes the automaton of a dictionary: a state for each slot up to the last one of a node. It allocates these, and until it returns a list
-/// of the nodes and what a sort of it needs.
+/// Makes the automaton of a dictionary: a state for each slot up to the last one of a node. It allocates these, and until it returns lists
+/// of the nodes and of their slots, and what a sort of the nodes needs.
 pub(crate) fn build<T: Placed, A: Allocator + Copy>(
     trie: &T,
     alloc: A,
 ) -> Result<Vec<State, A>, AllocError>
-    ensures { IfOk result (λ states. IsAutomaton (T.tree trie.now) (T.slot_of trie.now) states.items) }
+    ensures { IfOk result (λ states. IsAutomaton (T.tree trie.now) (slot_of_path states.items) states.items) }
 {
     build_with::<T, Brand, A>(trie, alloc, Blank::new(1))
 }

@@ -4,7 +4,7 @@ ghost use Rattle.std.specs.Prelude.{◌*◌, ◌+◌, ◌-◌, ◌<◌, ◌^◌,
 ghost use Rattle.std.specs.Prelude.{length, ℕ, ⊤};
 ghost use Rattle.cedar_scan.specs.Words.{CostsFirst, earliest, earliest_behind, earliest_from};
 ghost use Rattle.cedar_scan.specs.Words.{GivesEarliest, IsAutomaton, IsBlankOf, item_count};
-ghost use Rattle.cedar_scan.specs.Words.{scan_code, ScanLeft};
+ghost use Rattle.cedar_scan.specs.Words.{slot_of_path, scan_code, ScanLeft};
 ghost use Rattle.cedar_scan.specs.Words.{YieldsFirst};
 
 use crate::placed::Placed;
@@ -39,7 +39,7 @@ impl<'a, T: Placed> Model for Earliest<'a, T> {
       steps = 2 * length it.text.now;
     } };
 
-    ghost invariant = { λ it. IsAutomaton (T.tree it.trie.now) (T.slot_of it.trie.now) it.states.now × (it.offset + length it.text.now < 2 ^ 64) };
+    ghost invariant = { λ it. IsAutomaton (T.tree it.trie.now) (slot_of_path it.states.now) it.states.now × (it.offset + length it.text.now < 2 ^ 64) };
 }
 
 /// Finds the key that ends first in a text, and where it ends.
@@ -49,7 +49,7 @@ fn first_end<T: Placed, C: Ledger>(
     text: &[u8],
     ticks: &mut Ticks<C>,
 ) -> Option<(FoundKey, usize)>
-    requires { IsAutomaton (T.tree trie.now) (T.slot_of trie.now) states.now }
+    requires { IsAutomaton (T.tree trie.now) (slot_of_path states.now) states.now }
     ensures gives { (offset : ℕ) → GivesEarliest (T.tree trie.now) offset text.now result }
     ensures cost { CostsFirst text.now result ticks.old ticks.new }
 {
@@ -71,7 +71,7 @@ fn first_end<T: Placed, C: Ledger>(
 impl<'a, T: Placed> Earliest<'a, T> {
     // Before the first byte of the text.
     pub(crate) fn new(trie: &'a T, states: &'a [State], text: &'a [u8]) -> Self
-        requires { IsAutomaton (T.tree trie.now) (T.slot_of trie.now) states.now }
+        requires { IsAutomaton (T.tree trie.now) (slot_of_path states.now) states.now }
         ensures rest { result.rest ≡ earliest (T.tree trie.now) text.now }
         ensures steps { result.steps ≡ 2 * length text.now }
     {
@@ -85,7 +85,7 @@ impl<'a, T: Placed> Earliest<'a, T> {
 
     // Before the byte at a position of the text.
     pub(crate) fn behind(trie: &'a T, states: &'a [State], text: &'a [u8], place: usize) -> Self
-        requires { IsAutomaton (T.tree trie.now) (T.slot_of trie.now) states.now }
+        requires { IsAutomaton (T.tree trie.now) (slot_of_path states.now) states.now }
         ensures rest { result.rest ≡ earliest_behind (T.tree trie.now) place text.now }
         ensures steps { result.steps ≡ 2 * (length text.now - place) }
     {

@@ -3,10 +3,11 @@
 ghost use Rattle.std.specs.Prelude.{◌≡◌, ◌≤◌, IfOk, length, map, None};
 ghost use Rattle.cedar_scan.specs.Words.{AddsFall, AddsPopped, AreByDepth, AreFalls, AreNodes};
 ghost use Rattle.cedar_scan.specs.Words.{CanFall, FallsTo, IsGoto, IsKeywordAutomaton, IsPlacing};
-ghost use Rattle.cedar_scan.specs.Words.{popped_at, pops_of};
+ghost use Rattle.cedar_scan.specs.Words.{placed_by, popped_at, pops_of, slot_of_path};
 
 use crate::build::{place_nodes, slots_of};
 use crate::placed::Placed;
+use crate::places::nodes_anew;
 use crate::state::{BLANK, PlacedNode, State};
 use crate::step::child_of;
 use std::alloc::{AllocError, Allocator};
@@ -66,14 +67,15 @@ fn copy_popped<A: Allocator>(
 /// that child, or 0.
 fn fall_on<T: Placed, A: Allocator>(
     trie: &T,
+    places: &[u32],
     states: &[State],
     falls: &[Fall],
     popped: &mut Vec<Popped, A>,
     node: PlacedNode,
 ) -> Result<usize, AllocError>
-    requires can { CanFall (T.tree trie.now) (T.slot_of trie.now) states.now falls.now popped.old.items node }
+    requires can { CanFall (T.tree trie.now) (placed_by places.now (T.slot_of trie.now)) states.now falls.now popped.old.items node }
     requires none { node.number ≡ None }
-    ensures { IfOk result (λ to. FallsTo (T.tree trie.now) (T.slot_of trie.now) node popped.old.items to popped.new.items) }
+    ensures { IfOk result (λ to. FallsTo (T.tree trie.now) (placed_by places.now (T.slot_of trie.now)) node popped.old.items to popped.new.items) }
 {
     if node.parent == 0 {
         return Ok(0);
@@ -96,16 +98,17 @@ fn fall_on<T: Placed, A: Allocator>(
 /// Gives the keys of a node, and returns the slot of what is left of its path: a key gives itself, and nothing is left.
 fn fall_of<T: Placed, A: Allocator>(
     trie: &T,
+    places: &[u32],
     states: &[State],
     falls: &[Fall],
     popped: &mut Vec<Popped, A>,
     node: PlacedNode,
 ) -> Result<usize, AllocError>
-    requires { CanFall (T.tree trie.now) (T.slot_of trie.now) states.now falls.now popped.old.items node }
-    ensures { IfOk result (λ to. FallsTo (T.tree trie.now) (T.slot_of trie.now) node popped.old.items to popped.new.items) }
+    requires { CanFall (T.tree trie.now) (placed_by places.now (T.slot_of trie.now)) states.now falls.now popped.old.items node }
+    ensures { IfOk result (λ to. FallsTo (T.tree trie.now) (placed_by places.now (T.slot_of trie.now)) node popped.old.items to popped.new.items) }
 {
     let Some(value) = node.number else {
-        return fall_on(trie, states, falls, popped, node);
+        return fall_on(trie, places, states, falls, popped, node);
     };
     popped.push(Popped {
         before: 0,
@@ -118,18 +121,19 @@ fn fall_of<T: Placed, A: Allocator>(
 /// Writes where a scan goes on from a node, and which keys it gives then.
 fn add_fall<T: Placed, A: Allocator>(
     trie: &T,
+    places: &[u32],
     states: &[State],
     falls: &mut [Fall],
     popped: &mut Vec<Popped, A>,
     node: PlacedNode,
 ) -> Result<(), AllocError>
-    requires { CanFall (T.tree trie.now) (T.slot_of trie.now) states.now falls.old popped.old.items node }
-    ensures { IfOk result (λ _. AddsFall (T.tree trie.now) (T.slot_of trie.now) node falls.old popped.old.items falls.new popped.new.items) }
+    requires { CanFall (T.tree trie.now) (placed_by places.now (T.slot_of trie.now)) states.now falls.old popped.old.items node }
+    ensures { IfOk result (λ _. AddsFall (T.tree trie.now) (placed_by places.now (T.slot_of trie.now)) node falls.old popped.old.items falls.new popped.new.items) }
 {
     let Ok(first) = u32::try_from(popped.len()) else {
         return Err(AllocError);
     };
-    let to = fall_of(trie, states, falls, popped, node)?;
+    let to = fall_of(trie, places, states, falls, popped, node)?;
     let Ok(last) = u32::try_from(popped.len()) else {
         return Err(AllocError);
     };
@@ -144,20 +148,21 @@ fn add_fall<T: Placed, A: Allocator>(
 /// Writes that of each node: the nodes with shorter paths have theirs by then.
 fn add_falls<T: Placed, A: Allocator>(
     trie: &T,
+    places: &[u32],
     nodes: &[PlacedNode],
     states: &[State],
     falls: &mut [Fall],
     popped: &mut Vec<Popped, A>,
 ) -> Result<(), AllocError>
-    requires placed { IsPlacing (T.tree trie.now) (T.slot_of trie.now) }
-    requires nodes { AreNodes (T.tree trie.now) (T.slot_of trie.now) nodes.now }
+    requires placed { IsPlacing (T.tree trie.now) (placed_by places.now (T.slot_of trie.now)) }
+    requires nodes { AreNodes (T.tree trie.now) (placed_by places.now (T.slot_of trie.now)) nodes.now }
     requires sorted { AreByDepth nodes.now }
-    requires goto { IsGoto (T.tree trie.now) (T.slot_of trie.now) states.now }
+    requires goto { IsGoto (T.tree trie.now) (placed_by places.now (T.slot_of trie.now)) states.now }
     requires size { length falls.old ≡ length states.now }
-    ensures { IfOk result (λ _. AreFalls (T.tree trie.now) (T.slot_of trie.now) falls.new popped.new.items) }
+    ensures { IfOk result (λ _. AreFalls (T.tree trie.now) (placed_by places.now (T.slot_of trie.now)) falls.new popped.new.items) }
 {
     for node in nodes {
-        add_fall(trie, states, falls, popped, *node)?;
+        add_fall(trie, places, states, falls, popped, *node)?;
     }
     Ok(())
 }
@@ -176,16 +181,22 @@ pub(crate) fn build_parts<T: Placed, A: Allocator + Copy>(
     trie: &T,
     alloc: A,
 ) -> Result<KeywordParts<A>, AllocError>
-    ensures { IfOk result (λ parts. IsKeywordAutomaton (T.tree trie.now) (T.slot_of trie.now) parts.states.items parts.falls.items parts.popped.items) }
+    ensures { IfOk result (λ parts. IsKeywordAutomaton (T.tree trie.now) (slot_of_path parts.states.items) parts.states.items parts.falls.items parts.popped.items) }
 {
-    let mut nodes = trie.nodes(alloc)?;
-    nodes.sort_by_key(|node| node.depth)?;
-    let slots = slots_of(&nodes);
+    let placed = nodes_anew(trie, alloc)?;
+    let slots = slots_of(&placed.nodes);
     let mut states = vec![in alloc; BLANK; slots]?;
-    place_nodes(trie, &nodes, &mut states);
+    place_nodes(trie, &placed.places, &placed.nodes, &mut states);
     let mut falls = vec![in alloc; NO_FALL; slots]?;
     let mut popped = Vec::new(alloc);
-    add_falls(trie, &nodes, &states, &mut falls, &mut popped)?;
+    add_falls(
+        trie,
+        &placed.places,
+        &placed.nodes,
+        &states,
+        &mut falls,
+        &mut popped,
+    )?;
     Ok(KeywordParts {
         states,
         falls,

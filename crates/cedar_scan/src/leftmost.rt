@@ -3,7 +3,7 @@
 ghost use Rattle.std.specs.Prelude.{◌*◌, ◌+◌, ◌-◌, ◌≡◌, ◌≤◌, ◌≢◌, drop, length, ⊤};
 ghost use Rattle.cedar_scan.specs.Words.{CantGoOn, ScansOn, ScansOnOrEnds, IsBlankOf};
 ghost use Rattle.cedar_scan.specs.Words.{IsKeywordAutomaton, IsKeywordCursor, item_count};
-ghost use Rattle.cedar_scan.specs.Words.{keyword_code, KeywordsLeft};
+ghost use Rattle.cedar_scan.specs.Words.{keyword_code, KeywordsLeft, slot_of_path};
 ghost use Rattle.cedar_scan.specs.Words.{keywords_from, keywords_in, keywords_left, tests_left};
 ghost use Rattle.cedar_scan.specs.Words.{YieldsFirst};
 
@@ -39,12 +39,12 @@ fn fall<T: Placed>(
     text: &[u8],
     cursor: &mut KeywordCursor,
 )
-    requires automaton { IsKeywordAutomaton (T.tree trie.now) (T.slot_of trie.now) states.now falls.now popped.now }
-    requires cursor { IsKeywordCursor (T.tree trie.now) (T.slot_of trie.now) states.now popped.now text.now cursor.old }
+    requires automaton { IsKeywordAutomaton (T.tree trie.now) (slot_of_path states.now) states.now falls.now popped.now }
+    requires cursor { IsKeywordCursor (T.tree trie.now) (slot_of_path states.now) states.now popped.now text.now cursor.old }
     requires none { cursor.old.next ≡ cursor.old.last }
     requires other { cursor.old.slot ≢ 0 }
     requires stops { CantGoOn states.now text.now cursor.old }
-    ensures { ScansOn (T.tree trie.now) (T.slot_of trie.now) states.now popped.now text.now cursor.old cursor.new 0 0 }
+    ensures { ScansOn (T.tree trie.now) (slot_of_path states.now) states.now popped.now text.now cursor.old cursor.new 0 0 }
 {
     let fall = falls[cursor.slot];
     cursor.base = cursor.place - states[cursor.slot].depth as usize;
@@ -62,11 +62,11 @@ fn leave_last<T: Placed>(
     text: &[u8],
     cursor: &mut KeywordCursor,
 ) -> bool
-    requires automaton { IsKeywordAutomaton (T.tree trie.now) (T.slot_of trie.now) states.now falls.now popped.now }
-    requires cursor { IsKeywordCursor (T.tree trie.now) (T.slot_of trie.now) states.now popped.now text.now cursor.old }
+    requires automaton { IsKeywordAutomaton (T.tree trie.now) (slot_of_path states.now) states.now falls.now popped.now }
+    requires cursor { IsKeywordCursor (T.tree trie.now) (slot_of_path states.now) states.now popped.now text.now cursor.old }
     requires none { cursor.old.next ≡ cursor.old.last }
     requires end { cursor.old.place ≡ length text.now }
-    ensures { ScansOnOrEnds (T.tree trie.now) (T.slot_of trie.now) states.now popped.now text.now cursor.old result cursor.new 0 0 }
+    ensures { ScansOnOrEnds (T.tree trie.now) (slot_of_path states.now) states.now popped.now text.now cursor.old result cursor.new 0 0 }
 {
     if cursor.slot == 0 {
         return false;
@@ -85,10 +85,10 @@ fn go_on<T: Placed, C: Ledger>(
     cursor: &mut KeywordCursor,
     ticks: &mut Ticks<C>,
 ) -> bool
-    requires automaton { IsKeywordAutomaton (T.tree trie.now) (T.slot_of trie.now) states.now falls.now popped.now }
-    requires cursor { IsKeywordCursor (T.tree trie.now) (T.slot_of trie.now) states.now popped.now text.now cursor.old }
+    requires automaton { IsKeywordAutomaton (T.tree trie.now) (slot_of_path states.now) states.now falls.now popped.now }
+    requires cursor { IsKeywordCursor (T.tree trie.now) (slot_of_path states.now) states.now popped.now text.now cursor.old }
     requires none { cursor.old.next ≡ cursor.old.last }
-    ensures { ScansOnOrEnds (T.tree trie.now) (T.slot_of trie.now) states.now popped.now text.now cursor.old result cursor.new ticks.old ticks.new }
+    ensures { ScansOnOrEnds (T.tree trie.now) (slot_of_path states.now) states.now popped.now text.now cursor.old result cursor.new ticks.old ticks.new }
 {
     if cursor.place == text.len() {
         return leave_last(trie, states, falls, popped, text, cursor);
@@ -117,10 +117,10 @@ fn next_keyword<T: Placed, C: Ledger>(
     cursor: &mut KeywordCursor,
     ticks: &mut Ticks<C>,
 ) -> Option<(usize, usize, i32)>
-    requires automaton { IsKeywordAutomaton (T.tree trie.now) (T.slot_of trie.now) states.now falls.now popped.now }
-    requires cursor { IsKeywordCursor (T.tree trie.now) (T.slot_of trie.now) states.now popped.now text.now cursor.old }
+    requires automaton { IsKeywordAutomaton (T.tree trie.now) (slot_of_path states.now) states.now falls.now popped.now }
+    requires cursor { IsKeywordCursor (T.tree trie.now) (slot_of_path states.now) states.now popped.now text.now cursor.old }
     ensures gives { YieldsFirst (keywords_left (T.tree trie.now) states.now popped.now text.now) cursor.old result cursor.new }
-    ensures cursor { IsKeywordCursor (T.tree trie.now) (T.slot_of trie.now) states.now popped.now text.now cursor.new }
+    ensures cursor { IsKeywordCursor (T.tree trie.now) (slot_of_path states.now) states.now popped.now text.now cursor.new }
     ensures cost { ticks.new + tests_left states.now text.now cursor.new ≤ ticks.old + tests_left states.now text.now cursor.old }
 {
     while cursor.next == cursor.last {
@@ -159,8 +159,8 @@ impl<'a, T: Placed> Model for Leftmost<'a, T> {
       steps = tests_left it.states.now it.text.now it.cursor;
     } };
 
-    ghost invariant = { λ it. IsKeywordAutomaton (T.tree it.trie.now) (T.slot_of it.trie.now) it.states.now it.falls.now it.popped.now
-        × IsKeywordCursor (T.tree it.trie.now) (T.slot_of it.trie.now) it.states.now it.popped.now it.text.now it.cursor };
+    ghost invariant = { λ it. IsKeywordAutomaton (T.tree it.trie.now) (slot_of_path it.states.now) it.states.now it.falls.now it.popped.now
+        × IsKeywordCursor (T.tree it.trie.now) (slot_of_path it.states.now) it.states.now it.popped.now it.text.now it.cursor };
 }
 
 impl<'a, T: Placed> Leftmost<'a, T> {
@@ -172,7 +172,7 @@ impl<'a, T: Placed> Leftmost<'a, T> {
         popped: &'a [Popped],
         text: &'a [u8],
     ) -> Self
-        requires { IsKeywordAutomaton (T.tree trie.now) (T.slot_of trie.now) states.now falls.now popped.now }
+        requires { IsKeywordAutomaton (T.tree trie.now) (slot_of_path states.now) states.now falls.now popped.now }
         ensures rest { result.rest ≡ keywords_in (T.tree trie.now) text.now }
         ensures steps { result.steps ≡ 2 * length text.now }
     {
@@ -201,7 +201,7 @@ impl<'a, T: Placed> Leftmost<'a, T> {
         text: &'a [u8],
         place: usize,
     ) -> Self
-        requires { IsKeywordAutomaton (T.tree trie.now) (T.slot_of trie.now) states.now falls.now popped.now }
+        requires { IsKeywordAutomaton (T.tree trie.now) (slot_of_path states.now) states.now falls.now popped.now }
         ensures rest { result.rest ≡ keywords_from (T.tree trie.now) place (drop place text.now) }
         ensures steps { result.steps ≡ 2 * (length text.now - place) }
     {

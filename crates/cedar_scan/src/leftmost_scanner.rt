@@ -9,9 +9,9 @@ use std::alloc::{AllocError, Allocator};
 use std::marker::Model;
 
 /// An automaton beside a dictionary, by which keys that don't overlap are found in linear time: of those that begin first one, and so on
-/// from its end. It borrows the dictionary, which stays as it is while the scanner lives. It holds 36 bytes for each slot of the dictionary
-/// up to that of its last node, and for each node 12 bytes for each key that its path gives where it can't go on: at most as many keys as
-/// the path has bytes.
+/// from its end. It borrows the dictionary, which stays as it is while the scanner lives. It has slots of its own, about one for each
+/// node and no more than the dictionary has up to that of its last node, and holds 40 bytes for each. For each node it holds 12 bytes for
+/// each key that the node's path gives where it can't go on: at most as many keys as the path has bytes.
 ///
 /// Where a path can't go on, its keys are known, and what is left of it that may still begin a key: so a search never goes back in the text.
 /// That is linear maximum matching (Song, Salcianu, Song, Dopson and Zhou, "Fast WordPiece Tokenization", 2021).
@@ -25,7 +25,7 @@ pub struct LeftmostScanner<'a, T: Placed, A: Allocator> {
 
 impl<'a, T: Placed, A: Allocator> Model for LeftmostScanner<'a, T, A> {
     ghost use Rattle.cedar_scan.specs.Words.{IsKeywordAutomaton, keys_for, leftmost_code};
-    ghost use Rattle.cedar_scan.specs.Words.{LeftmostKeys};
+    ghost use Rattle.cedar_scan.specs.Words.{LeftmostKeys, slot_of_path};
 
     ghost Value = { LeftmostKeys };
 
@@ -33,7 +33,7 @@ impl<'a, T: Placed, A: Allocator> Model for LeftmostScanner<'a, T, A> {
 
     ghost view = { λ it. record { kind = it.keys.kind; tree = T.tree it.keys.trie.now } };
 
-    ghost invariant = { λ it. IsKeywordAutomaton (keys_for it.keys.kind (T.tree it.keys.trie.now)) (T.slot_of it.keys.trie.now)
+    ghost invariant = { λ it. IsKeywordAutomaton (keys_for it.keys.kind (T.tree it.keys.trie.now)) (slot_of_path it.parts.states.items)
         it.parts.states.items it.parts.falls.items it.parts.popped.items };
 }
 

@@ -17,6 +17,7 @@ mod overlapping;
 mod owned;
 mod owned_leftmost;
 mod placed;
+mod places;
 mod preferred;
 mod scan;
 mod scanner;

@@ -4,7 +4,7 @@ ghost use Rattle.std.specs.Prelude.{◌*◌, ◌+◌, ◌-◌, ◌≡◌, ◌≤
 ghost use Rattle.std.specs.Prelude.{length, take, ⊤};
 ghost use Rattle.cedar_scan.specs.Words.{all_left, ending_behind, held_suffix, IsAutomaton};
 ghost use Rattle.cedar_scan.specs.Words.{IsBlankOf, IsCursor, item_count, overlapping, scan_code};
-ghost use Rattle.cedar_scan.specs.Words.{ScanLeft, steps_left, YieldsFirst};
+ghost use Rattle.cedar_scan.specs.Words.{slot_of_path, ScanLeft, steps_left, YieldsFirst};
 
 use crate::placed::Placed;
 use crate::scan::{Cursor, next_found};
@@ -37,14 +37,14 @@ impl<'a, T: Placed> Model for Overlapping<'a, T> {
       steps = steps_left it.states.now it.text.now it.cursor;
     } };
 
-    ghost invariant = { λ it. IsAutomaton (T.tree it.trie.now) (T.slot_of it.trie.now) it.states.now
-        × IsCursor (T.tree it.trie.now) (T.slot_of it.trie.now) it.states.now [] it.text.now it.cursor };
+    ghost invariant = { λ it. IsAutomaton (T.tree it.trie.now) (slot_of_path it.states.now) it.states.now
+        × IsCursor (T.tree it.trie.now) (slot_of_path it.states.now) it.states.now [] it.text.now it.cursor };
 }
 
 impl<'a, T: Placed> Overlapping<'a, T> {
     // Before the first byte of the text.
     pub(crate) fn new(trie: &'a T, states: &'a [State], text: &'a [u8]) -> Self
-        requires { IsAutomaton (T.tree trie.now) (T.slot_of trie.now) states.now }
+        requires { IsAutomaton (T.tree trie.now) (slot_of_path states.now) states.now }
         ensures rest { result.rest ≡ overlapping (T.tree trie.now) text.now }
         ensures steps { result.steps ≡ 2 * length text.now }
     {
@@ -68,9 +68,9 @@ impl<'a, T: Placed> Overlapping<'a, T> {
         place: usize,
         state: usize,
     ) -> Self
-        requires automaton { IsAutomaton (T.tree trie.now) (T.slot_of trie.now) states.now }
+        requires automaton { IsAutomaton (T.tree trie.now) (slot_of_path states.now) states.now }
         requires place { place ≤ length text.now }
-        requires state { state ≡ T.slot_of trie.now (held_suffix (T.tree trie.now) (take place text.now)) }
+        requires state { state ≡ slot_of_path states.now (held_suffix (T.tree trie.now) (take place text.now)) }
         ensures rest { result.rest ≡ ending_behind (T.tree trie.now) place text.now }
         ensures steps { result.steps ≤ place + 2 * (length text.now - place) }
     {

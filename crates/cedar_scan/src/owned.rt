@@ -2,7 +2,7 @@
 
 ghost use Rattle.std.specs.Prelude.{◌*◌, ◌+◌, ◌≡◌, ◌≤◌, ◌⊎◌, IfOk};
 ghost use Rattle.std.specs.List.{All, Contains};
-ghost use Rattle.cedar_scan.specs.Words.{held_suffix, IsAutomaton, IsBlankOf, IsHeight};
+ghost use Rattle.cedar_scan.specs.Words.{held_suffix, IsAutomaton, IsBlankOf, IsHeight, slot_of_path};
 ghost use Rattle.cedar_scan.specs.declared.state.PlacedNode.{PlacedNode};
 
 use crate::build::build;
@@ -20,7 +20,7 @@ use std::sync::ledger::{Blank, Ledger};
 /// Returns how many labels lead to the lowest of some nodes, or 0 if there is none.
 fn lowest_depth(nodes: &[PlacedNode]) -> usize
     ensures most { All (λ n. n.depth ≤ result) nodes.now }
-    ensures reached { (result ≡ 0) ⊎ ((n : PlacedNode) × Contains nodes.now n × (n.depth ≡ result)) }
+    ensures slot_of_path { (result ≡ 0) ⊎ ((n : PlacedNode) × Contains nodes.now n × (n.depth ≡ result)) }
 {
     let mut most = 0;
     for node in nodes {
@@ -52,9 +52,9 @@ fn state_behind<T: Placed, C: Ledger>(
     read: &[u8],
     ticks: &mut Ticks<C>,
 ) -> usize
-    requires automaton { IsAutomaton (T.tree trie.now) (T.slot_of trie.now) states.now }
+    requires automaton { IsAutomaton (T.tree trie.now) (slot_of_path states.now) states.now }
     requires height { IsHeight (T.tree trie.now) height }
-    ensures state { result ≡ T.slot_of trie.now (held_suffix (T.tree trie.now) read.now) }
+    ensures state { result ≡ slot_of_path states.now (held_suffix (T.tree trie.now) read.now) }
     ensures cost { ticks.new ≤ ticks.old + 2 * height }
 {
     let first = read.len().saturating_sub(height);
@@ -75,15 +75,15 @@ fn uncounted_state<C: Ledger, T: Placed>(
     blank: Blank,
 ) -> usize
     requires blank { IsBlankOf C.name C.parts blank }
-    requires automaton { IsAutomaton (T.tree trie.now) (T.slot_of trie.now) states.now }
+    requires automaton { IsAutomaton (T.tree trie.now) (slot_of_path states.now) states.now }
     requires height { IsHeight (T.tree trie.now) height }
-    ensures { result ≡ T.slot_of trie.now (held_suffix (T.tree trie.now) read.now) }
+    ensures { result ≡ slot_of_path states.now (held_suffix (T.tree trie.now) read.now) }
 {
     state_behind(trie, states, height, read, &mut Ticks::<C>::new(blank))
 }
 
 /// What a [`Scanner`](crate::Scanner) is, with a dictionary of its own in place of a borrowed one: for whoever keeps a scanner beside other
-/// things, or hands it on. It holds 24 bytes for each slot of the dictionary up to that of its last node, and the dictionary.
+/// things, or hands it on. It holds what that holds, and the dictionary.
 ///
 /// A contract sees the labelled tree of the dictionary.
 #[derive(Drop)]
@@ -95,7 +95,7 @@ pub struct OwnedScanner<T: Placed + Drop, A: Allocator> {
 }
 
 impl<T: Placed + Drop, A: Allocator> Model for OwnedScanner<T, A> {
-    ghost use Rattle.cedar_scan.specs.Words.{IsAutomaton, IsHeight, Tree};
+    ghost use Rattle.cedar_scan.specs.Words.{IsAutomaton, IsHeight, slot_of_path, Tree};
     ghost use Rattle.cedar_tree.specs.Stored.{coded_tree};
 
     ghost Value = { Tree };
@@ -104,7 +104,7 @@ impl<T: Placed + Drop, A: Allocator> Model for OwnedScanner<T, A> {
 
     ghost view = { λ it. T.tree it.trie };
 
-    ghost invariant = { λ it. IsAutomaton (T.tree it.trie) (T.slot_of it.trie) it.states.items × IsHeight (T.tree it.trie) it.height };
+    ghost invariant = { λ it. IsAutomaton (T.tree it.trie) (slot_of_path it.states.items) it.states.items × IsHeight (T.tree it.trie) it.height };
 }
 
 impl<T: Placed + Drop, A: Allocator + Copy> OwnedScanner<T, A> {

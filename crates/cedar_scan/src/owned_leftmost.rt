@@ -48,7 +48,7 @@ pub struct OwnedLeftmostScanner<T: Placed + Drop, A: Allocator> {
 
 impl<T: Placed + Drop, A: Allocator> Model for OwnedLeftmostScanner<T, A> {
     ghost use Rattle.cedar_scan.specs.Words.{IsHeight, IsKeywordAutomaton, keys_for, leftmost_code};
-    ghost use Rattle.cedar_scan.specs.Words.{LeftmostKeys};
+    ghost use Rattle.cedar_scan.specs.Words.{LeftmostKeys, slot_of_path};
 
     ghost Value = { LeftmostKeys };
 
@@ -56,7 +56,7 @@ impl<T: Placed + Drop, A: Allocator> Model for OwnedLeftmostScanner<T, A> {
 
     ghost view = { λ it. record { kind = it.keys.kind; tree = T.tree it.keys.trie } };
 
-    ghost invariant = { λ it. IsKeywordAutomaton (keys_for it.keys.kind (T.tree it.keys.trie)) (T.slot_of it.keys.trie)
+    ghost invariant = { λ it. IsKeywordAutomaton (keys_for it.keys.kind (T.tree it.keys.trie)) (slot_of_path it.parts.states.items)
         it.parts.states.items it.parts.falls.items it.parts.popped.items × IsHeight (T.tree it.keys.trie) it.height };
 }
 

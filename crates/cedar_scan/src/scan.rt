@@ -2,7 +2,7 @@
 
 ghost use Rattle.std.specs.Prelude.{◌+◌, ◌<◌, ◌≡◌, ◌≢◌, length, List, ℕ};
 ghost use Rattle.cedar_scan.specs.Words.{CostsNext, CostsStep, GivesNextFound, GivesPending};
-ghost use Rattle.cedar_scan.specs.Words.{GoesOnByByte, IsAutomaton, IsCursor};
+ghost use Rattle.cedar_scan.specs.Words.{GoesOnByByte, IsAutomaton, IsCursor, slot_of_path};
 
 use crate::placed::Placed;
 use crate::state::State;
@@ -38,11 +38,11 @@ pub(crate) fn read_byte<T: Placed, C: Ledger>(
     cursor: &mut Cursor,
     ticks: &mut Ticks<C>,
 )
-    requires automaton { IsAutomaton (T.tree trie.now) (T.slot_of trie.now) states.now }
-    requires cursor { (before : List ℕ) × IsCursor (T.tree trie.now) (T.slot_of trie.now) states.now before piece.now cursor.old }
+    requires automaton { IsAutomaton (T.tree trie.now) (slot_of_path states.now) states.now }
+    requires cursor { (before : List ℕ) × IsCursor (T.tree trie.now) (slot_of_path states.now) states.now before piece.now cursor.old }
     requires inside { cursor.old.place < length piece.now }
     requires none { cursor.old.pending ≡ 0 }
-    ensures goes { GoesOnByByte (T.tree trie.now) (T.slot_of trie.now) states.now piece.now cursor.old cursor.new }
+    ensures goes { GoesOnByByte (T.tree trie.now) (slot_of_path states.now) states.now piece.now cursor.old cursor.new }
     ensures cost { CostsStep states.now cursor.old cursor.new ticks.old ticks.new }
 {
     cursor.state = step(trie, states, cursor.state, piece[cursor.place], ticks);
@@ -58,10 +58,10 @@ pub(crate) fn take_found<T: Placed, C: Ledger>(
     cursor: &mut Cursor,
     ticks: &mut Ticks<C>,
 ) -> FoundKey
-    requires automaton { IsAutomaton (T.tree trie.now) (T.slot_of trie.now) states.now }
-    requires cursor { (before : List ℕ) × IsCursor (T.tree trie.now) (T.slot_of trie.now) states.now before piece.now cursor.old }
+    requires automaton { IsAutomaton (T.tree trie.now) (slot_of_path states.now) states.now }
+    requires cursor { (before : List ℕ) × IsCursor (T.tree trie.now) (slot_of_path states.now) states.now before piece.now cursor.old }
     requires some { cursor.old.pending ≢ 0 }
-    ensures gives { GivesPending (T.tree trie.now) (T.slot_of trie.now) states.now piece.now cursor.old result cursor.new }
+    ensures gives { GivesPending (T.tree trie.now) (slot_of_path states.now) states.now piece.now cursor.old result cursor.new }
     ensures place { cursor.new.place ≡ cursor.old.place }
     ensures state { cursor.new.state ≡ cursor.old.state }
     ensures cost { ticks.new ≡ ticks.old + 1 }
@@ -83,9 +83,9 @@ pub(crate) fn next_found<T: Placed, C: Ledger>(
     cursor: &mut Cursor,
     ticks: &mut Ticks<C>,
 ) -> Option<FoundKey>
-    requires automaton { IsAutomaton (T.tree trie.now) (T.slot_of trie.now) states.now }
-    requires cursor { (before : List ℕ) × IsCursor (T.tree trie.now) (T.slot_of trie.now) states.now before piece.now cursor.old }
-    ensures gives { GivesNextFound (T.tree trie.now) (T.slot_of trie.now) states.now piece.now cursor.old result cursor.new }
+    requires automaton { IsAutomaton (T.tree trie.now) (slot_of_path states.now) states.now }
+    requires cursor { (before : List ℕ) × IsCursor (T.tree trie.now) (slot_of_path states.now) states.now before piece.now cursor.old }
+    ensures gives { GivesNextFound (T.tree trie.now) (slot_of_path states.now) states.now piece.now cursor.old result cursor.new }
     ensures cost { CostsNext states.now piece.now cursor.old result cursor.new ticks.old ticks.new }
 {
     while cursor.pending == 0 {

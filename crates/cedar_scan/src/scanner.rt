@@ -10,7 +10,8 @@ use std::alloc::{AllocError, Allocator};
 use std::marker::Model;
 
 /// An automaton beside a dictionary, by which texts are searched for its keys in linear time. It borrows the dictionary, which stays as it
-/// is while the scanner lives. It holds 24 bytes for each slot of the dictionary up to that of its last node.
+/// is while the scanner lives. It has slots of its own, about one for each node and no more than the dictionary has up to that of its last
+/// node, and holds 28 bytes for each.
 ///
 /// Its links are those of Aho and Corasick ("Efficient string matching", 1975): from each node to the longest proper suffix of its path that
 /// leads to a node, and to the longest suffix that is a key.
@@ -23,7 +24,7 @@ pub struct Scanner<'a, T: Placed, A: Allocator> {
 }
 
 impl<'a, T: Placed, A: Allocator> Model for Scanner<'a, T, A> {
-    ghost use Rattle.cedar_scan.specs.Words.{IsAutomaton, Tree};
+    ghost use Rattle.cedar_scan.specs.Words.{IsAutomaton, slot_of_path, Tree};
     ghost use Rattle.cedar_tree.specs.Stored.{coded_tree};
 
     ghost Value = { Tree };
@@ -32,15 +33,15 @@ impl<'a, T: Placed, A: Allocator> Model for Scanner<'a, T, A> {
 
     ghost view = { λ it. T.tree it.trie.now };
 
-    ghost invariant = { λ it. IsAutomaton (T.tree it.trie.now) (T.slot_of it.trie.now) it.states.items };
+    ghost invariant = { λ it. IsAutomaton (T.tree it.trie.now) (slot_of_path it.states.items) it.states.items };
 }
 
 impl<'a, T: Placed, A: Allocator + Copy> Scanner<'a, T, A> {
     ghost use Rattle.std.specs.Prelude.{◌*◌, ◌≡◌, [], IfOk, length};
     ghost use Rattle.cedar_scan.specs.Words.{earliest, overlapping, StreamAt};
 
-    /// The automaton of a dictionary. It allocates its states from `alloc`, and until it returns a list of the dictionary's nodes and what
-    /// a sort of it needs.
+    /// The automaton of a dictionary. It allocates its states from `alloc`, and until it returns lists of the dictionary's nodes and of their
+    /// slots, and what sorts of the nodes need.
     ///
     /// ```
     /// cedar.build(&[("he", 1), ("she", 2), ("hers", 3)])?;

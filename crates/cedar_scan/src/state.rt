@@ -23,6 +23,8 @@ pub(crate) struct State {
     pub(crate) base: u32,
     /// The slot of the node above it.
     pub(crate) owner: u32,
+    /// Which labels its children may have: the bit of a label is that of the label's last five bits.
+    pub(crate) labels: u32,
     /// The slot of the longest proper suffix of its path that leads to a node.
     pub(crate) failure: u32,
     /// The slot of the longest suffix of its path that is a key, or 0.
@@ -37,6 +39,7 @@ pub(crate) struct State {
 pub(crate) const BLANK: State = State {
     base: 0,
     owner: NO_SLOT,
+    labels: 0,
     failure: 0,
     output: 0,
     depth: 0,

@@ -1,19 +1,31 @@
 //! A step of the automaton.
 
 ghost use Rattle.std.specs.Prelude.{◌<◌, ◌≡◌, length};
-ghost use Rattle.cedar_scan.specs.Words.{child_in, IsStepFrom, GoesToSuffix, StepsWithin};
+ghost use Rattle.cedar_scan.specs.Words.{child_in, GoesToSuffix, IsStepFrom, may_have, slot_of_path};
+ghost use Rattle.cedar_scan.specs.Words.{StepsWithin};
 
 use crate::placed::Placed;
 use crate::state::State;
 use cedar_slots::Ticks;
 use std::sync::ledger::Ledger;
 
+/// Whether a child of a node may have a label. Most labels are refused by this, and nothing else has to be read for them.
+fn may_have(state: &State, label: u8) -> bool
+    ensures { result ≡ may_have state.now label }
+{
+    (state.labels >> (u32::from(label) % 32)) % 2 == 1
+}
+
 /// Returns the slot of a node's child under a label.
 pub(crate) fn child_of(states: &[State], slot: usize, label: u8) -> Option<usize>
     requires { slot < length states.now }
     ensures { result ≡ child_in states.now slot label }
 {
-    let child = (states[slot].base ^ u32::from(label)) as usize;
+    let state = &states[slot];
+    if !may_have(state, label) {
+        return None;
+    }
+    let child = (state.base ^ u32::from(label)) as usize;
     if child < states.len() && states[child].owner as usize == slot {
         Some(child)
     } else {
@@ -30,9 +42,9 @@ pub(crate) fn step<T: Placed, C: Ledger>(
     label: u8,
     ticks: &mut Ticks<C>,
 ) -> usize
-    requires { IsStepFrom (T.tree trie.now) (T.slot_of trie.now) states.now from }
-    ensures goes { GoesToSuffix (T.tree trie.now) (T.slot_of trie.now) from label result }
-    ensures cost { StepsWithin (T.tree trie.now) (T.slot_of trie.now) from label ticks.old ticks.new }
+    requires { IsStepFrom (T.tree trie.now) (slot_of_path states.now) states.now from }
+    ensures goes { GoesToSuffix (T.tree trie.now) (slot_of_path states.now) from label result }
+    ensures cost { StepsWithin (T.tree trie.now) (slot_of_path states.now) from label ticks.old ticks.new }
 {
     let mut slot = from;
     loop {

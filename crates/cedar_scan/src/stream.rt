@@ -2,7 +2,8 @@
 
 ghost use Rattle.std.specs.Prelude.{◌+◌, ◌<◌, ◌≡◌, ◌^◌, [], length};
 ghost use Rattle.cedar_scan.specs.Words.{CostsInPiece, IsAutomaton, IsBlankOf, IsStream};
-ghost use Rattle.cedar_scan.specs.Words.{keys_ending, NextInPiece, path_in, stream_code, StreamAt};
+ghost use Rattle.cedar_scan.specs.Words.{keys_ending, NextInPiece, path_in, slot_of_path, stream_code};
+ghost use Rattle.cedar_scan.specs.Words.{StreamAt};
 
 use crate::placed::Placed;
 use crate::scan::{Cursor, next_found};
@@ -38,13 +39,13 @@ impl<'a, T: Placed> Model for Stream<'a, T> {
       place = it.place;
     } };
 
-    ghost invariant = { λ it. IsStream (T.tree it.trie.now) (T.slot_of it.trie.now) it.states.now it.state it.pending it.place };
+    ghost invariant = { λ it. IsStream (T.tree it.trie.now) (slot_of_path it.states.now) it.states.now it.state it.pending it.place };
 }
 
 impl<'a, T: Placed> Stream<'a, T> {
     // Before the first piece.
     pub(crate) fn new(trie: &'a T, states: &'a [State]) -> Self
-        requires { IsAutomaton (T.tree trie.now) (T.slot_of trie.now) states.now }
+        requires { IsAutomaton (T.tree trie.now) (slot_of_path states.now) states.now }
         ensures { result ≡ record { tree = T.tree trie.now; suffix = []; pending = []; read = 0; place = 0 } }
     {
         Stream {

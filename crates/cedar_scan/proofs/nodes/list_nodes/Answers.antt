@@ -1,4 +1,4 @@
-use Rattle.std.proofs.Common.{◌≡◌, ◌∙◌, ◌+◌, ◌-◌, ◌<◌, ◌≤◌, ◌^◌, ◌++◌, [], ◌∷◌, ap, arith, get_or, length}
+use Rattle.std.proofs.Common.{◌∙◌, ◌-◌, ◌++◌, [], ◌∷◌, ap, arith, get_or, length}
 use Rattle.cedar_scan.proofs.NodesLemmas.{all_listed, depth_small, listed_more, listed_none, next_deep, next_small}
 use Rattle.cedar_scan.proofs.nodes.list_nodes.Goals as goal
 

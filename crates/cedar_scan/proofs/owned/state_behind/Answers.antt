@@ -1,6 +1,7 @@
-use Rattle.std.proofs.Common.{◌≡◌, ℕ, ◌+◌, ◌-◌, List, ◌∷◌, ◌++◌, ◌∙◌, [], ap, arith, drop, get_or, length, suc, sym, take}
+use Rattle.std.proofs.Common.{◌≡◌, ℕ, ◌+◌, ◌-◌, List, ◌∙◌, ap, arith, drop, get_or, length, suc, sym, take}
 use Rattle.std.proofs.Math.Seq.{take-suc}
 use Rattle.std.proofs.lemmas.List.{length-drop, take_all}
+use Rattle.cedar_scan.specs.Automata.{slot_of_path}
 use Rattle.cedar_scan.specs.Suffixes.{held_suffix}
 use Rattle.cedar_scan.proofs.ResumedLemmas.{held_behind, held_last_bytes, rest_of, step_behind}
 use Rattle.cedar_scan.proofs.SuffixLemmas.{held_goes_on, held_is_node}
@@ -15,12 +16,12 @@ loop-byte-init g c = record { stands = sym c.requires.automaton.placing.root; co
 
 pub step-state-requires : goal.step-state-requires
 step-state-requires g c =
-    step_behind (g.T.Placed.tree c.args.trie.now) (g.T.Placed.slot_of c.args.trie.now) c.args.states.now c.requires.automaton (take c.loop-byte.byte-index (bytes_of c.args.read.now c.saturating_sub-first.result)) c.loop-byte.state c.loop-byte.invariant.stands
+    step_behind (g.T.Placed.tree c.args.trie.now) (slot_of_path c.args.states.now) c.args.states.now c.requires.automaton (take c.loop-byte.byte-index (bytes_of c.args.read.now c.saturating_sub-first.result)) c.loop-byte.state c.loop-byte.invariant.stands
 
 pub loop-byte-preserved : goal.loop-byte-preserved
 loop-byte-preserved g c =
     let t = g.T.Placed.tree c.args.trie.now in
-    let slots = g.T.Placed.slot_of c.args.trie.now in
+    let slots = slot_of_path c.args.states.now in
     let bytes = bytes_of c.args.read.now c.saturating_sub-first.result in
     let k = c.loop-byte.byte-index in
     let held = held_suffix t (take k bytes) in
@@ -40,7 +41,7 @@ loop-byte-preserved g c =
 all_read : goal.returns-clause-state
 all_read g c =
     let t = g.T.Placed.tree c.args.trie.now in
-    let slots = g.T.Placed.slot_of c.args.trie.now in
+    let slots = slot_of_path c.args.states.now in
     let read = c.args.read.now in
     let bytes = bytes_of c.args.read.now c.saturating_sub-first.result in
     let past = c.loop-byte-test.false in

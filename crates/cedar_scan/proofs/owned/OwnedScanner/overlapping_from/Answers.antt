@@ -1,17 +1,18 @@
-use Rattle.std.proofs.Common.{◌∙◌, ap, arith, subst, sym}
-use Rattle.cedar_scan.specs.Automata.{IsAutomaton}
+use Rattle.std.proofs.Common.{◌∙◌, List, ap, arith, subst, sym}
+use Rattle.cedar_scan.specs.Automata.{IsAutomaton, slot_of_path}
+use Rattle.cedar_scan.specs.declared.state.State.{State}
 use Rattle.cedar_scan.specs.Resumed.{ending_behind, IsHeight}
 use Rattle.cedar_scan.proofs.ResumedLemmas.{ending_start}
 use Rattle.cedar_scan.proofs.owned.OwnedScanner.overlapping_from.Goals as goal
 
 pub uncounted_state-state-requires-clause-automaton : goal.uncounted_state-state-requires-clause-automaton
-uncounted_state-state-requires-clause-automaton g c = subst (IsAutomaton (g.T.Placed.tree c.self.inside.trie) (g.T.Placed.slot_of c.self.inside.trie)) (sym c.deref.ensures.value) c.self.invariant.0
+uncounted_state-state-requires-clause-automaton g c = subst (λ (ss : List State). IsAutomaton (g.T.Placed.tree c.self.inside.trie) (slot_of_path ss) ss) (sym c.deref.ensures.value) c.self.invariant.0
 
 pub uncounted_state-state-requires-clause-height : goal.uncounted_state-state-requires-clause-height
 uncounted_state-state-requires-clause-height g c = subst (λ t. IsHeight t c.longest_len-longest.result) (sym c.self.view_is) c.longest_len-longest.ensures
 
 pub behind-requires-clause-automaton : goal.behind-requires-clause-automaton
-behind-requires-clause-automaton g c = subst (IsAutomaton (g.T.Placed.tree c.self.inside.trie) (g.T.Placed.slot_of c.self.inside.trie)) (sym c.deref-2.ensures.value) c.self.invariant.0
+behind-requires-clause-automaton g c = subst (λ (ss : List State). IsAutomaton (g.T.Placed.tree c.self.inside.trie) (slot_of_path ss) ss) (sym c.deref-2.ensures.value) c.self.invariant.0
 
 pub behind-requires-clause-place : goal.behind-requires-clause-place
 behind-requires-clause-place g c = let low = c.min-start.ensures in omega (arith, low)

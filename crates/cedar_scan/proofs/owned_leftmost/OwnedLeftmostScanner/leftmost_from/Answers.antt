@@ -1,4 +1,6 @@
-use Rattle.std.proofs.Common.{◌∙◌, ap, subst, sym}
+use Rattle.std.proofs.Common.{◌∙◌, List, ap, subst, sym}
+use Rattle.cedar_scan.specs.Automata.{slot_of_path}
+use Rattle.cedar_scan.specs.declared.state.State.{State}
 use Rattle.cedar_scan.specs.Keywords.{IsKeywordAutomaton}
 use Rattle.cedar_scan.specs.Preferred.{keys_for}
 use Rattle.cedar_scan.specs.Resumed.{leftmost_from}
@@ -9,9 +11,9 @@ use Rattle.cedar_scan.proofs.owned_leftmost.OwnedLeftmostScanner.leftmost_from.G
 pub behind-requires : goal.behind-requires
 behind-requires g c =
     let t = keys_for c.self.inside.keys.kind (g.T.Placed.tree c.self.inside.keys.trie) in
-    let slots = g.T.Placed.slot_of c.self.inside.keys.trie in
     let parts = c.self.inside.parts in
-    subst (λ states. IsKeywordAutomaton t slots states c.deref-2.result.now c.deref-3.result.now) (sym c.deref.ensures.value)
+    let slots = slot_of_path parts.states.items in
+    subst (λ (states : List State). IsKeywordAutomaton t (slot_of_path states) states c.deref-2.result.now c.deref-3.result.now) (sym c.deref.ensures.value)
     (subst (λ falls. IsKeywordAutomaton t slots parts.states.items falls c.deref-3.result.now) (sym c.deref-2.ensures.value)
     (subst (IsKeywordAutomaton t slots parts.states.items parts.falls.items) (sym c.deref-3.ensures.value) c.self.invariant.0))
 

@@ -1,6 +1,7 @@
 use Rattle.std.proofs.Common.{◌≡◌, ◌+◌, ◌-◌, ◌<◌, ◌^◌, List, ℕ, ℤ, FitsSigned, None, Option, Some, ap, arith, drop, is_some, length, refl, rules, take, w32}
 use Rattle.std.proofs.lemmas.Int.{to_z-of_z}
 use Rattle.std.proofs.lemmas.List.{length-drop, take_all}
+use Rattle.cedar_scan.specs.Automata.{slot_of_path}
 use Rattle.cedar_scan.specs.Streams.{StreamAt}
 use Rattle.cedar_scan.proofs.StreamLemmas.{costs_in_piece, ends_piece, found_short, gives_in_piece, goes_on, stream_cursor, within_piece}
 use Rattle.cedar_scan.proofs.stream.Stream.next_counted.Goals as goal
@@ -15,14 +16,14 @@ next_found-found-requires-clause-cursor g c =
     let is = c.self.invariant in
     let piece = c.args.piece.now in
     let from = c.min-from.result in
-    (is.suffix, stream_cursor (g.T.Placed.tree s.trie.now) (g.T.Placed.slot_of s.trie.now) s.states.now s.state s.pending s.place is (take (length piece - from) (drop from piece)))
+    (is.suffix, stream_cursor (g.T.Placed.tree s.trie.now) (slot_of_path s.states.now) s.states.now s.state s.pending s.place is (take (length piece - from) (drop from piece)))
 
 pub overflow_add-end : goal.overflow_add-end
 overflow_add-end g c =
     let s = c.self.inside in
     let is = c.self.invariant in
     let t = g.T.Placed.tree s.trie.now in
-    let slots = g.T.Placed.slot_of s.trie.now in
+    let slots = slot_of_path s.states.now in
     let piece = c.args.piece.now in
     let from = c.min-from.result in
     let rest = take (length piece - from) (drop from piece) in
@@ -38,7 +39,7 @@ invariant_of-self g c =
     let s = c.self.inside in
     let is = c.self.invariant in
     let t = g.T.Placed.tree s.trie.now in
-    let slots = g.T.Placed.slot_of s.trie.now in
+    let slots = slot_of_path s.states.now in
     let piece = c.args.piece.now in
     let from = c.min-from.result in
     let rest = take (length piece - from) (drop from piece) in
@@ -51,7 +52,7 @@ returns-in_default-clause-gives g c =
     let s = c.self.inside in
     let is = c.self.invariant in
     let t = g.T.Placed.tree s.trie.now in
-    let slots = g.T.Placed.slot_of s.trie.now in
+    let slots = slot_of_path s.states.now in
     let piece = c.args.piece.now in
     let from = c.min-from.result in
     let rest = take (length piece - from) (drop from piece) in
@@ -65,7 +66,7 @@ returns-in_default-clause-cost g c =
     let s = c.self.inside in
     let is = c.self.invariant in
     let t = g.T.Placed.tree s.trie.now in
-    let slots = g.T.Placed.slot_of s.trie.now in
+    let slots = slot_of_path s.states.now in
     let piece = c.args.piece.now in
     let from = c.min-from.result in
     let rest = take (length piece - from) (drop from piece) in
@@ -79,7 +80,7 @@ overflow_add-self g c =
     let s = c.self.inside in
     let is = c.self.invariant in
     let t = g.T.Placed.tree s.trie.now in
-    let slots = g.T.Placed.slot_of s.trie.now in
+    let slots = slot_of_path s.states.now in
     let piece = c.args.piece.now in
     let from = c.min-from.result in
     let rest = take (length piece - from) (drop from piece) in
@@ -94,7 +95,7 @@ overflow_sub-result g c =
     let s = c.self.inside in
     let is = c.self.invariant in
     let t = g.T.Placed.tree s.trie.now in
-    let slots = g.T.Placed.slot_of s.trie.now in
+    let slots = slot_of_path s.states.now in
     let piece = c.args.piece.now in
     let from = c.min-from.result in
     let rest = take (length piece - from) (drop from piece) in
@@ -108,7 +109,7 @@ invariant_of-self-2 g c =
     let s = c.self.inside in
     let is = c.self.invariant in
     let t = g.T.Placed.tree s.trie.now in
-    let slots = g.T.Placed.slot_of s.trie.now in
+    let slots = slot_of_path s.states.now in
     let piece = c.args.piece.now in
     let from = c.min-from.result in
     let rest = take (length piece - from) (drop from piece) in
@@ -121,7 +122,7 @@ returns-clause-gives g c =
     let s = c.self.inside in
     let is = c.self.invariant in
     let t = g.T.Placed.tree s.trie.now in
-    let slots = g.T.Placed.slot_of s.trie.now in
+    let slots = slot_of_path s.states.now in
     let piece = c.args.piece.now in
     let from = c.min-from.result in
     let rest = take (length piece - from) (drop from piece) in
@@ -136,7 +137,7 @@ returns-clause-cost g c =
     let s = c.self.inside in
     let is = c.self.invariant in
     let t = g.T.Placed.tree s.trie.now in
-    let slots = g.T.Placed.slot_of s.trie.now in
+    let slots = slot_of_path s.states.now in
     let piece = c.args.piece.now in
     let from = c.min-from.result in
     let rest = take (length piece - from) (drop from piece) in
