@@ -1,2 +1,0 @@
-mod KeyLemmas
-pub mod Limits
