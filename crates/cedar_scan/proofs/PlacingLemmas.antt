@@ -174,6 +174,7 @@ module _ (t : Tree) (slot_of other : List ℕ → ℕ) (same : (w : List ℕ) �
   same_linked states w node h = record {
     failure = ap (λ s. (state_at states s).failure) (sym (same w node)) ∙ h.failure ∙ same (failure t w) (failure_node t w);
     output = ap (λ s. (state_at states s).output) (sym (same w node)) ∙ h.output ∙ same (key_suffix t w) (key_is_node t w);
+    shorter = ap (λ s. (state_at states s).shorter) (sym (same w node)) ∙ h.shorter ∙ same (key_suffix t (failure t w)) (key_is_node t (failure t w));
   }
 
   pub same_automaton : (states : List State) → IsAutomaton t slot_of states → IsAutomaton t other states
