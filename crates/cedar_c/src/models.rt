@@ -162,7 +162,7 @@ fn best_cut(
     text: &[u8],
     costs: &Costs<'_>,
 ) -> Option<Vec<(usize, usize, Option<i32>), Global>>
-    ensures { IfSome result (λ tokens. IsBestCut (inner_dictionary cedar.now).state.tree (key_costs costs.now) (unknown_runs costs.now text.now) text.now tokens.items) }
+    ensures { IfSome result (λ cut. IsBestCut (inner_dictionary cedar.now).state.tree (key_costs costs.now) (unknown_runs costs.now text.now) text.now cut.items) }
 {
     on_layout!(cedar, cedar => best_of_either(cedar, alloc, text, costs))
 }
