@@ -119,10 +119,14 @@ static bool close_written(int file, bool is_written) {
     return is_written;
 }
 
-/* Writes to a pipe, a device or the like as it is. */
+/* Writes to a pipe, a device or the like as it is. A file that has come to the path meanwhile isn't one: it stays as it is. */
 static bool write_special(const char *path, const uint8_t *bytes, size_t length) {
-    int file = open_file(AT_FDCWD, path, O_WRONLY | O_TRUNC, 0);
-    return file >= 0 && close_written(file, write_bytes(file, bytes, length));
+    int file = open_file(AT_FDCWD, path, O_WRONLY, 0);
+    if (file < 0) return false;
+    struct stat found;
+    bool is_special = fstat(file, &found) == 0 && !S_ISREG(found.st_mode);
+    if (!is_special) errno = ENOTSUP;
+    return close_written(file, is_special && write_bytes(file, bytes, length));
 }
 
 /* Opens the folder of a path, and finds the path's last name. */

@@ -1,6 +1,8 @@
 """Files: reading one as a whole, and replacing one by another."""
 
+import errno
 import os
+import stat
 from typing import IO, Any, List, Union
 
 from . import _core
@@ -48,7 +50,7 @@ def write_all(target: Any, data: bytes) -> None:
     path = os.fspath(target)
     if _is_special(path):
         # Python's own calls, which a signal can end while they wait for a reader.
-        with open(path, "wb", buffering=0) as file:
+        with open(path, "wb", buffering=0, opener=_open_special) as file:
             _write(file, data)
     else:
         _replace(path, data)
@@ -57,6 +59,15 @@ def write_all(target: Any, data: bytes) -> None:
 def _is_special(path: str) -> bool:
     """Whether a pipe, a device or another thing that isn't a file is at a path."""
     return os.path.exists(path) and not os.path.isfile(path)
+
+
+def _open_special(path: str, _flags: int) -> int:
+    """Opens what isn't a file as it is. A file that has come to the path meanwhile isn't cut."""
+    opened = os.open(path, os.O_WRONLY)
+    if stat.S_ISREG(os.fstat(opened).st_mode):
+        os.close(opened)
+        raise OSError(errno.ENOTSUP, os.strerror(errno.ENOTSUP), path)
+    return opened
 
 
 def _write(file: Any, data: bytes) -> None:
