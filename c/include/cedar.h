@@ -651,7 +651,8 @@ uint32_t cedar_save_file(const cedar_dictionary *d, bool is_full, const char *pa
  *   set-group-ID are taken away. Access lists and other attributes aren't kept. Until it is whole, only the user who writes it may read
  *   it. If there is no old file, the mode is 0666 without the bits of the umask from the beginning.
  * - A symbolic link at the path is replaced by the file, and what it leads to stays. The mode and the owner are of what it leads to.
- * - A pipe, a device, or what else isn't a file is written to directly.
+ * - A pipe, a device, or what else isn't a file is written to directly. If a file has come to the path meanwhile, it stays as it is, and
+ *   errno is ENOTSUP.
  * - Any number of processes and threads may replace the same file at the same time. Then it is the whole file of one of them.
  *
  * Returns CEDAR_OK, or CEDAR_FILE_UNREAD if a call on a file failed; errno has the reason. Then the old file is as it was, and the new one
