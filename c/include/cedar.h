@@ -470,9 +470,9 @@ uint32_t cedar_scanner_new(const cedar_dictionary *d, uint32_t search, cedar_sca
  *   below length, more keys than room end at the next byte; never more than the longest key has bytes.
  * - The other searches: from *next on, where the text begins or the last key ended. With room 1 or more each call goes on.
  *
- * It allocates nothing, and takes two steps at most for each byte that it reads. A call for overlapping keys first reads the bytes
- * before *next again, as many as the longest key has at most, and one for leftmost keys may read as many behind the last key that it
- * returns: so let the room be some hundred elements. It finds nothing with a closed scanner.
+ * It allocates nothing, and takes two steps at most for each byte that it reads, and one for each key that it finds. A call for
+ * overlapping keys first reads the bytes before *next again, as many as the longest key has at most, and one for leftmost keys may read
+ * as many behind the last key that it returns: so let the room be some hundred elements. It finds nothing with a closed scanner.
  *
  * A text that comes in pieces: for CEDAR_OVERLAPPING keep the last bytes, one fewer than cedar_scanner_longest, in front of the next
  * piece, and begin with *next at the end of these. Then just those keys are found that end in the piece. */

@@ -448,7 +448,7 @@ public:
     /// Cuts a text into the tokens whose costs have the least sum: a key costs its value, and a byte without a key `unknown`. If
     /// `by_characters`, a byte that continues a character of UTF-8 costs nothing, so that an unknown character costs once; its bytes are
     /// still tokens of their own. Of cuts that cost the same it picks the one with the longer token where they first differ, and with a
-    /// key rather than a byte. While it runs, it allocates 32 bytes for each byte of the text, and lists of the tokens.
+    /// key rather than a byte. While it runs, it allocates 33 bytes for each byte of the text, and lists of the tokens.
     std::vector<token> cheapest(std::string_view text, std::uint32_t unknown, bool by_characters = false) const {
         const cedar_dictionary mine = inside_;
         std::vector<cedar_found> found(text.size() + 1); // so that data() isn't null
@@ -461,7 +461,7 @@ public:
 
     /// Cuts a text into the tokens whose costs have the least sum, by costs beside the values: what a key costs stands in a table at its
     /// value. What no key covers is cut into runs of characters of one kind, which have no value. Of cuts that cost the same it picks the
-    /// one with the longer token where they first differ, and with a key rather than a run. While it runs, it allocates 40 bytes for each
+    /// one with the longer token where they first differ, and with a key rather than a run. While it runs, it allocates 37 bytes for each
     /// byte of the text, and lists of the tokens.
     std::vector<token> cheapest_by(std::string_view text, const cut_costs &model) const {
         const cedar_dictionary mine = inside_;

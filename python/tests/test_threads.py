@@ -61,6 +61,34 @@ class Threads(unittest.TestCase):
 
         self.run_all(SECONDS, complete)
 
+    def test_completions_beside_changes(self):
+        """Keys come and go that no call asks for: what completes, is near or lies in a range stays as one thread alone is told it."""
+        for reduced in (False, True):
+            cedar = Cedar({b"%d" % i: i for i in range(3000)}, reduced=reduced)
+
+            def told(cedar=cedar):
+                return (
+                    cedar.best(b"1", 5),
+                    list(cedar.within(b"1000", 1)),
+                    list(cedar.within(b"29", 1, beginning=True)),
+                    list(cedar.matching(b"1?0")),
+                    list(cedar.irange(b"2", b"21", inclusive=(False, True), reverse=True)),
+                    (cedar.floor(b"19a"), cedar.ceiling(b"19a")),
+                )
+
+            expected = told()
+            self.assertEqual((expected[0][0], expected[5]), ((b"1999", 1999), ((b"1999", 1999), (b"2", 2))))
+
+            def change(chance, cedar=cedar):
+                key = b"yyyy%d" % chance.randrange(1000)
+                cedar[key] = 2_000_000_000
+                del cedar[key]
+
+            def look(chance, told=told, expected=expected):
+                assert told() == expected
+
+            self.run_all(SECONDS / 8, change, look, lambda chance, look=look: look(chance))
+
     def test_look_ups_beside_each_other(self):
         cedar = Cedar({b"%d" % i: i for i in range(50)})
 

@@ -25,7 +25,7 @@ static void draw_bytes(uint8_t *bytes, size_t length) {
     for (size_t i = 0; i < length; i++) bytes[i] = letters[next_random() % 3];
 }
 
-/* Random keys, each once, in a dictionary. */
+/* Random keys, each once, in a dictionary that held some others. */
 static void fill(cedar *d, bool reduced, bool ordered) {
     CHECK((reduced ? cedar_new_reduced : cedar_new_with)(d, ordered, 1) == CEDAR_OK);
     key_count = 0;
@@ -35,6 +35,12 @@ static void fill(cedar *d, bool reduced, bool ordered) {
         if (cedar_contains(d, key.bytes, key.length)) continue;
         CHECK(cedar_update(d, key.bytes, key.length, key.value, NULL) == CEDAR_OK);
         keys[key_count++] = key;
+    }
+    /* Some are erased again, with the nodes that only they had. */
+    for (size_t erased = next_random() % 4; erased > 0 && key_count > 0; erased--) {
+        size_t at = next_random() % key_count;
+        CHECK(cedar_erase(d, keys[at].bytes, keys[at].length));
+        keys[at] = keys[--key_count];
     }
 }
 
