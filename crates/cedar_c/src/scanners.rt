@@ -97,8 +97,8 @@ pub extern "C" fn cedar_scanner_longest(handle: &mut ScannerReading) -> usize
 /// the same call: if there is no room left for them, the call ends, and `next` is the position of that byte. Of keys that don't overlap
 /// `next` is the end of the last one if there is no room for more. A call from there goes on. At the end of the text `next` is the text's
 /// length. It returns how many elements of the buffer it wrote; what the others have then is left open. It allocates nothing. It takes at
-/// most two steps for each byte from `next` on that it reads; of all keys it reads as many bytes before `next` as the longest key has, and
-/// of keys that begin first it may read as many behind the last one.
+/// most two steps for each byte from `next` on that it reads, and one for each key; of all keys it reads as many bytes before `next` as the
+/// longest key has, and of keys that begin first it may read as many behind the last one.
 #[unsafe(no_mangle)]
 pub extern "C" fn cedar_scanner_find(
     handle: &mut ScannerReading,
@@ -113,11 +113,12 @@ pub extern "C" fn cedar_scanner_find(
     //  IsFullAt]
     ensures full { IfSome (shown_scanner_in handle.old) (λ scanner. (length text.now ≤ next.new) ⊎ IsFullAt scanner text.now next.new result (length found.new)) }
 
-    //= `next` never goes back, nor past the text's end unless it was past that before. A search returns at most the room, and 0 if the
-    //  handle is closed. [with ends, closed]
+    //= `next` never goes back, nor past the text's end unless it was past that before. A search returns at most the room. If the handle is
+    //  closed, it returns 0 and ends where the text does. [with ends, closed, through]
     ensures within { (result ≤ length found.new) × (next.old ≤ next.new) }
     ensures ends { (next.new ≤ length text.now) ⊎ (next.new ≡ next.old) }
     ensures closed { shown_scanner_in handle.old ≡ None → result ≡ 0 }
+    ensures through { shown_scanner_in handle.old ≡ None → length text.now ≤ next.new }
     ensures kept { handle.new ≡ handle.old }
 {
     if !handle.is_open() {
