@@ -191,7 +191,7 @@ def _fresh_memory(size):
 
 
 class Matches(Sequence):
-    """The keys or tokens of a text, in the order of places: for each where it begins, how many bytes it has, and its value, which is
+    """The keys or tokens of a text, in their order: for each where it begins, how many bytes it has, and its value, which is
     None for a token that isn't a key. Items are read from C's numbers when they are asked for."""
 
     _ENTRY = struct.Struct("NNi0N")
@@ -429,11 +429,11 @@ class Cedar:
         return [(keys[one.place : one.place + one.length], one.value) for one in found[: count.value]], needed.value == 0
 
     def scan(self, text):
-        """Returns all keys in a text: place after place, and at each place the shortest first."""
+        """Returns all keys in a text: position after position, and at each the shortest first."""
         return _everything(_CEDAR.cedar_scan, self._handle, text)
 
     def segment(self, text):
-        """Returns the tokens of a text: at each place the longest key that begins there, or otherwise one byte without a value."""
+        """Returns the tokens of a text: at each position the longest key that begins there, or otherwise one byte without a value."""
         return _everything(_CEDAR.cedar_segment, self._handle, text)
 
     def keywords(self, text):

@@ -150,7 +150,7 @@ def moved(loads, data, times):
 
 
 def ends(loads, data):
-    """A file that is cut at each place, or goes on, and limits at and below what a load needs."""
+    """A file that is cut at each byte, or goes on, and limits at and below what a load needs."""
     for size in range(len(data)):
         assert loads.expect(data[:size], what=f"the first {size}") in [TRUNCATED, HEADER]
     assert loads.expect(data + b"\0") == TRAILING

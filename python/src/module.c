@@ -141,10 +141,10 @@ static PyMethodDef core_methods[] = {
      "longest_prefix($self, text, /)\n--\n\nReturns the longest key that a text begins with and its value, or None.\n\n"
      ">>> Cedar({b'net': 7, b'nets': 8}).longest_prefix(b'netset')\n(b'nets', 8)\n"},
     {"scan", (PyCFunction)core_scan, METH_O,
-     "scan($self, text, /)\n--\n\nReturns all keys in a text: place after place, and at each place the shortest first.\n\n"
+     "scan($self, text, /)\n--\n\nReturns all keys in a text: position after position, and at each the shortest first.\n\n"
      ">>> [tuple(m) for m in Cedar({b'net': 7, b'nets': 8}).scan(b'a nets')]\n[(2, 3, 7), (2, 4, 8)]\n"},
     {"segment", (PyCFunction)core_segment, METH_O,
-     "segment($self, text, /)\n--\n\nReturns the tokens of a text: at each place the longest key, or otherwise one byte (with text=True one\n"
+     "segment($self, text, /)\n--\n\nReturns the tokens of a text: at each position the longest key, or otherwise one byte (with text=True one\n"
      "character), whose value is None.\n\n"
      ">>> [tuple(m) for m in Cedar({b'net': 7, b'nets': 8}).segment(b'nets!')]\n[(0, 4, 8), (4, 1, None)]\n"},
     {"keywords", (PyCFunction)core_keywords, METH_O,
