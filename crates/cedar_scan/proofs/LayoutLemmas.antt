@@ -57,11 +57,6 @@ module _ (t : Tree) (slot_of : List ℕ → ℕ) (p : IsPlacing t slot_of) where
         field_kept (λ (s : State). s.output) (with_base states x) x.slot (record (state_at (with_base states x) x.slot) { owner = x.parent; depth = x.depth; value = unwrap_or x.number (pos 0) }) y slot_still refl
         ∙ field_kept (λ (s : State). s.output) states x.parent (with_child_label (state_at states x.parent) x) y parent_in refl
 
-    shorter_kept : (y : ℕ) → (state_at (with_node states x) y).shorter ≡ (state_at states y).shorter
-    shorter_kept y =
-        field_kept (λ (s : State). s.shorter) (with_base states x) x.slot (record (state_at (with_base states x) x.slot) { owner = x.parent; depth = x.depth; value = unwrap_or x.number (pos 0) }) y slot_still refl
-        ∙ field_kept (λ (s : State). s.shorter) states x.parent (with_child_label (state_at states x.parent) x) y parent_in refl
-
     base_here : (y : ℕ) → y ≡ x.parent → (state_at (with_node states x) y).base ≡ bit_xor x.slot x.label
     base_here y e = base_kept y ∙ ap (λ (s : State). s.base) (written_here states x.parent (with_child_label (state_at states x.parent) x) y parent_in e)
 
@@ -162,7 +157,7 @@ module _ (t : Tree) (slot_of : List ℕ → ℕ) (p : IsPlacing t slot_of) where
       ];
       only = λ y less. only_kept y (laid.only y (subst (λ m. y < m) same_length less));
       root = elsewhere (λ (s : State). s.depth) 0 refl not_root ∙ laid.root;
-      links = λ y. (failure_kept y ∙ (laid.links y).0, output_kept y ∙ (laid.links y).1, shorter_kept y ∙ (laid.links y).2);
+      links = λ y. (failure_kept y ∙ (laid.links y).0, output_kept y ∙ (laid.links y).1);
     }
       where
         same_length : length (with_node states x) ≡ length states

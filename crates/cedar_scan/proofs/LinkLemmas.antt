@@ -103,14 +103,12 @@ module _ (t : Tree) (slot_of : List ℕ → ℕ) (states : List State) (n : Plac
     pub output_of_key : (v : ℤ) → n.number ≡ Some v → n.slot ≡ slot_of (key_suffix t (can.is.path ++ n.label ∷ []))
     output_of_key v some = can.is.slot ∙ ap slot_of (sym (key_of_own t can.is.path n.label v (sym can.is.number ∙ some)))
 
-    pub shorter_is : (state_at states to).output ≡ slot_of (key_suffix t (failure t (can.is.path ++ n.label ∷ [])))
-    shorter_is =
+    pub output_of_other : n.number ≡ None → (state_at states to).output ≡ slot_of (key_suffix t (can.is.path ++ n.label ∷ []))
+    output_of_other none =
         let path = failure t (can.is.path ++ n.label ∷ []) in
         ap (λ s. (state_at states s).output) failure_is
         ∙ (can.links path (failure_node t (can.is.path ++ n.label ∷ [])) (failure_shorter t can.is.path n.label)).output
-
-    output_of_other : n.number ≡ None → (state_at states to).output ≡ slot_of (key_suffix t (can.is.path ++ n.label ∷ []))
-    output_of_other none = shorter_is ∙ ap slot_of (sym (key_by_failure t can.is.path n.label (sym can.is.number ∙ none)))
+        ∙ ap slot_of (sym (key_by_failure t can.is.path n.label (sym can.is.number ∙ none)))
 
     pub output_by_some : is_some n.number ≡ true → n.slot ≡ slot_of (key_suffix t (can.is.path ++ n.label ∷ []))
     output_by_some some =
@@ -126,45 +124,43 @@ module _ (t : Tree) (slot_of : List ℕ → ℕ) (states : List State) (n : Plac
           | Some v ↦ λ _ k. absurd (true≢false k)
         ]) refl none
 
-    module _ (out short : ℕ) (output : out ≡ slot_of (key_suffix t (can.is.path ++ n.label ∷ []))) (shorter : short ≡ slot_of (key_suffix t (failure t (can.is.path ++ n.label ∷ [])))) where
-      kept_field : {X : Type 0} (f : State → X) (y : ℕ) → f (record (state_at states n.slot) { failure = to; output = out; shorter = short }) ≡ f (state_at states n.slot) → f (state_at (with_links states n.slot to out short) y) ≡ f (state_at states y)
-      kept_field f y same = field_kept f states n.slot (record (state_at states n.slot) { failure = to; output = out; shorter = short }) y own_inside same
+    module _ (out : ℕ) (output : out ≡ slot_of (key_suffix t (can.is.path ++ n.label ∷ []))) where
+      kept_field : {X : Type 0} (f : State → X) (y : ℕ) → f (record (state_at states n.slot) { failure = to; output = out }) ≡ f (state_at states n.slot) → f (state_at (with_links states n.slot to out) y) ≡ f (state_at states y)
+      kept_field f y same = field_kept f states n.slot (record (state_at states n.slot) { failure = to; output = out }) y own_inside same
 
-      same_length : length (with_links states n.slot to out short) ≡ length states
-      same_length = still_inside states n.slot (record (state_at states n.slot) { failure = to; output = out; shorter = short })
+      same_length : length (with_links states n.slot to out) ≡ length states
+      same_length = still_inside states n.slot (record (state_at states n.slot) { failure = to; output = out })
 
-      same_child : (s l : ℕ) → child_in (with_links states n.slot to out short) s l ≡ child_in states s l
+      same_child : (s l : ℕ) → child_in (with_links states n.slot to out) s l ≡ child_in states s l
       same_child s l =
-          let later = with_links states n.slot to out short in
+          let later = with_links states n.slot to out in
           let slot = bit_xor (state_at states s).base l in
           ap (λ m. cond ((bit_at m (l % 32) == 1) && (ltb (bit_xor (state_at later s).base l) (length later) && ((state_at later (bit_xor (state_at later s).base l)).owner == s))) (Some (bit_xor (state_at later s).base l)) None) (kept_field (λ (x : State). x.labels) s refl)
           ∙ ap (λ b. cond (may_have (state_at states s) l && (ltb (bit_xor b l) (length later) && ((state_at later (bit_xor b l)).owner == s))) (Some (bit_xor b l)) None) (kept_field (λ (x : State). x.base) s refl)
           ∙ ap (λ m. cond (may_have (state_at states s) l && (ltb slot m && ((state_at later slot).owner == s))) (Some slot) None) same_length
           ∙ ap (λ o. cond (may_have (state_at states s) l && (ltb slot (length states) && (o == s))) (Some slot) None) (kept_field (λ (x : State). x.owner) slot refl)
 
-      linked_here : (w : List ℕ) → w ≡ can.is.path ++ n.label ∷ [] → IsLinked t slot_of (with_links states n.slot to out short) w
+      linked_here : (w : List ℕ) → w ≡ can.is.path ++ n.label ∷ [] → IsLinked t slot_of (with_links states n.slot to out) w
       linked_here w e =
           let here : slot_of w ≡ n.slot = ap slot_of e ∙ sym can.is.slot in
-          let now = written_here states n.slot (record (state_at states n.slot) { failure = to; output = out; shorter = short }) (slot_of w) own_inside here in
+          let now = written_here states n.slot (record (state_at states n.slot) { failure = to; output = out }) (slot_of w) own_inside here in
           record {
             failure = ap (λ (s : State). s.failure) now ∙ failure_is ∙ ap (λ v. slot_of (failure t v)) (sym e);
             output = ap (λ (s : State). s.output) now ∙ output ∙ ap (λ v. slot_of (key_suffix t v)) (sym e);
-            shorter = ap (λ (s : State). s.shorter) now ∙ shorter ∙ ap (λ v. slot_of (key_suffix t (failure t v))) (sym e);
           }
 
-      linked_kept : (w : List ℕ) → is_node t w ≡ true → IsLinked t slot_of states w → IsLinked t slot_of (with_links states n.slot to out short) w
+      linked_kept : (w : List ℕ) → is_node t w ≡ true → IsLinked t slot_of states w → IsLinked t slot_of (with_links states n.slot to out) w
       linked_kept w node was = elim (eqb_tells (slot_of w) n.slot) [
         | inl here ↦ linked_here w (can.placing.one w (can.is.path ++ n.label ∷ []) node can.is.node (here.1 ∙ can.is.slot))
         | inr other ↦
-            let same = written_elsewhere states n.slot (record (state_at states n.slot) { failure = to; output = out; shorter = short }) (slot_of w) other.1 in
+            let same = written_elsewhere states n.slot (record (state_at states n.slot) { failure = to; output = out }) (slot_of w) other.1 in
             record {
               failure = ap (λ (s : State). s.failure) same ∙ was.failure;
               output = ap (λ (s : State). s.output) same ∙ was.output;
-              shorter = ap (λ (s : State). s.shorter) same ∙ was.shorter;
             }
       ]
 
-      pub links : GetsLinks t slot_of n states (with_links states n.slot to out short)
+      pub links : GetsLinks t slot_of n states (with_links states n.slot to out)
       links = record {
         goto = record {
           within = λ w node. subst (λ m. slot_of w < m) (sym same_length) (can.goto.within w node);
@@ -256,7 +252,7 @@ module _ (t : Tree) (slot_of : List ℕ → ℕ) (p : IsPlacing t slot_of) (node
   pub linked_none : (states : List State) → IsGoto t slot_of states → AreLaid t slot_of nodes (length nodes) states → AreLinkedFirst t slot_of nodes 0 states
   linked_none states goto laid = record {
     goto = goto;
-    root = record { failure = (laid.links (slot_of [])).0 ∙ sym p.root; output = (laid.links (slot_of [])).1 ∙ sym p.root; shorter = (laid.links (slot_of [])).2 ∙ sym p.root };
+    root = record { failure = (laid.links (slot_of [])).0 ∙ sym p.root; output = (laid.links (slot_of [])).1 ∙ sym p.root };
     each = λ k d less w node slot. absurd (omega (arith, less));
   }
 

@@ -1,11 +1,11 @@
 -- Slots that are chosen for the nodes of a dictionary.
-use Rattle.std.proofs.Common.{◌≡◌, inl, inr, ℕ, suc, ◌+◌, ◌^◌, ◌<◌, ◌≤◌, Bool, true, false, cond, List, [], ◌∷◌, ◌++◌, append_assoc, get_or, length, length-append, map, take, None, Some, refl, sym, ap, subst, ◌∙◌, arith}
+use Rattle.std.proofs.Common.{◌≡◌, inl, inr, ℕ, suc, ◌+◌, ◌^◌, ◌<◌, ◌≤◌, Bool, true, false, cond, List, [], ◌∷◌, ◌++◌, append_assoc, get_or, length, length-append, map, take, None, Some, is_some, refl, sym, ap, subst, ◌∙◌, arith}
 use Rattle.std.specs.Prelude.{bit_xor, unwrap_or}
 use Rattle.std.proofs.Math.Seq.{get_or-append_seam, take-suc}
 use Rattle.std.proofs.lemmas.Bool.Decides.{eqb_tells}
 use Rattle.std.proofs.lemmas.List.{append-nil, get_or-map, get_or_append_left, get_or_default, length-map, map-append, take_all}
 use Rattle.std.proofs.lemmas.List.Elements.{All-map}
-use Rattle.cedar_tree.specs.Tree.{Tree}
+use Rattle.cedar_tree.specs.Tree.{number_at, Tree}
 use Rattle.cedar_scan.specs.declared.state.PlacedNode.{PlacedNode}
 use Rattle.cedar_scan.specs.declared.state.State.{State}
 use Rattle.cedar_scan.specs.Automata.{AreNodes, child_in, GoesToSuffix, IsAutomaton, IsGoto, IsLinked, IsListedNode, IsPlacing, IsStepFrom, slot_of_path, state_at, slot_along}
@@ -18,7 +18,7 @@ use Rattle.cedar_scan.specs.declared.falls.Fall.{Fall}
 use Rattle.cedar_scan.specs.declared.falls.Popped.{Popped}
 use Rattle.cedar_scan.proofs.LinkLemmas.{failure_node}
 use Rattle.cedar_scan.proofs.ListLemmas.{same_front, same_last, snoc}
-use Rattle.cedar_scan.proofs.SuffixLemmas.{held_is_node, key_suffix_is_node, node_front, number_is_node}
+use Rattle.cedar_scan.proofs.SuffixLemmas.{held_is_node, node_front, number_is_node}
 
 -- ---- what was checked is a placing
 
@@ -140,6 +140,14 @@ one_own i old new pushed so_far =
 
 -- ---- the same slots by another function of the paths
 
+key_is_node : (t : Tree) (w : List ℕ) → is_node t (key_suffix t w) ≡ true
+key_is_node t [] = refl
+key_is_node t (b ∷ v) =
+    (elim (number_at t (b ∷ v)) as (λ o. number_at t (b ∷ v) ≡ o → is_node t (cond (is_some o) (b ∷ v) (key_suffix t v)) ≡ true) [
+      | None ↦ λ _. key_is_node t v
+      | Some x ↦ λ e. number_is_node t (b ∷ v) x e
+    ]) refl
+
 module _ (t : Tree) (slot_of other : List ℕ → ℕ) (same : (w : List ℕ) → is_node t w ≡ true → slot_of w ≡ other w) where
   pub same_placing : IsPlacing t slot_of → IsPlacing t other
   same_placing p = record {
@@ -165,8 +173,7 @@ module _ (t : Tree) (slot_of other : List ℕ → ℕ) (same : (w : List ℕ) �
   pub same_linked : (states : List State) (w : List ℕ) → is_node t w ≡ true → IsLinked t slot_of states w → IsLinked t other states w
   same_linked states w node h = record {
     failure = ap (λ s. (state_at states s).failure) (sym (same w node)) ∙ h.failure ∙ same (failure t w) (failure_node t w);
-    output = ap (λ s. (state_at states s).output) (sym (same w node)) ∙ h.output ∙ same (key_suffix t w) (key_suffix_is_node t w);
-    shorter = ap (λ s. (state_at states s).shorter) (sym (same w node)) ∙ h.shorter ∙ same (key_suffix t (failure t w)) (key_suffix_is_node t (failure t w));
+    output = ap (λ s. (state_at states s).output) (sym (same w node)) ∙ h.output ∙ same (key_suffix t w) (key_is_node t w);
   }
 
   pub same_automaton : (states : List State) → IsAutomaton t slot_of states → IsAutomaton t other states

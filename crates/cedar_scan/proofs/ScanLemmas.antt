@@ -8,7 +8,7 @@ use Rattle.cedar_scan.specs.declared.scan.Cursor.{Cursor}
 use Rattle.cedar_scan.specs.declared.scan.FoundKey.{FoundKey}
 use Rattle.cedar_scan.specs.Automata.{IsAutomaton, IsStepFrom, state_at, GoesToSuffix, StepsWithin}
 use Rattle.cedar_scan.specs.Scans.{ReadsByte, CostsStep, GivesFound, IsCursor, IsScanned, last_of, pending_key, read_of, all_left, TakesFound}
-use Rattle.cedar_scan.specs.Suffixes.{held_suffix, is_node, key_suffix, keys_ending, occurrence_ending, all_ending}
+use Rattle.cedar_scan.specs.Suffixes.{failure, held_suffix, is_node, key_suffix, keys_ending, occurrence_ending, all_ending}
 use Rattle.cedar_scan.proofs.SuffixLemmas.{held_goes_on, held_is_node, key_of_held, key_of_key, key_suffix_held, key_suffix_is_node, key_suffix_shorter, keys_of_key, keys_of_key_suffix}
 
 -- ---- the last bytes of a text
@@ -129,8 +129,22 @@ module _ (t : Tree) (slot_of : List ℕ → ℕ) (states : List State) (h : IsAu
   pending_depth : (state_at states cursor.pending).depth ≡ length (pending_key states (read_of before piece cursor) cursor.pending)
   pending_depth = ap (λ s. (state_at states s).depth) at.pending ∙ h.goto.depth (pending_key states (read_of before piece cursor) cursor.pending) at.node
 
+  failure_node : (path : List ℕ) → is_node t (failure t path) ≡ true
+  failure_node [] = refl
+  failure_node (c ∷ w) = held_is_node t w
+
+  failure_at : (state_at states cursor.pending).failure ≡ slot_of (failure t (pending_key states (read_of before piece cursor) cursor.pending))
+  failure_at =
+      let key = pending_key states (read_of before piece cursor) cursor.pending in
+      ap (λ s. (state_at states s).failure) at.pending ∙ (h.links key at.node).failure
+
+  pub failure_inside : (state_at states cursor.pending).failure < length states
+  failure_inside =
+      let key = pending_key states (read_of before piece cursor) cursor.pending in
+      subst (λ s. s < length states) (sym failure_at) (h.goto.within (failure t key) (failure_node key))
+
   module _ (offset : ℕ) (found : FoundKey) (next : Cursor) (len : found.len ≡ (state_at states cursor.pending).depth) (value : found.value ≡ (state_at states cursor.pending).value)
-      (place : next.place ≡ cursor.place) (state : next.state ≡ cursor.state) (pending : next.pending ≡ (state_at states cursor.pending).shorter) where
+      (place : next.place ≡ cursor.place) (state : next.state ≡ cursor.state) (pending : next.pending ≡ (state_at states (state_at states cursor.pending).failure).output) where
     same_read : read_of before piece next ≡ read_of before piece cursor
     same_read = ap (λ n. before ++ take n piece) place
 
@@ -146,8 +160,10 @@ module _ (t : Tree) (slot_of : List ℕ → ℕ) (states : List State) (h : IsAu
         let links = h.links (b ∷ u) node in
         let deep : found.len ≡ length (b ∷ u) = len ∙ pending_depth ∙ ap length is in
         let number : found.value ≡ v = value ∙ ap (λ s. (state_at states s).value) slot ∙ h.goto.value (b ∷ u) v held.1 (omega arith) in
+        let to : (state_at states cursor.pending).failure ≡ slot_of (held_suffix t u) = failure_at ∙ ap (λ w. slot_of (failure t w)) is in
+        let next_links = h.links (held_suffix t u) (held_is_node t u) in
         let key = key_suffix t u in
-        let next_slot : next.pending ≡ slot_of key = pending ∙ ap (λ s. (state_at states s).shorter) slot ∙ links.shorter ∙ ap slot_of (sym (key_of_held t u)) in
+        let next_slot : next.pending ≡ slot_of key = pending ∙ ap (λ s. (state_at states s).output) to ∙ next_links.output ∙ ap slot_of (sym (key_of_held t u)) in
         let next_deep : (state_at states next.pending).depth ≡ length key = ap (λ s. (state_at states s).depth) next_slot ∙ h.goto.depth key (key_suffix_is_node t u) in
         let short : length key ≤ length u = key_suffix_shorter t u in
         let few : found.len ≤ length so_far = let most = length_last_most (state_at states cursor.pending).depth so_far in let same = ap length is in omega (arith, deep, most, same) in

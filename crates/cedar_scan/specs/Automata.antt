@@ -34,11 +34,11 @@ pub record AreNodes (t : Tree) (slot_of : List ℕ → ℕ) (nodes : List Placed
 
 -- what a slot has where no node is
 abbrev pub blank : State
-blank = record { base = 0; owner = 4294967295; labels = 0; failure = 0; output = 0; shorter = 0; depth = 0; value = pos 0 }
+blank = record { base = 0; owner = 4294967295; labels = 0; failure = 0; output = 0; depth = 0; value = pos 0 }
 
 -- what a slot has, and zeros past the end
 abbrev pub state_at : List State → ℕ → State
-state_at states s = slice_index_or states s (record { base = 0; owner = 0; labels = 0; failure = 0; output = 0; shorter = 0; depth = 0; value = pos 0 })
+state_at states s = slice_index_or states s (record { base = 0; owner = 0; labels = 0; failure = 0; output = 0; depth = 0; value = pos 0 })
 
 -- whether a child of a node may have a label: one has a label with the same last five bits
 abbrev pub may_have : State → ℕ → Bool
@@ -75,8 +75,8 @@ with_node states n =
     (record (state_at (with_base states n) n.slot) { owner = n.parent; depth = n.depth; value = unwrap_or n.number (pos 0) })
 
 -- the states with a node's links
-abbrev pub with_links : List State → ℕ → ℕ → ℕ → ℕ → List State
-with_links states s to out short = slice_set states s (record (state_at states s) { failure = to; output = out; shorter = short })
+abbrev pub with_links : List State → ℕ → ℕ → ℕ → List State
+with_links states s to out = slice_set states s (record (state_at states s) { failure = to; output = out })
 
 -- a listed node has its place
 pub record IsLaid (states : List State) (n : PlacedNode) : Type 0 where
@@ -99,7 +99,7 @@ pub record AreLaid (t : Tree) (slot_of : List ℕ → ℕ) (nodes : List PlacedN
   pub each : (k : ℕ) (d : PlacedNode) → k < n → IsLaid states (slice_index_or nodes k d)
   pub only : (x : ℕ) → x < length states → ((state_at states x).owner ≡ 4294967295) ⊎ IsChildSlot t slot_of states x
   pub root : (state_at states 0).depth ≡ 0
-  pub links : (x : ℕ) → ((state_at states x).failure ≡ 0) × ((state_at states x).output ≡ 0) × ((state_at states x).shorter ≡ 0)
+  pub links : (x : ℕ) → ((state_at states x).failure ≡ 0) × ((state_at states x).output ≡ 0)
 
 -- from the slot of a node the states lead to that of each child, and to no other
 pub record IsGoto (t : Tree) (slot_of : List ℕ → ℕ) (states : List State) : Type 0 where
@@ -108,11 +108,10 @@ pub record IsGoto (t : Tree) (slot_of : List ℕ → ℕ) (states : List State) 
   pub depth : (w : List ℕ) → is_node t w ≡ true → (state_at states (slot_of w)).depth ≡ length w
   pub value : (w : List ℕ) (v : ℤ) → number_at t w ≡ Some v → (0 < length w) → (state_at states (slot_of w)).value ≡ v
 
--- a node's links: to the longest proper suffix that leads to a node, to the longest suffix that is a key, and to the longest proper one
+-- a node's links: to the longest proper suffix that leads to a node, and to the longest one that is a key
 pub record IsLinked (t : Tree) (slot_of : List ℕ → ℕ) (states : List State) (w : List ℕ) : Type 0 where
   pub failure : (state_at states (slot_of w)).failure ≡ slot_of (Rattle.cedar_scan.specs.Suffixes.failure t w)
   pub output : (state_at states (slot_of w)).output ≡ slot_of (key_suffix t w)
-  pub shorter : (state_at states (slot_of w)).shorter ≡ slot_of (key_suffix t (Rattle.cedar_scan.specs.Suffixes.failure t w))
 
 -- each node whose path has at most so many bytes has its links
 abbrev pub AreLinked : Tree → (List ℕ → ℕ) → List State → ℕ → Type 0

@@ -79,16 +79,14 @@ fn link_node<T: Placed, C: Ledger>(
     ensures { GetsLinks (T.tree trie.now) (placed_by places.now (T.slot_of trie.now)) node states.old states.new }
 {
     let failure = failure_of(trie, places, states, node, ticks);
-    let shorter = states[failure].output;
     let output = if node.number.is_some() {
         node.slot
     } else {
-        shorter
+        states[failure].output
     };
     let state = &mut states[node.slot as usize];
     state.failure = failure as u32;
     state.output = output;
-    state.shorter = shorter;
 }
 
 /// Gives each node its links: the nodes with shorter paths have theirs by then.

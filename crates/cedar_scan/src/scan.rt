@@ -68,7 +68,7 @@ pub(crate) fn take_found<T: Placed, C: Ledger>(
 {
     let found = states[cursor.pending];
     ticks.tick();
-    cursor.pending = found.shorter as usize;
+    cursor.pending = states[found.failure as usize].output as usize;
     FoundKey {
         len: found.depth as usize,
         value: found.value,

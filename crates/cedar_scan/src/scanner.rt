@@ -11,7 +11,7 @@ use std::marker::Model;
 
 /// An automaton beside a dictionary, by which texts are searched for its keys in linear time. It borrows the dictionary, which stays as it
 /// is while the scanner lives. It has slots of its own, about one for each node and no more than the dictionary has up to that of its last
-/// node, and holds 32 bytes for each.
+/// node, and holds 28 bytes for each.
 ///
 /// Its links are those of Aho and Corasick ("Efficient string matching", 1975): from each node to the longest proper suffix of its path that
 /// leads to a node, and to the longest suffix that is a key.

@@ -19,19 +19,16 @@ pub struct PlacedNode {
 /// What a scan reads of the node in a slot.
 #[derive(Clone, Copy)]
 pub(crate) struct State {
-    // These four are read at nearly each byte of a text. A state has 32 bytes, so they are seldom in two cache lines.
-    /// The slot of the node above it.
-    pub(crate) owner: u32,
-    /// The slot of the longest suffix of its path that is a key, or 0.
-    pub(crate) output: u32,
-    /// Which labels its children may have: the bit of a label is that of the label's last five bits.
-    pub(crate) labels: u32,
     /// Where the slots of its children begin: that of a child is found by its label.
     pub(crate) base: u32,
+    /// The slot of the node above it.
+    pub(crate) owner: u32,
+    /// Which labels its children may have: the bit of a label is that of the label's last five bits.
+    pub(crate) labels: u32,
     /// The slot of the longest proper suffix of its path that leads to a node.
     pub(crate) failure: u32,
-    /// The slot of the longest proper suffix of its path that is a key, or 0.
-    pub(crate) shorter: u32,
+    /// The slot of the longest suffix of its path that is a key, or 0.
+    pub(crate) output: u32,
     /// How many bytes its path has.
     pub(crate) depth: u32,
     /// Its number, if it has one.
@@ -40,12 +37,11 @@ pub(crate) struct State {
 
 /// What a slot has where no node is.
 pub(crate) const BLANK: State = State {
-    owner: NO_SLOT,
-    output: 0,
-    labels: 0,
     base: 0,
+    owner: NO_SLOT,
+    labels: 0,
     failure: 0,
-    shorter: 0,
+    output: 0,
     depth: 0,
     value: 0,
 };

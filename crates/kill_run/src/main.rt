@@ -76,15 +76,15 @@ enum Work {
 /// few ways out, which are cheap to prove.
 fn task_of(verb: &str, numbers: &[&str]) -> Result<Task, Fault> {
     match numbers {
-        [] => alone(verb),
-        [count] => counted(verb, number(count)?),
-        [first, count] => numbered(verb, number(first)?, number(count)?),
-        [first, count, size] => grouped(verb, number(first)?, number(count)?, number(size)?),
+        [] => without_numbers(verb),
+        [count] => with_count(verb, number(count)?),
+        [first, count] => with_numbers(verb, number(first)?, number(count)?),
+        [first, count, size] => with_groups(verb, number(first)?, number(count)?, number(size)?),
         _ => Err(Fault::Arguments),
     }
 }
 
-fn alone(verb: &str) -> Result<Task, Fault> {
+fn without_numbers(verb: &str) -> Result<Task, Fault> {
     match verb {
         "list" => Ok(Task::Opened(Work::List)),
         "mend" => Ok(Task::Opened(Work::Mend)),
@@ -95,7 +95,7 @@ fn alone(verb: &str) -> Result<Task, Fault> {
     }
 }
 
-fn counted(verb: &str, count: u64) -> Result<Task, Fault> {
+fn with_count(verb: &str, count: u64) -> Result<Task, Fault> {
     match verb {
         "append" => Ok(Task::Opened(Work::Append(count))),
         "rewrite" => Ok(Task::Rewrite(count)),
@@ -103,7 +103,7 @@ fn counted(verb: &str, count: u64) -> Result<Task, Fault> {
     }
 }
 
-fn numbered(verb: &str, first: u64, count: u64) -> Result<Task, Fault> {
+fn with_numbers(verb: &str, first: u64, count: u64) -> Result<Task, Fault> {
     match verb {
         "change" => Ok(Task::Opened(Work::Change { first, count })),
         "insist" => Ok(Task::Opened(Work::Insist { first, count })),
@@ -112,7 +112,7 @@ fn numbered(verb: &str, first: u64, count: u64) -> Result<Task, Fault> {
     }
 }
 
-fn grouped(verb: &str, first: u64, count: u64, size: u64) -> Result<Task, Fault> {
+fn with_groups(verb: &str, first: u64, count: u64, size: u64) -> Result<Task, Fault> {
     let few = Turns::of(Keys::Few, first, count, size);
     match verb {
         "batch" => Ok(Task::Opened(Work::Batch(few, words::OFTEN))),

@@ -1,6 +1,6 @@
 //! What is kept as words: a dictionary on a device, and the changes 0, 1 and so on that are made in it.
 
-ghost use Rattle.std.specs.Prelude.{◌≡◌, IfOk, OnOk, false};
+ghost use Rattle.std.specs.Prelude.{◌≡◌, IfOk, false};
 ghost use Rattle.cedar_store.specs.Words.{IsReady, Only};
 
 use crate::fault::Fault;
@@ -92,7 +92,7 @@ pub(crate) fn change_together<D: ReplaceDevice>(
     count: u64,
 ) -> Result<(), Fault>
     requires { IsReady D.seen D.may_leave store.old.journal.device store.old.journal.format store.old.journal.end (store.old.words.state) store.old.failed }
-    ensures { OnOk result (IsReady D.seen D.may_leave store.new.journal.device store.new.journal.format store.new.journal.end (store.new.words.state) store.new.failed) }
+    ensures { IsReady D.seen D.may_leave store.new.journal.device store.new.journal.format store.new.journal.end (store.new.words.state) store.new.failed }
 {
     let mut texts = Vec::new(alloc);
     for turn in 0..count {

@@ -1,6 +1,6 @@
 use Rattle.std.proofs.Common.{◌∙◌, ◌^◌, ◌<◌, arith, sym}
 use Rattle.cedar_scan.specs.Places.{placed_by}
-use Rattle.cedar_scan.proofs.LinkLemmas.{failure_in, failure_small, links, output_by_none, output_by_some, shorter_is}
+use Rattle.cedar_scan.proofs.LinkLemmas.{failure_in, failure_small, links, output_by_none, output_by_some}
 use Rattle.cedar_scan.proofs.build.link_node.Goals as goal
 use Rattle.cedar_scan.proofs.build.link_node.Goals.{then-is_some, else-is_some}
 
@@ -22,7 +22,7 @@ returns g c =
     let t = g.T.Placed.tree c.args.trie.now in
     let slots = placed_by c.args.places.now (g.T.Placed.slot_of c.args.trie.now) in
     let to = c.failure_of-failure.result in
-    links t slots c.args.states.now c.args.node c.requires to c.failure_of-failure.ensures c.if-is_some.output _ (elim c.if-is_some.branch [
+    links t slots c.args.states.now c.args.node c.requires to c.failure_of-failure.ensures c.if-is_some.output (elim c.if-is_some.branch [
       | then-is_some w ↦ w.output-is ∙ output_by_some t slots c.args.states.now c.args.node c.requires to c.failure_of-failure.ensures (sym c.is_some.ensures ∙ w.if-is_some.true)
       | else-is_some w ↦ w.output-is ∙ output_by_none t slots c.args.states.now c.args.node c.requires to c.failure_of-failure.ensures (sym c.is_some.ensures ∙ w.if-is_some.false)
-    ]) (shorter_is t slots c.args.states.now c.args.node c.requires to c.failure_of-failure.ensures)
+    ])
