@@ -181,7 +181,7 @@ pub(crate) fn build_parts<T: Placed, A: Allocator + Copy>(
     trie: &T,
     alloc: A,
 ) -> Result<KeywordParts<A>, AllocError>
-    ensures { IfOk result (λ parts. IsKeywordAutomaton (T.tree trie.now) (slot_of_path parts.states.items) parts.states.items parts.falls.items parts.popped.items) }
+    ensures { IfOk result (λ made. IsKeywordAutomaton (T.tree trie.now) (slot_of_path made.states.items) made.states.items made.falls.items made.popped.items) }
 {
     let placed = nodes_anew(trie, alloc)?;
     let slots = slots_of(&placed.nodes);

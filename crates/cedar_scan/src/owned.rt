@@ -2,7 +2,8 @@
 
 ghost use Rattle.std.specs.Prelude.{◌*◌, ◌+◌, ◌≡◌, ◌≤◌, ◌⊎◌, IfOk};
 ghost use Rattle.std.specs.List.{All, Contains};
-ghost use Rattle.cedar_scan.specs.Words.{held_suffix, IsAutomaton, IsBlankOf, IsHeight, slot_of_path};
+ghost use Rattle.cedar_scan.specs.Words.{held_suffix, IsAutomaton, IsBlankOf, IsHeight};
+ghost use Rattle.cedar_scan.specs.Words.{slot_of_path};
 ghost use Rattle.cedar_scan.specs.declared.state.PlacedNode.{PlacedNode};
 
 use crate::build::build;

@@ -1,8 +1,8 @@
 //! A step of the automaton.
 
 ghost use Rattle.std.specs.Prelude.{◌<◌, ◌≡◌, length};
-ghost use Rattle.cedar_scan.specs.Words.{child_in, GoesToSuffix, IsStepFrom, may_have, slot_of_path};
-ghost use Rattle.cedar_scan.specs.Words.{StepsWithin};
+ghost use Rattle.cedar_scan.specs.Words.{child_in, GoesToSuffix, IsStepFrom, may_have};
+ghost use Rattle.cedar_scan.specs.Words.{slot_of_path, StepsWithin};
 
 use crate::placed::Placed;
 use crate::state::State;

@@ -2,8 +2,8 @@
 
 ghost use Rattle.std.specs.Prelude.{◌+◌, ◌<◌, ◌≡◌, ◌^◌, [], length};
 ghost use Rattle.cedar_scan.specs.Words.{CostsInPiece, IsAutomaton, IsBlankOf, IsStream};
-ghost use Rattle.cedar_scan.specs.Words.{keys_ending, NextInPiece, path_in, slot_of_path, stream_code};
-ghost use Rattle.cedar_scan.specs.Words.{StreamAt};
+ghost use Rattle.cedar_scan.specs.Words.{keys_ending, NextInPiece, path_in, slot_of_path};
+ghost use Rattle.cedar_scan.specs.Words.{stream_code, StreamAt};
 
 use crate::placed::Placed;
 use crate::scan::{Cursor, next_found};

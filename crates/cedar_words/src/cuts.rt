@@ -291,7 +291,8 @@ fn best_cut<T: Fronts, M: CostModel, B: Allocator + Copy>(
 /// is the same in both layouts.
 ///
 /// It allocates thirteen bytes for each byte of the text and nine more, in three allocations, and frees them when it ends; the result grows
-/// as any vector does. Each position costs a prefix walk and one call of `unknown`, and each key that begins there one call of `cost`.
+/// as any vector does. Each position costs a prefix walk and one call of `unknown`, and each key that begins there one call of `cost`; where
+/// the cut has a token of more than 127 bytes, both are made once more.
 ///
 /// # Errors
 /// `AllocError` if an allocation is refused.

@@ -333,7 +333,7 @@ fn ranked_cuts<T: Fronts, M: CostModel, B: Allocator + Copy>(
 ///
 /// A sum above 2^64 - 1 counts as 2^64 - 1, for what is left from each token on.
 ///
-/// For each byte of the text, and once more, it keeps a vector of up to `most` ways of 40 bytes, which has room for one more, and frees them
+/// For each byte of the text, and once more, it keeps a vector of up to `most` ways of 32 bytes, which has room for one more, and frees them
 /// when it ends. Each result is a vector too. Each position costs a prefix walk, and each key that begins there as many steps as there are
 /// ways behind it, each of which is put among those so far.
 ///
