@@ -1,5 +1,5 @@
 -- The path to the node in a slot.
-use Rattle.std.proofs.Common.{◌≡◌, ℕ, zero, suc, ◌+◌, ◌≤◌, Bool, true, false, cond, ◌==◌, ◌&&◌, ltb, List, [], ◌∷◌, ◌++◌, length, length-append, Some, None, refl, sym, ap, ◌∙◌, arith}
+use Rattle.std.proofs.Common.{◌≡◌, ℕ, zero, suc, ◌+◌, ◌≤◌, Bool, true, false, cond, ◌==◌, ◌&&◌, ltb, List, [], ◌∷◌, ◌++◌, length, length-append, Some, None, eq-eqb, refl, sym, ap, ◌∙◌, arith}
 use Rattle.std.specs.Prelude.{bit_xor}
 use Rattle.std.proofs.lemmas.Bool.{and_parts, eqb-true, ne_eqb}
 use Rattle.cedar_tree.specs.Tree.{Tree}
@@ -22,7 +22,7 @@ none_some x e = absurd (cc)
 -- more steps than the root is away change nothing
 up_from_root : (n : ℕ) (states : List State) → path_up n states 0 ≡ []
 up_from_root zero states = refl
-up_from_root (suc n) states = refl
+up_from_root (suc n) states = ap (λ b. cond b [] (bit_xor (state_at states (state_at states 0).owner).base 0 ∷ path_up n states (state_at states 0).owner)) (eq-eqb 0 0 refl)
 
 up_one : (n : ℕ) (states : List State) (s : ℕ) → (s ≡ 0 → ⊥) → path_up (suc n) states s ≡ bit_xor (state_at states (state_at states s).owner).base s ∷ path_up n states (state_at states s).owner
 up_one n states s other = ap (λ b. cond b [] (bit_xor (state_at states (state_at states s).owner).base s ∷ path_up n states (state_at states s).owner)) (ne_eqb s 0 other)
@@ -56,8 +56,9 @@ module _ (t : Tree) (slot_of : List ℕ → ℕ) (states : List State) (p : IsPl
       ]) refl found
 
   up_is : (n : ℕ) (w : List ℕ) → length w ≤ n → is_node t w ≡ true → forwards (path_up n states (slot_of w)) ≡ w
-  up_is n [] low node = ap (λ s. forwards (path_up n states s)) p.root ∙ ap forwards (up_from_root n states)
+  up_is zero [] low node = refl
   up_is zero (b ∷ u) low node = absurd (omega (arith, low))
+  up_is (suc n) [] low node = ap (λ s. forwards (path_up (suc n) states s)) p.root ∙ ap forwards (up_from_root (suc n) states)
   up_is (suc n) (b ∷ u) low node =
       let s = snoc b u in
       let v = s.0 in

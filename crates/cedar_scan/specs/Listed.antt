@@ -9,7 +9,7 @@ no_key = record { len = 0; value = pos 0; next = 0 }
 
 -- what is listed at an index, and no key past the end
 abbrev pub listed_at : List ListedKey → ℕ → ListedKey
-listed_at keys k = slice_index_or keys k no_key
+listed_at keys k = slice_index_or keys k (record { len = 0; value = pos 0; next = 0 })
 
 -- the keys that a list links from an index on, and at most so many: for each its number, and how many bytes it has
 abbrev pub keys_along : ℕ → List ListedKey → ℕ → List (ℤ × ℕ)

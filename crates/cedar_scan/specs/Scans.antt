@@ -1,5 +1,5 @@
 -- Where a scan over a piece of a text is, and what it has still to give.
-use Rattle.std.specs.Prelude.{◌≡◌, ℕ, ◌+◌, ◌-◌, ◌*◌, ◌<◌, ◌≤◌, List, [], ◌∷◌, ◌++◌, length}
+use Rattle.std.specs.Prelude.{◌≡◌, ℕ, ◌+◌, ◌-◌, ◌*◌, ◌<◌, ◌≤◌, ℤ, List, [], ◌∷◌, ◌++◌, length}
 use Rattle.std.specs.Prelude.{drop, map, take, Option, MatchOption, is_some}
 use Rattle.std.specs.Prelude.{if◌then◌else◌}
 use Rattle.std.specs.List.{All}
@@ -27,7 +27,7 @@ pub record IsCursor (t : Tree) (slot_of : List ℕ → ℕ) (keys : List ListedK
   pub within : cursor.place ≤ length piece
   pub state : cursor.state ≡ slot_of (held_suffix t (read_of before piece cursor))
   pub pending : cursor.pending < length keys
-  pub short : All (λ found. found.1 ≤ length (held_suffix t (read_of before piece cursor))) (keys_from keys cursor.pending)
+  pub short : All (λ (found : ℤ × ℕ). found.1 ≤ length (held_suffix t (read_of before piece cursor))) (keys_from keys cursor.pending)
 
 -- the keys that a scan has still to give, where the piece begins at a position of the text
 abbrev pub all_left : Tree → List ListedKey → List ℕ → ℕ → List ℕ → Cursor → List Occurrence

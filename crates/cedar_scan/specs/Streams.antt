@@ -41,7 +41,7 @@ pub record IsStream (t : Tree) (slot_of : List ℕ → ℕ) (states : List State
   pub node : is_node t suffix ≡ true
   pub at : slot ≡ slot_of suffix
   pub pending : waiting < length keys
-  pub short : All (λ found. found.1 ≤ length suffix) (keys_from keys waiting)
+  pub short : All (λ (found : ℤ × ℕ). found.1 ≤ length suffix) (keys_from keys waiting)
   pub within : length suffix ≤ position
 
 -- no key is left in a piece: a scan has read it, and is before the next one

@@ -1,7 +1,5 @@
-use Rattle.std.proofs.Common.{◌≡◌, ◌∙◌, ◌++◌, ◌∷◌, [], ℤ, FitsSigned, List, arith, ap, length, refl, rules, subst, sym, w32}
+use Rattle.std.proofs.Common.{◌∙◌, ◌++◌, ◌∷◌, [], ℤ, FitsSigned, ap, arith, rules, w32}
 use Rattle.std.proofs.lemmas.Int.{to_z-of_z}
-use Rattle.cedar_scan.specs.Listed.{ListsKey}
-use Rattle.cedar_scan.specs.declared.state.ListedKey.{ListedKey}
 use Rattle.cedar_scan.proofs.ListedLemmas.{lists_none, lists_one}
 use Rattle.cedar_scan.proofs.build.list_key.Goals as goal
 
