@@ -183,8 +183,7 @@ module _ (t : Tree) (slot_of : List ℕ → ℕ) (states : List State) (n : Plac
         linked_here w e =
             let here : slot_of w ≡ n.slot = ap slot_of e ∙ sym can.is.slot in
             let now = written_here states n.slot (record (state_at states n.slot) { failure = to; output = out }) (slot_of w) own_inside here in
-            let output : (state_at (with_links states n.slot to out) (slot_of w)).output ≡ out = ap (λ (s : State). s.output) now in
-            (
+            let output : (state_at (with_links states n.slot to out) (slot_of w)).output ≡ out = ap (λ (s : State). s.output) now in (
               ap (λ (s : State). s.failure) now ∙ failure_is ∙ ap (λ v. slot_of (failure t v)) (sym e),
               record {
                 inside = subst (λ o. o < length more) (sym output) own.inside;
@@ -201,8 +200,7 @@ module _ (t : Tree) (slot_of : List ℕ → ℕ) (states : List State) (n : Plac
               let output : (state_at (with_links states n.slot to out) (slot_of w)).output ≡ (state_at states (slot_of w)).output = ap (λ (s : State). s.output) same in
               let low = was.1.inside in
               let longer = own.longer in
-              let fits : (state_at states (slot_of w)).output < length more = omega (arith, low, longer) in
-              (
+              let fits : (state_at states (slot_of w)).output < length more = omega (arith, low, longer) in (
                 ap (λ (s : State). s.failure) same ∙ was.0,
                 record {
                   inside = subst (λ o. o < length more) (sym output) fits;

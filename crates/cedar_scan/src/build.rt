@@ -159,10 +159,7 @@ pub(crate) struct ScanParts<A: Allocator> {
 }
 
 /// Begins the list of keys: nothing is at index 0. There is room for each key of some nodes.
-fn begin_keys<A: Allocator>(
-    nodes: &[PlacedNode],
-    alloc: A,
-) -> Result<Vec<ListedKey, A>, AllocError>
+fn begin_keys<A: Allocator>(nodes: &[PlacedNode], alloc: A) -> Result<Vec<ListedKey, A>, AllocError>
     ensures { IfOk result (λ keys. keys.items ≡ no_key ∷ []) }
 {
     let mut room: usize = 1;

@@ -127,8 +127,7 @@ impl<'a, T: Placed> Earliest<'a, T> {
         //= It takes at most the steps that were to come less those that are then, and one for the item.
         ensures cost { ticks.new + self.new.steps ≤ ticks.old + self.old.steps + (if is_some result then 1 else 0) }
     {
-        let Some((found, end)) =
-            first_end(self.trie, self.states, self.keys, self.text, ticks)
+        let Some((found, end)) = first_end(self.trie, self.states, self.keys, self.text, ticks)
         else {
             // Nothing is left.
             self.text = &self.text[..0];

@@ -110,14 +110,8 @@ impl<'a, T: Placed> Overlapping<'a, T> {
         ensures cost { ticks.new + self.new.steps ≤ ticks.old + self.old.steps + (if is_some result then 1 else 0) }
     {
         let cursor = &mut self.cursor;
-        let Some(found) = next_found(
-            self.trie,
-            self.states,
-            self.keys,
-            self.text,
-            cursor,
-            ticks,
-        ) else {
+        let Some(found) = next_found(self.trie, self.states, self.keys, self.text, cursor, ticks)
+        else {
             return None;
         };
         Some((self.cursor.place - found.len, found.len, found.value))
