@@ -12,7 +12,6 @@ module _ {D : Type 0} (seen : D → List ℕ) (may_leave : D → List ℕ → Ty
     (restarted : Only (seen old) (may_leave old)) (same : seen read ≡ seen old)
     (still : Only (seen old) (may_leave old) → Only (seen read) (may_leave read))
     (time : Elapses (moment old) (moment read) (left_since old) (left_since read) (may_leave read)) where
-
   -- a crash until then leaves the file
   pub stays_kept : LeavesOnly moment left_since old read (λ c. c ≡ seen old)
   stays_kept =
