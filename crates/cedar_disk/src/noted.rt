@@ -23,9 +23,9 @@ use crate::system::{is_file_itself, keep_owner, lock_file, read_all};
 use crate::wrote::Wrote;
 use crate::{LockFile, OpenError};
 use std::alloc::Allocator;
-use std::fs::{self, Metadata, OpenFile, OpenOptions};
+use std::fs::{self, Metadata, OpenFile, OpenOptions, Permissions};
 use std::io::{self, Read, Seek, SeekFrom, Write};
-use std::os::unix::fs::OpenOptionsExt;
+use std::os::unix::fs::{OpenOptionsExt, PermissionsExt};
 use std::rt::Files;
 
 const OPENED: u64 = 0;
@@ -49,6 +49,12 @@ const LOCKED: u64 = 8;
 const FOUND_NO_ROOM: u64 = 9;
 
 const INTERRUPTED: u64 = 10;
+
+/// What a call that sets a file's permissions takes of a mode.
+const MODE_BITS: u32 = 0o7777;
+
+/// That without set-user-ID and set-group-ID, by which a program runs as the file's owner and group.
+const MODE_BITS_OF_ANY_OWNER: u32 = 0o1777;
 
 /// No file is longer.
 const MAX_OFFSET: usize = (1 << 63) - 1;
@@ -325,15 +331,21 @@ impl<T: Read + Write + Seek + OpenFile + Drop> Noted<T> {
         self.file.metadata()
     }
 
-    /// Gives a file beside another one that one's owner, as far as the system allows it, and its permissions, if the system has any.
+    /// Gives a file beside another one that one's owner, as far as the system allows it, and its permissions, if the system has any. A file
+    /// that couldn't have both owner and group runs as neither.
     pub(crate) fn look_like<F: Files>(
         &self,
         files: &F,
         name: &str,
         other: &Metadata,
     ) -> io::Result<()> {
-        keep_owner(&self.file, files, name, other);
-        match self.file.set_permissions(other.permissions()) {
+        let is_kept = match self.file.metadata() {
+            Ok(made) => keep_owner(files, name, &made, other),
+            Err(_) => false,
+        };
+        let kept = if is_kept { MODE_BITS } else { MODE_BITS_OF_ANY_OWNER };
+        let mode = other.permissions().mode() & kept;
+        match self.file.set_permissions(Permissions::from_mode(mode)) {
             Err(error) if error.kind() == io::ErrorKind::Unsupported => Ok(()),
             answer => answer,
         }
