@@ -90,16 +90,16 @@ pub fn read_file<F: Files, A: Allocator>(
     alloc: A,
     path: &str,
 ) -> Result<Vec<u8, A>, OpenError>
-    //= What is read of a file by its path is all that was left, where that is known, in a file that was opened at this path to be read.
-    //  [by OfFileAt]
-    ensures bytes { IfOk result (λ bytes. OfFileAt F.File.remaining path.now (λ left. IfSome left (λ all. bytes.items ≡ all))) }
+    //= What is read of a file by its path is all that was left, where that is known, in a file that was opened at this path, among the
+    //  files that were given, to be read. [by OfFileAt]
+    ensures bytes { IfOk result (λ bytes. OfFileAt F F.File.remaining path.now (λ left. IfSome left (λ all. bytes.items ≡ all))) }
 {
     read_opened(open_to_read(files, path)?, alloc)
 }
 
 // Reads all of what was opened, if it is a file.
-fn read_opened<T: Read + OpenFile + Drop, A: Allocator>(
-    opened: FileToRead<T>,
+fn read_opened<F, T: Read + OpenFile + Drop, A: Allocator>(
+    opened: FileToRead<F, T>,
     alloc: A,
 ) -> Result<Vec<u8, A>, OpenError>
     ensures bytes { IfOk result (λ bytes. IfSome (T.remaining (file_to_read opened)) (λ left. bytes.items ≡ left)) }

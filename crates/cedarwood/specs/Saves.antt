@@ -10,11 +10,11 @@ use Rattle.cedarwood.specs.declared.persistence.outcome.SaveFailed.{SaveFailed}
 
 -- what a save by path did. A new file of these bytes, which the disk had, was given its name at this path, and then
 -- the name was on the disk. Or what is there isn't a file, and took exactly these bytes
-abbrev pub IsSavedAt : List ℕ → List ℕ → Saved → Type 0
+abbrev pub IsSavedAt : {F : Type 0} → List ℕ → List ℕ → Saved F → Type 0
 IsSavedAt path bytes (Placed calls) = IsPlaced path bytes (path_calls calls)
 IsSavedAt path bytes (Sent sent) = IsSentTo path bytes (sent_calls sent)
 
 -- what a save by path has left that failed, of a new file that was written whole: nothing was done at this path; or
 -- the disk had these bytes of it before a rename that failed, or before a sync of the folder that failed
-abbrev pub IsUnsavedAt : List ℕ → List ℕ → SaveFailed → Type 0
+abbrev pub IsUnsavedAt : {F : Type 0} → List ℕ → List ℕ → SaveFailed F → Type 0
 IsUnsavedAt path bytes failed = ForSome failed.calls (λ calls. IsUnplacedAt path bytes (path_calls calls))

@@ -26,7 +26,7 @@ impl<L: Layout, const SLOTS: usize, A: Allocator + Copy> Trie<L, SLOTS, A> {
         files: &F,
         path: &str,
         minor: u16,
-    ) -> Result<Saved, SaveFailed>
+    ) -> Result<Saved<F>, SaveFailed<F>>
         requires version { IsVersion minor }
         ensures saved { IfOk result (IsSavedAt path.now (table_bytes minor self.now.table)) }
         ensures unplaced { IfErr result (IsUnsavedAt path.now (table_bytes minor self.now.table)) }
@@ -47,7 +47,7 @@ impl<L: Layout, const SLOTS: usize, A: Allocator + Copy> Trie<L, SLOTS, A> {
         files: &F,
         path: &str,
         minor: u16,
-    ) -> Result<PathCalls, SaveFailed>
+    ) -> Result<PathCalls<F>, SaveFailed<F>>
         requires version { IsVersion minor }
         ensures saved { IfOk result (λ calls. IsPlaced path.now (table_bytes minor self.now.table) (path_calls calls)) }
         ensures unplaced { IfErr result (IsUnsavedAt path.now (table_bytes minor self.now.table)) }
@@ -63,7 +63,11 @@ impl<L: Layout, const SLOTS: usize, A: Allocator + Copy> Trie<L, SLOTS, A> {
     }
 
     /// Writes the dictionary to what isn't a file, and returns what that took.
-    fn send<T: Write + Drop>(&self, special: Special<T>, minor: u16) -> Result<Sent, SaveFailed>
+    fn send<F: Files>(
+        &self,
+        special: Special<F>,
+        minor: u16,
+    ) -> Result<Sent<F>, SaveFailed<F>>
         requires version { IsVersion minor }
         ensures sent { IfOk result (λ sent. told_after (sent_calls sent) ≡ special_told special ++ table_bytes minor self.now.table) }
         ensures none { IfErr result (λ failed. failed.calls ≡ None) }

@@ -18,7 +18,7 @@ pub(crate) struct Unplaced<'a, F: Files> {
 
 impl<'a, F: Files> Unplaced<'a, F> {
     /// Makes it.
-    pub(crate) fn beside(files: &'a F, path: &'a str) -> Result<Unplaced<'a, F>, SaveFailed>
+    pub(crate) fn beside(files: &'a F, path: &'a str) -> Result<Unplaced<'a, F>, SaveFailed<F>>
         ensures empty { IfOk result (λ new. new_bytes new.file ≡ []) }
         ensures path { IfOk result (λ new. new_path new.file ≡ path.now) }
         ensures none { IfErr result (λ failed. failed.calls ≡ None) }
@@ -31,7 +31,7 @@ impl<'a, F: Files> Unplaced<'a, F> {
     }
 
     /// Gives it its place.
-    pub(crate) fn put_in_place(self) -> Result<PathCalls, SaveFailed>
+    pub(crate) fn put_in_place(self) -> Result<PathCalls<F>, SaveFailed<F>>
         ensures placed { IfOk result (λ calls. IsPlaced (new_path self.entry.file) (new_bytes self.entry.file) (path_calls calls)) }
         ensures unplaced { IfErr result (IsUnsavedAt (new_path self.entry.file) (new_bytes self.entry.file)) }
         ensures calls { IfErr result (λ failed. is_some failed.calls ≡ true) }
