@@ -107,9 +107,14 @@ impl<'a, F: Files> NewFile<'a, F> {
         self.take_place()
     }
 
-    /// Removes it: for a save that failed. Nothing else is touched.
-    pub fn give_up(self) {
+    /// Removes it: for a save that failed. Nothing else is touched. Returns what was done.
+    pub fn give_up(self) -> PathCalls<F>
+        //= A new file that is given up wasn't to be given the name at the path.
+        ensures unasked { asked_after (path_calls result) ≡ false }
+    {
         self.file.remove(self.files, self.name.as_str(), self.path);
+        let NewFile { file, .. } = self;
+        file.into_calls()
     }
 
     /// Gives it the old file's owner and permissions, and waits until the disk has it.
@@ -134,13 +139,11 @@ impl<'a, F: Files> NewFile<'a, F> {
 
     /// Removes it, and returns why.
     fn remove_after(self, error: io::Error) -> NotPlaced<F>
-        ensures { path_calls result.calls ≡ new_calls self.entry }
+        ensures { asked_after (path_calls result.calls) ≡ false }
     {
-        self.file.remove(self.files, self.name.as_str(), self.path);
-        let NewFile { file, .. } = self;
         NotPlaced {
             error,
-            calls: file.into_calls(),
+            calls: self.give_up(),
         }
     }
 

@@ -1,10 +1,7 @@
 //! What a save by path did.
 
-ghost use Rattle.std.specs.Prelude.{◌≡◌, None};
-ghost use Rattle.cedarwood.specs.Saving.{FailsToWrite};
-
 use crate::CedarPersistenceError;
-use cedar_disk::{PathCalls, Sent};
+use cedar_disk::{NotBegun, PathCalls, Sent};
 
 /// What a save by path did at the path, among the files `F`.
 #[derive(Drop)]
@@ -20,18 +17,17 @@ pub enum Saved<F> {
 pub struct SaveFailed<F> {
     /// The fault: `Io`, or `AllocationFailed` with 8192.
     pub error: CedarPersistenceError,
-    /// The calls on a new file that was written whole. None if there was no such file: then nothing was done at the path, unless what is
-    /// there isn't a file and took a part.
-    pub calls: Option<PathCalls<F>>,
+    /// What was done.
+    pub done: Unsaved<F>,
 }
 
-impl<F> SaveFailed<F> {
-    /// A fault before a new file was written whole.
-    pub(crate) fn before_write(error: CedarPersistenceError) -> SaveFailed<F>
-        requires fault { FailsToWrite error }
-        ensures fault { FailsToWrite result.error }
-        ensures none { result.calls ≡ None }
-    {
-        SaveFailed { error, calls: None }
-    }
+/// What a save by path did that failed.
+#[derive(Drop)]
+pub enum Unsaved<F> {
+    /// Nothing was written.
+    NotBegun(NotBegun<F>),
+    /// A new file was written, in part or whole. These are the calls on it.
+    Made(PathCalls<F>),
+    /// What is there isn't a file. This is what it took.
+    Sent(Sent<F>),
 }

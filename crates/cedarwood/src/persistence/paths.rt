@@ -71,7 +71,7 @@ impl<L: Layout, const SLOTS: usize, A: Allocator + Copy> Trie<L, SLOTS, A> {
     /// ```
     ///
     /// # Errors
-    /// As `save_to_path`, with the calls on a new file that was whole.
+    /// As `save_to_path`, with what was done.
     pub fn save_to_path_noted<F: Files>(
         &self,
         files: &F,
@@ -79,8 +79,9 @@ impl<L: Layout, const SLOTS: usize, A: Allocator + Copy> Trie<L, SLOTS, A> {
     ) -> Result<Saved<F>, SaveFailed<F>>
         ensures saved { IfOk result (IsSavedAt path.now (table_bytes 1 self.now.table)) }
 
-        //= If it fails with the calls on a new file that is whole, nothing was done at the path; or the disk had the file's bytes before a
-        //  rename that failed, or before a sync of the folder that did. [also save_v1_0_to_path_noted; by IsUnsavedAt]
+        //= If it fails, it tells what was done: nothing was begun at the path; or a new file was made, and nothing was done at the path, or
+        //  the disk had the file's bytes before a rename that failed, or before a sync of the folder that did; or what is there isn't a
+        //  file. [also save_v1_0_to_path_noted; by IsUnsavedAt, IsUnsaved]
         ensures unplaced { IfErr result (IsUnsavedAt path.now (table_bytes 1 self.now.table)) }
         ensures err { IfErr result (λ failed. FailsToWrite failed.error) }
         ensures file { OnOk result (IsTableFile 1 SLOTS self.now.table (table_bytes 1 self.now.table)) }
