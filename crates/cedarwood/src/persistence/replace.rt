@@ -189,8 +189,8 @@ fn put_in_place<F: Files>(whole: Unplaced<'_, F>) -> Result<PathCalls<F>, SaveFa
 fn fault_of<F>(failed: &NotBegun<F>) -> CedarPersistenceError
     ensures { FailsToWrite result }
 {
-    match failed.error {
-        Some(error) => CedarPersistenceError::Io(error),
+    match &failed.error {
+        Some(error) => CedarPersistenceError::Io(*error),
         None => no_room(),
     }
 }
