@@ -55,7 +55,7 @@ impl<'a, F: Files> Unplaced<'a, F> {
     /// Returns the file, which isn't removed any more where it is dropped.
     pub fn into_new(self) -> NewFile<'a, F>
         //= A new file that was begun is handed out as it is.
-        ensures { result ≡ unplaced_new self }
+        ensures { result ≡ unplaced_new self.entry }
     {
         let Unplaced { file } = self;
         file

@@ -340,7 +340,11 @@ impl<F: Files> Noted<F> {
             Ok(made) => keep_owner(files, name, &made, other),
             Err(_) => false,
         };
-        let kept = if is_kept { MODE_BITS } else { MODE_BITS_OF_ANY_OWNER };
+        let kept = if is_kept {
+            MODE_BITS
+        } else {
+            MODE_BITS_OF_ANY_OWNER
+        };
         let mode = other.permissions().mode() & kept;
         match self.file.set_permissions(Permissions::from_mode(mode)) {
             Err(error) if error.kind() == io::ErrorKind::Unsupported => Ok(()),
