@@ -11,8 +11,9 @@ ghost use Rattle.cedarwood.specs.Words.{IsTableFile, IsUnsavedAt, IsVersion, Pas
 ghost use Rattle.cedarwood.specs.Words.{table_bytes};
 
 use crate::{CedarPersistenceError, Layout, SaveFailed, Saved, Trie, Unsaved, Watched};
-use cedar_disk::{NotBegun, NotPlaced, PathCalls, Sent, Special, Unplaced};
-use cedar_disk::{begin_beside, begin_special};
+use cedar_disk::{
+    NotBegun, NotPlaced, PathCalls, Sent, Special, Unplaced, begin_beside, begin_special,
+};
 use cedar_file::write_table;
 use std::alloc::Allocator;
 use std::io::{self, BufWriter, ErrorKind, Write};
