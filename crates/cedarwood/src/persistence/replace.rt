@@ -173,8 +173,8 @@ fn io_error(error: CedarPersistenceError) -> io::Error {
 
 /// Gives a new file that is whole its place.
 fn put_in_place<F: Files>(whole: Unplaced<'_, F>) -> Result<PathCalls<F>, SaveFailed<F>>
-    ensures placed { IfOk result (λ calls. IsPlaced (unplaced_path whole) (unplaced_bytes whole) (path_calls calls)) }
-    ensures unplaced { IfErr result (IsUnsavedAt (unplaced_path whole) (unplaced_bytes whole)) }
+    ensures placed { IfOk result (λ calls. IsPlaced (unplaced_path whole.entry) (unplaced_bytes whole.entry) (path_calls calls)) }
+    ensures unplaced { IfErr result (IsUnsavedAt (unplaced_path whole.entry) (unplaced_bytes whole.entry)) }
     ensures err { IfErr result (λ failed. FailsToWrite failed.error) }
 {
     match whole.into_new().put_in_place() {
