@@ -6,7 +6,7 @@ use Rattle.std.specs.declared.io.traits.Seek as seek
 use Rattle.cedar_disk.specs.declared.account.Account.{Account}
 use Rattle.cedar_disk.specs.Calls.{Call}
 
-module _ {T : Type 0} {r : read.Ghosts T} {w : write.Ghosts T} {s : seek.Ghosts T} where
+module _ {F G D : Type 0} {r : read.Ghosts G} {w : write.Ghosts G} {s : seek.Ghosts G} {d : read.Ghosts D} where
   -- the calls on the file of an account, the newest first
-  abbrev pub calls_of : Account T r w s → List Call
+  abbrev pub calls_of : Account F G D r w s d → List Call
   calls_of account = account.file.history.calls

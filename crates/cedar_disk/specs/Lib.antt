@@ -1,4 +1,5 @@
 pub mod Accounts
+pub mod Beginnings
 pub mod Calls
 pub mod Errors
 pub mod FileDevices

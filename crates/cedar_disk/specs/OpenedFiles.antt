@@ -8,25 +8,25 @@ use Rattle.cedar_disk.specs.Calls.{Call}
 use Rattle.cedar_disk.specs.Openings.{opened_to_read}
 
 -- how a file was found
-abbrev pub found_calls : {A : Type 0} → Found A → List Call
+abbrev pub found_calls : {F A : Type 0} → Found F A → List Call
 found_calls found = found.history.calls
 
 -- the path of a file that was found, with no link in it, as bytes
-abbrev pub found_path : {A : Type 0} → Found A → List ℕ
+abbrev pub found_path : {F A : Type 0} → Found F A → List ℕ
 found_path found = path_buf_bytes found.path
 
 -- how a folder was opened
-abbrev pub folder_calls : {T : Type 0} → Folder T → List Call
+abbrev pub folder_calls : {F G D : Type 0} → Folder F G D → List Call
 folder_calls folder = folder.history.calls
 
 -- how a file was opened to be read
-abbrev pub read_calls : {T : Type 0} → FileToRead T → List Call
+abbrev pub read_calls : {F T : Type 0} → FileToRead F T → List Call
 read_calls opened = opened.history.calls
 
 -- a file that was opened to be read
-abbrev pub file_to_read : {T : Type 0} → FileToRead T → T
+abbrev pub file_to_read : {F T : Type 0} → FileToRead F T → T
 file_to_read opened = opened.file
 
--- P holds of what was left to be read of a file that was opened at this path to be read
-abbrev pub OfFileAt : {T : Type 0} → (T → Option (List ℕ)) → List ℕ → (Option (List ℕ) → Type 0) → Type 0
-OfFileAt {T} remaining path P = (opened : FileToRead T) × (read_calls opened ≡ opened_to_read path ∷ []) × P (remaining (file_to_read opened))
+-- P holds of what was left to be read of a file that was opened among the files F, at this path, to be read
+abbrev pub OfFileAt : {T : Type 0} → (F : Type 0) → (T → Option (List ℕ)) → List ℕ → (Option (List ℕ) → Type 0) → Type 0
+OfFileAt {T} F remaining path P = (opened : FileToRead F T) × (read_calls opened ≡ opened_to_read path ∷ []) × P (remaining (file_to_read opened))

@@ -1,5 +1,5 @@
 -- Files and folders that were opened by their paths, as it was noted: each path, and which file was wanted.
-use Rattle.std.specs.Prelude.{true, ℕ, List, [], ◌∷◌}
+use Rattle.std.specs.Prelude.{false, true, ℕ, List, [], ◌∷◌}
 use Rattle.cedar_disk.specs.Calls.{Call}
 use Rattle.cedar_disk.specs.declared.opening.Wanted.{Wanted}
 use Rattle.cedar_disk.specs.declared.opening.Wanted.TheVariants.{Any, Existing, New}
@@ -33,6 +33,10 @@ opened_to_read path = opened_as 3 path
 -- the folder at this path was opened
 abbrev pub opened_folder : List ℕ → Call
 opened_folder path = opened_as 4 path
+
+-- nothing was begun at this path: an opening failed, or what was to be written there had no memory for its buffer
+abbrev pub not_begun : List ℕ → Call
+not_begun path = (11, 5, false, path)
 
 -- the path of the newest call
 abbrev pub path_of : List Call → List ℕ

@@ -9,7 +9,7 @@ use Rattle.cedar_disk.specs.Calls.{Call}
 use Rattle.cedar_disk.specs.OpenedFiles.{found_calls, found_path}
 
 -- the calls on the file that was made beside the one at a path, the newest first
-abbrev pub path_calls : PathCalls → List Call
+abbrev pub path_calls : {F : Type 0} → PathCalls F → List Call
 path_calls calls = calls.history.calls
 
 module _ {F A G D : Type 0} {r : read.Ghosts G} {w : write.Ghosts G} {s : seek.Ghosts G} {d : read.Ghosts D} where

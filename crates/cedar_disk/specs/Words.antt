@@ -1,4 +1,4 @@
--- The words that the contracts of this crate cite, from one place. `Accounts`, `FileDevices`, `NewFiles`, `NotedFiles`, `OpenedFiles`, `PathFiles` and `SpecialFiles` name structs whose ghost fields
+-- The words that the contracts of this crate cite, from one place. `Accounts`, `Beginnings`, `FileDevices`, `NewFiles`, `NotedFiles`, `OpenedFiles`, `PathFiles` and `SpecialFiles` name structs whose ghost fields
 -- cite these words: they are imported beside it.
 pub use Rattle.cedar_disk.specs.Calls.{all_within, Call, call_of, call_with, faults_in}
 pub use Rattle.cedar_disk.specs.Calls.{folder_sync_call, full_in, is_locked_after, is_named_after}
@@ -9,8 +9,9 @@ pub use Rattle.cedar_disk.specs.Errors.{TellsKind}
 pub use Rattle.cedar_disk.specs.Laws.{counts_now, only_now}
 pub use Rattle.cedar_disk.specs.Names.{compaction_path, HasNoSlash, LiesBeside, LiesIn, mark_of}
 pub use Rattle.cedar_disk.specs.Names.{new_suffix}
-pub use Rattle.cedar_disk.specs.Openings.{opened_any, opened_as, opened_existing, opened_folder}
-pub use Rattle.cedar_disk.specs.Openings.{opened_new, opened_to_read, path_of, way_of}
+pub use Rattle.cedar_disk.specs.Openings.{not_begun, opened_any, opened_as, opened_existing}
+pub use Rattle.cedar_disk.specs.Openings.{opened_folder, opened_new, opened_to_read, path_of}
+pub use Rattle.cedar_disk.specs.Openings.{way_of}
 pub use Rattle.cedar_disk.specs.Runs.{AreWritten, AreWrittenInPart, HasCauseIn, IsAnswered}
 pub use Rattle.cedar_disk.specs.Runs.{IsUnplaced, Spoils, TimePasses, TookSome, write_by_outcome}
 pub use Rattle.cedar_disk.specs.Sending.{address, IsNoFile, IsSentTo, told_after}

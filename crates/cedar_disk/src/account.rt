@@ -13,15 +13,13 @@ use crate::noted::{Noted, Place};
 use crate::writes::{put_in_place, write_all};
 use cedar_journal::DeviceError;
 use std::alloc::Allocator;
-use std::fs::OpenFile;
-use std::io::{Read, Seek, Write};
 use std::mem;
 use std::rt::Files;
 
 /// A file, and whether it is to be synced, and can be.
 #[derive(Drop)]
-pub(crate) struct Account<T: Read + Write + Seek + OpenFile + Drop> {
-    file: Noted<T>,
+pub(crate) struct Account<F: Files> {
+    file: Noted<F>,
     /// Whether something was written or cut since the last sync.
     is_dirty: bool,
     /// Whether a call has failed that may have changed something.
@@ -36,12 +34,12 @@ pub(crate) struct Account<T: Read + Write + Seek + OpenFile + Drop> {
     ghost placed: { is_beside file ≡ false },
 }
 
-impl<T: Read + Write + Seek + OpenFile + Drop> Account<T> {
+impl<F: Files> Account<F> {
     ghost use Rattle.cedar_disk.specs.Accounts.{calls_of};
     ghost use Rattle.cedar_disk.specs.PathFiles.{place_path};
 
     /// Takes a file that was locked, opened and read.
-    pub(crate) fn of_file(file: Noted<T>, _bytes: &[u8]) -> Account<T>
+    pub(crate) fn of_file(file: Noted<F>, _bytes: &[u8]) -> Account<F>
         requires noted { noted_calls file ≡ open_call _bytes.now ∷ lock_call true ∷ [] }
         requires name { is_beside file ≡ false }
         ensures calls { calls_of result ≡ open_call _bytes.now ∷ lock_call true ∷ [] }
@@ -170,7 +168,7 @@ impl<T: Read + Write + Seek + OpenFile + Drop> Account<T> {
     }
 
     /// Returns the file.
-    pub(crate) fn file(&self) -> &Noted<T> {
+    pub(crate) fn file(&self) -> &Noted<F> {
         &self.file
     }
 
@@ -178,13 +176,15 @@ impl<T: Read + Write + Seek + OpenFile + Drop> Account<T> {
     ///
     /// # Errors
     /// `Failed` if a call failed: the disk has the one or the other.
-    pub(crate) fn replace<F: Files + Drop, A: Allocator>(
+    pub(crate) fn replace<A: Allocator>(
         &mut self,
         place: &Place<F, A>,
         name: &str,
-        fresh: Noted<T>,
+        fresh: Noted<F>,
         bytes: &[u8],
     ) -> Result<(), DeviceError>
+    where
+        F: Drop,
         requires known { IsTrue (is_named_after (calls_of self.old)) }
         requires name { is_beside fresh ≡ true }
         requires names { name.now ≡ compaction_path (place_path place.now) }

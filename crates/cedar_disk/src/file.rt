@@ -30,7 +30,7 @@ use std::rt::Files;
 pub struct FileDevice<F: Files + Drop, A: Allocator> {
     place: Place<F, A>,
     held: Option<Vec<u8, A>>,
-    account: Account<F::File>,
+    account: Account<F>,
     ghost held_is: { ForSome held (λ bytes. bytes.items ≡ seen_after (calls_of account)) },
 }
 

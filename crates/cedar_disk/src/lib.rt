@@ -3,6 +3,7 @@
 #![tactic(auto)]
 
 mod account;
+mod begun;
 mod file;
 mod history;
 mod laws;
@@ -18,6 +19,7 @@ mod writes;
 mod wrote;
 
 pub(crate) use account::Account;
+pub use begun::{NotBegun, Unplaced, begin_beside, begin_special};
 pub use cedar_journal::{ReplaceDevice, ReplaceError};
 pub use file::FileDevice;
 pub use laws::whole_files_are_safe;

@@ -3,6 +3,9 @@
 //!
 //! No contract can say what the system does. So this is believed: that each function here makes the call that its clause notes. The fields
 //! are private, so that no other module notes a call, or takes one that failed for one that was made.
+//!
+//! The trait `Files` says nothing of its calls, so a type of one's own may answer a rename and make none. What is noted has the type of the
+//! files that the calls were made on. So where that is a type parameter, no calls on a type of one's own are taken for calls on it.
 
 ghost use Rattle.std.specs.Prelude.{◌≡◌, ◌≤◌, ◌<◌, ◌^◌, ◌∷◌, [], false, IfOk, IfSome};
 ghost use Rattle.std.specs.Prelude.{is_ok, length, OnErr, OnOk, true};
@@ -23,9 +26,10 @@ use crate::system::{is_file_itself, keep_owner, lock_file, read_all};
 use crate::wrote::Wrote;
 use crate::{LockFile, OpenError};
 use std::alloc::Allocator;
-use std::fs::{self, Metadata, OpenFile, OpenOptions};
-use std::io::{self, Read, Seek, SeekFrom, Write};
-use std::os::unix::fs::OpenOptionsExt;
+use std::fs::{self, Metadata, OpenFile, OpenOptions, Permissions};
+use std::io::{self, Seek, SeekFrom, Write};
+use std::marker::PhantomData;
+use std::os::unix::fs::{OpenOptionsExt, PermissionsExt};
 use std::rt::Files;
 
 const OPENED: u64 = 0;
@@ -50,6 +54,12 @@ const FOUND_NO_ROOM: u64 = 9;
 
 const INTERRUPTED: u64 = 10;
 
+/// What a call that sets a file's permissions takes of a mode.
+const MODE_BITS: u32 = 0o7777;
+
+/// That without set-user-ID and set-group-ID, by which a program runs as the file's owner and group.
+const MODE_BITS_OF_ANY_OWNER: u32 = 0o1777;
+
 /// No file is longer.
 const MAX_OFFSET: usize = (1 << 63) - 1;
 
@@ -57,15 +67,15 @@ const MAX_OFFSET: usize = (1 << 63) - 1;
 #[derive(Drop)]
 pub(crate) struct Place<F: Files + Drop, A: Allocator> {
     files: F,
-    folder: Folder<F::File>,
-    found: Found<A>,
+    folder: Folder<F>,
+    found: Found<F, A>,
     ghost home: { LiesIn (found_path found) (path_of (folder_calls folder)) },
 }
 
 /// A file, with the calls on it.
 #[derive(Drop)]
-pub(crate) struct Noted<T: Read + Write + Seek + OpenFile + Drop> {
-    file: T,
+pub(crate) struct Noted<F: Files> {
+    file: F::File,
     // Whether it is the one beside.
     is_beside: bool,
     // Under which name it was made, if it was.
@@ -73,10 +83,12 @@ pub(crate) struct Noted<T: Read + Write + Seek + OpenFile + Drop> {
     history: History,
 }
 
-/// The calls on a file that was made beside the one at a path: what was done there, each call with its result. It occupies no memory.
+/// The calls on a file that was made beside the one at a path, among the files `F`: what was done there, each call with its result. It
+/// occupies no memory.
 #[derive(Drop)]
-pub struct PathCalls {
+pub struct PathCalls<F> {
     history: History,
+    among: PhantomData<F>,
 }
 
 impl<F: Files + Drop, A: Allocator + Copy> Place<F, A> {
@@ -104,7 +116,7 @@ impl<F: Files + Drop, A: Allocator + Copy> Place<F, A> {
     ///
     /// # Errors
     /// `Locked` if another opening has it.
-    pub(crate) fn lock(&self) -> Result<Noted<F::File>, OpenError>
+    pub(crate) fn lock(&self) -> Result<Noted<F>, OpenError>
     where
         F::File: LockFile,
         ensures noted { IfOk result (λ file. noted_calls file ≡ lock_call true ∷ []) }
@@ -122,7 +134,7 @@ impl<F: Files + Drop, A: Allocator + Copy> Place<F, A> {
     }
 
     /// Removes the file that a crash in a replacement has left beside one that is locked. Whatever else has its name stays.
-    pub(crate) fn clear(&self, _held: &Noted<F::File>)
+    pub(crate) fn clear(&self, _held: &Noted<F>)
         requires held { is_locked_after (noted_calls _held.now) ≡ true }
     {
         let path = self.path();
@@ -135,11 +147,7 @@ impl<F: Files + Drop, A: Allocator + Copy> Place<F, A> {
     }
 
     /// Puts a file that was locked, and its name, on the disk, and reads it.
-    pub(crate) fn read(
-        &self,
-        held: Noted<F::File>,
-        alloc: A,
-    ) -> io::Result<(Noted<F::File>, Vec<u8, A>)>
+    pub(crate) fn read(&self, held: Noted<F>, alloc: A) -> io::Result<(Noted<F>, Vec<u8, A>)>
         requires held { noted_calls held ≡ lock_call true ∷ [] }
         requires name { is_beside held ≡ false }
         ensures noted { IfOk result (λ read. noted_calls read.0 ≡ open_call read.1.items ∷ lock_call true ∷ []) }
@@ -173,7 +181,7 @@ pub(crate) fn make_beside<F: Files>(
     name: &str,
     _path: &str,
     mode: u32,
-) -> io::Result<Noted<F::File>>
+) -> io::Result<Noted<F>>
     requires names { LiesBeside _path.now name.now }
     ensures noted { IfOk result (λ made. noted_calls made ≡ open_call [] ∷ []) }
     ensures name { IfOk result (λ made. is_beside made ≡ true) }
@@ -189,7 +197,7 @@ pub(crate) fn make_successor<F: Files>(
     name: &str,
     _path: &str,
     mode: u32,
-) -> io::Result<Noted<F::File>>
+) -> io::Result<Noted<F>>
     requires names { name.now ≡ compaction_path _path.now }
     ensures noted { IfOk result (λ made. noted_calls made ≡ open_call [] ∷ []) }
     ensures name { IfOk result (λ made. is_beside made ≡ true) }
@@ -205,7 +213,7 @@ pub(crate) fn remove_made<F: Files>(files: &F, name: &str, _path: &str)
 }
 
 // Makes a file, and notes that.
-fn make_noted<F: Files>(files: &F, name: &str, mode: u32) -> io::Result<Noted<F::File>>
+fn make_noted<F: Files>(files: &F, name: &str, mode: u32) -> io::Result<Noted<F>>
     ensures noted { IfOk result (λ made. noted_calls made ≡ open_call [] ∷ []) }
     ensures name { IfOk result (λ made. is_beside made ≡ true) }
     ensures own { IfOk result (λ made. made_as made ≡ opened_new name.now ∷ []) }
@@ -227,7 +235,7 @@ fn make_noted<F: Files>(files: &F, name: &str, mode: u32) -> io::Result<Noted<F:
     })
 }
 
-impl<T: Read + Write + Seek + OpenFile + Drop> Noted<T> {
+impl<F: Files> Noted<F> {
     ghost use Rattle.cedar_disk.specs.PathFiles.{path_calls, place_path};
 
     fn note(&mut self, kind: u64, at: usize, ok: bool, bytes: &[u8])
@@ -325,15 +333,20 @@ impl<T: Read + Write + Seek + OpenFile + Drop> Noted<T> {
         self.file.metadata()
     }
 
-    /// Gives a file beside another one that one's owner, as far as the system allows it, and its permissions, if the system has any.
-    pub(crate) fn look_like<F: Files>(
-        &self,
-        files: &F,
-        name: &str,
-        other: &Metadata,
-    ) -> io::Result<()> {
-        keep_owner(&self.file, files, name, other);
-        match self.file.set_permissions(other.permissions()) {
+    /// Gives a file beside another one that one's owner, as far as the system allows it, and its permissions, if the system has any. A file
+    /// that couldn't have both owner and group runs as neither.
+    pub(crate) fn look_like(&self, files: &F, name: &str, other: &Metadata) -> io::Result<()> {
+        let is_kept = match self.file.metadata() {
+            Ok(made) => keep_owner(files, name, &made, other),
+            Err(_) => false,
+        };
+        let kept = if is_kept {
+            MODE_BITS
+        } else {
+            MODE_BITS_OF_ANY_OWNER
+        };
+        let mode = other.permissions().mode() & kept;
+        match self.file.set_permissions(Permissions::from_mode(mode)) {
             Err(error) if error.kind() == io::ErrorKind::Unsupported => Ok(()),
             answer => answer,
         }
@@ -368,7 +381,7 @@ impl<T: Read + Write + Seek + OpenFile + Drop> Noted<T> {
     /// `WouldBlock` if another opening has it locked.
     pub(crate) fn lock(&mut self) -> io::Result<()>
     where
-        T: LockFile,
+        F::File: LockFile,
         ensures noted { noted_calls self.new ≡ lock_call (is_ok result) ∷ noted_calls self.old }
         ensures name { is_beside self.new ≡ is_beside self.old }
     {
@@ -377,13 +390,15 @@ impl<T: Read + Write + Seek + OpenFile + Drop> Noted<T> {
     }
 
     /// Gives this file, which lies beside and is locked, the name of the other one; or removes it, if that fails.
-    pub(crate) fn take_name<F: Files + Drop, A: Allocator>(
+    pub(crate) fn take_name<A: Allocator>(
         &mut self,
         place: &Place<F, A>,
         name: &str,
-        other: Noted<T>,
+        other: Noted<F>,
         bytes: &[u8],
     ) -> io::Result<()>
+    where
+        F: Drop,
         requires beside { is_beside self.old ≡ true }
         requires names { name.now ≡ compaction_path (place_path place.now) }
         requires locked { is_locked_after (noted_calls self.old) ≡ true }
@@ -405,10 +420,9 @@ impl<T: Read + Write + Seek + OpenFile + Drop> Noted<T> {
     }
 
     /// Waits until the disk has the file's name.
-    pub(crate) fn sync_name<F: Files + Drop, A: Allocator>(
-        &mut self,
-        place: &Place<F, A>,
-    ) -> io::Result<()>
+    pub(crate) fn sync_name<A: Allocator>(&mut self, place: &Place<F, A>) -> io::Result<()>
+    where
+        F: Drop,
         ensures noted { noted_calls self.new ≡ folder_sync_call (is_ok result) ∷ noted_calls self.old }
         ensures name { is_beside self.new ≡ is_beside self.old }
     {
@@ -416,12 +430,7 @@ impl<T: Read + Write + Seek + OpenFile + Drop> Noted<T> {
     }
 
     /// Gives this file, which was made beside the one at a path, that one's name.
-    pub(crate) fn take_path<F: Files>(
-        &mut self,
-        files: &F,
-        name: &str,
-        path: &str,
-    ) -> io::Result<()>
+    pub(crate) fn take_path(&mut self, files: &F, name: &str, path: &str) -> io::Result<()>
         requires beside { is_beside self.old ≡ true }
         requires names { LiesBeside path.now name.now }
         requires own { made_as self.old ≡ opened_new name.now ∷ [] }
@@ -437,11 +446,7 @@ impl<T: Read + Write + Seek + OpenFile + Drop> Noted<T> {
     }
 
     /// Waits until the disk has the names of the folder of the path whose name this file has just taken.
-    pub(crate) fn sync_folder<D: OpenFile + Drop>(
-        &mut self,
-        folder: &Folder<D>,
-        _path: &str,
-    ) -> io::Result<()>
+    pub(crate) fn sync_folder(&mut self, folder: &Folder<F>, _path: &str) -> io::Result<()>
         requires taken { HasJustTaken _path.now (noted_calls self.old) }
         requires home { LiesIn _path.now (path_of (folder_calls folder.now)) }
         ensures noted { noted_calls self.new ≡ folder_sync_call (is_ok result) ∷ noted_calls self.old }
@@ -451,7 +456,7 @@ impl<T: Read + Write + Seek + OpenFile + Drop> Noted<T> {
     }
 
     // Waits until the disk has the names of a folder.
-    fn sync_names<D: OpenFile + Drop>(&mut self, folder: &Folder<D>) -> io::Result<()>
+    fn sync_names(&mut self, folder: &Folder<F>) -> io::Result<()>
         ensures noted { noted_calls self.new ≡ folder_sync_call (is_ok result) ∷ noted_calls self.old }
         ensures name { is_beside self.new ≡ is_beside self.old }
     {
@@ -460,7 +465,7 @@ impl<T: Read + Write + Seek + OpenFile + Drop> Noted<T> {
     }
 
     /// Removes the file, which was made beside the one at a path.
-    pub(crate) fn remove<F: Files>(&self, files: &F, name: &str, _path: &str)
+    pub(crate) fn remove(&self, files: &F, name: &str, _path: &str)
         requires beside { is_beside self.now ≡ true }
         requires names { LiesBeside _path.now name.now }
         requires own { made_as self.now ≡ opened_new name.now ∷ [] }
@@ -469,11 +474,14 @@ impl<T: Read + Write + Seek + OpenFile + Drop> Noted<T> {
     }
 
     /// Returns what was done.
-    pub(crate) fn into_calls(self) -> PathCalls
+    pub(crate) fn into_calls(self) -> PathCalls<F>
         ensures { path_calls result ≡ noted_calls self }
     {
         let Noted { history, .. } = self;
-        PathCalls { history }
+        PathCalls {
+            history,
+            among: PhantomData,
+        }
     }
 }
 

@@ -6,27 +6,29 @@ ghost use Rattle.cedar_disk.specs.Words.{address, IsNoFile, told_after};
 use crate::history::History;
 use std::fs::Metadata;
 use std::io::{self, ErrorKind};
+use std::marker::PhantomData;
 
 const FOUND: u64 = 9;
 
 const SENT: u64 = 10;
 
-/// What was written to something that isn't a file.
+/// What was written to something that is among the files `F` and isn't a file.
 #[derive(Drop)]
-pub struct Sent {
+pub struct Sent<F> {
     found: Metadata,
     history: History,
+    among: PhantomData<F>,
     ghost special: { IsNoFile found },
 }
 
-impl Sent {
+impl<F> Sent<F> {
     ghost use Rattle.cedar_disk.specs.SpecialFiles.{sent_calls};
 
     /// Something at a path, once it is open and the system has said what it is. Nothing was written to it.
     ///
     /// # Errors
     /// `Unsupported` if it is a file.
-    pub(crate) fn at(path: &str, found: Metadata) -> io::Result<Sent>
+    pub(crate) fn at(path: &str, found: Metadata) -> io::Result<Sent<F>>
         ensures { IfOk result (λ sent. told_after (sent_calls sent) ≡ address path.now) }
     {
         if found.is_file() {
@@ -34,7 +36,11 @@ impl Sent {
         }
         let mut history = History::new();
         history.note(&[FOUND, 0, 1], path.as_bytes());
-        Ok(Sent { found, history })
+        Ok(Sent {
+            found,
+            history,
+            among: PhantomData,
+        })
     }
 
     /// Notes bytes that were taken.

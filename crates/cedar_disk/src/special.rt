@@ -14,9 +14,9 @@ use std::rt::Files;
 
 /// What is at a path and isn't a file, open to be written to. It is a writer, which notes what it takes.
 #[derive(Drop)]
-pub struct Special<T: Write + Drop> {
-    file: T,
-    sent: Sent,
+pub struct Special<F: Files> {
+    file: F::File,
+    sent: Sent<F>,
 }
 
 /// Opens what is at `path` to be written to, unless it is a file: then nothing is opened. It is neither made nor cut. None if a file is
@@ -24,7 +24,7 @@ pub struct Special<T: Write + Drop> {
 ///
 /// # Errors
 /// That of opening it. `Unsupported` if a file has come to be there meanwhile.
-pub fn special_at<F: Files>(files: &F, path: &str) -> io::Result<Option<Special<F::File>>>
+pub fn special_at<F: Files>(files: &F, path: &str) -> io::Result<Option<Special<F>>>
     //= What is opened at a path and isn't a file has taken no byte yet.
     ensures { IfOk result (λ found. ForSome found (λ special. special_told special ≡ address path.now)) }
 {
@@ -35,7 +35,7 @@ pub fn special_at<F: Files>(files: &F, path: &str) -> io::Result<Option<Special<
 }
 
 /// Opens what isn't a file.
-fn open_special<F: Files>(files: &F, path: &str) -> io::Result<Special<F::File>>
+fn open_special<F: Files>(files: &F, path: &str) -> io::Result<Special<F>>
     ensures { IfOk result (λ special. special_told special ≡ address path.now) }
 {
     let file = OpenOptions::new().write(true).open(files, path)?;
@@ -44,9 +44,9 @@ fn open_special<F: Files>(files: &F, path: &str) -> io::Result<Special<F::File>>
     Ok(Special { file, sent })
 }
 
-impl<T: Write + Drop> Special<T> {
+impl<F: Files> Special<F> {
     /// Closes it, and returns what was written to it.
-    pub fn into_sent(self) -> Sent
+    pub fn into_sent(self) -> Sent<F>
         //= Once it is closed, exactly what was written to it is known.
         ensures { told_after (sent_calls result) ≡ special_told self }
     {
@@ -55,7 +55,7 @@ impl<T: Write + Drop> Special<T> {
     }
 }
 
-impl<T: Write + Drop> Write for Special<T> {
+impl<F: Files> Write for Special<F> {
     //= What was written to something that isn't a file is known: where it is, and behind that exactly the bytes of the writes that succeeded.
     ghost contents = { λ special. Some (special_told special) };
 

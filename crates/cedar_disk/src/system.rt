@@ -90,16 +90,16 @@ pub fn read_file<F: Files, A: Allocator>(
     alloc: A,
     path: &str,
 ) -> Result<Vec<u8, A>, OpenError>
-    //= What is read of a file by its path is all that was left, where that is known, in a file that was opened at this path to be read.
-    //  [by OfFileAt]
-    ensures bytes { IfOk result (λ bytes. OfFileAt F.File.remaining path.now (λ left. IfSome left (λ all. bytes.items ≡ all))) }
+    //= What is read of a file by its path is all that was left, where that is known, in a file that was opened at this path, among the
+    //  files that were given, to be read. [by OfFileAt]
+    ensures bytes { IfOk result (λ bytes. OfFileAt F F.File.remaining path.now (λ left. IfSome left (λ all. bytes.items ≡ all))) }
 {
     read_opened(open_to_read(files, path)?, alloc)
 }
 
 // Reads all of what was opened, if it is a file.
-fn read_opened<T: Read + OpenFile + Drop, A: Allocator>(
-    opened: FileToRead<T>,
+fn read_opened<F, T: Read + OpenFile + Drop, A: Allocator>(
+    opened: FileToRead<F, T>,
     alloc: A,
 ) -> Result<Vec<u8, A>, OpenError>
     ensures bytes { IfOk result (λ bytes. IfSome (T.remaining (file_to_read opened)) (λ left. bytes.items ≡ left)) }
@@ -140,21 +140,26 @@ fn is_nothing(kind: io::ErrorKind) -> bool {
     kind == io::ErrorKind::NotFound || kind == io::ErrorKind::FilesystemLoop
 }
 
-/// Gives a file the owner and group of another one, or else the group alone, as far as the system allows that. This goes by the file's
-/// name, since `Files` has no such call on an open file: so only while the name leads to the file.
-pub(crate) fn keep_owner<T: OpenFile, F: Files>(file: &T, files: &F, name: &str, like: &Metadata) {
-    let Ok(made) = file.metadata() else {
-        return;
-    };
+/// Gives the file of these looks the owner and group of another one, or else the group alone, as far as the system allows that. Returns
+/// whether it has both. This goes by the file's name, since `Files` has no such call on an open file: so only while the name leads to the
+/// file.
+pub(crate) fn keep_owner<F: Files>(
+    files: &F,
+    name: &str,
+    made: &Metadata,
+    like: &Metadata,
+) -> bool {
     if made.uid() == like.uid() && made.gid() == like.gid() {
-        return;
+        return true;
     }
-    if !leads_to(files, name, &made) {
-        return;
+    if !leads_to(files, name, made) {
+        return false;
     }
-    if lchown(files, name, Some(like.uid()), Some(like.gid())).is_err() {
-        let _ = lchown(files, name, None, Some(like.gid()));
+    if lchown(files, name, Some(like.uid()), Some(like.gid())).is_ok() {
+        return true;
     }
+    let _ = lchown(files, name, None, Some(like.gid()));
+    false
 }
 
 /// Whether a file is at a path, and no link to one.

@@ -32,10 +32,10 @@ const NEW_MODE: u32 = 0o666;
 pub struct NewFile<'a, F: Files> {
     files: &'a F,
     path: &'a str,
-    folder: Folder<F::File>,
+    folder: Folder<F>,
     name: ArrayString<PATH_LEN>,
     former: Option<Metadata>,
-    file: Noted<F::File>,
+    file: Noted<F>,
     len: usize,
     has_failed: bool,
     ghost at_end: { len ≡ length (seen_after (noted_calls file)) },
@@ -47,13 +47,13 @@ pub struct NewFile<'a, F: Files> {
     ghost home: { LiesIn path.now (path_of (folder_calls folder)) },
 }
 
-/// Why a file wasn't given its place.
+/// Why a file wasn't given its place among the files `F`.
 #[derive(Drop)]
-pub struct NotPlaced {
+pub struct NotPlaced<F> {
     /// The system's error.
     pub error: io::Error,
     /// What was done.
-    pub calls: PathCalls,
+    pub calls: PathCalls<F>,
 }
 
 impl<'a, F: Files> NewFile<'a, F> {
@@ -93,7 +93,7 @@ impl<'a, F: Files> NewFile<'a, F> {
     /// # Errors
     /// That of the call that failed. If the file doesn't have the name, what was at the path is there still, and the new file is removed. If
     /// only the folder wasn't synced, the new file is at the path, and a crash may bring back what was there.
-    pub fn put_in_place(mut self) -> Result<PathCalls, NotPlaced>
+    pub fn put_in_place(mut self) -> Result<PathCalls<F>, NotPlaced<F>>
         //= A new file that was given its place has the bytes that were written to it, and the disk had them, before it was renamed to the path;
         //  then the folder was synced.
         ensures placed { IfOk result (λ calls. IsPlaced (new_path self.entry) (new_bytes self.entry) (path_calls calls)) }
@@ -107,9 +107,14 @@ impl<'a, F: Files> NewFile<'a, F> {
         self.take_place()
     }
 
-    /// Removes it: for a save that failed. Nothing else is touched.
-    pub fn give_up(self) {
+    /// Removes it: for a save that failed. Nothing else is touched. Returns what was done.
+    pub fn give_up(self) -> PathCalls<F>
+        //= A new file that is given up wasn't to be given the name at the path.
+        ensures unasked { asked_after (path_calls result) ≡ false }
+    {
         self.file.remove(self.files, self.name.as_str(), self.path);
+        let NewFile { file, .. } = self;
+        file.into_calls()
     }
 
     /// Gives it the old file's owner and permissions, and waits until the disk has it.
@@ -133,19 +138,17 @@ impl<'a, F: Files> NewFile<'a, F> {
     }
 
     /// Removes it, and returns why.
-    fn remove_after(self, error: io::Error) -> NotPlaced
-        ensures { path_calls result.calls ≡ new_calls self.entry }
+    fn remove_after(self, error: io::Error) -> NotPlaced<F>
+        ensures { asked_after (path_calls result.calls) ≡ false }
     {
-        self.file.remove(self.files, self.name.as_str(), self.path);
-        let NewFile { file, .. } = self;
         NotPlaced {
             error,
-            calls: file.into_calls(),
+            calls: self.give_up(),
         }
     }
 
     /// Renames it to the path, and puts that on the disk.
-    fn take_place(self) -> Result<PathCalls, NotPlaced>
+    fn take_place(self) -> Result<PathCalls<F>, NotPlaced<F>>
         requires ready { IsWholeBeside (new_bytes self) (new_calls self) }
         ensures placed { IfOk result (λ calls. IsPlaced (new_path self.entry) (new_bytes self.entry) (path_calls calls)) }
         ensures unplaced { IfErr result (λ failed. IsUnplacedAt (new_path self.entry) (new_bytes self.entry) (path_calls failed.calls)) }
@@ -223,7 +226,7 @@ pub(crate) fn make_named<F: Files>(
     files: &F,
     path: &str,
     mode: u32,
-) -> io::Result<(ArrayString<PATH_LEN>, Noted<F::File>)>
+) -> io::Result<(ArrayString<PATH_LEN>, Noted<F>)>
     ensures named { IfOk result (λ made. LiesBeside path.now made.0.bytes) }
     ensures own { IfOk result (λ made. made_as made.1 ≡ opened_new made.0.bytes ∷ []) }
     ensures noted { IfOk result (λ made. noted_calls made.1 ≡ open_call [] ∷ []) }

@@ -17,8 +17,7 @@ use crate::wrote::Wrote;
 use arrayvec::ArrayString;
 use cedar_journal::DeviceError;
 use std::alloc::Allocator;
-use std::fs::OpenFile;
-use std::io::{self, Read, Seek, Write};
+use std::io;
 use std::rt::Files;
 
 /// Writes all of the bytes from the byte `at` on.
@@ -26,8 +25,8 @@ use std::rt::Files;
 /// # Errors
 /// `NoRoom` if there was no room for all of them: then the first of them were written. `Failed` if a call failed: then any of them may be
 /// there.
-pub(crate) fn write_all<T: Read + Write + Seek + OpenFile + Drop>(
-    file: &mut Noted<T>,
+pub(crate) fn write_all<F: Files>(
+    file: &mut Noted<F>,
     at: usize,
     bytes: &[u8],
 ) -> Result<(), DeviceError>
@@ -64,9 +63,9 @@ pub(crate) fn write_all<T: Read + Write + Seek + OpenFile + Drop>(
 /// `NoRoom` if there was no room for the bytes, `Failed` if a call failed. If a file was made, it is removed then.
 pub(crate) fn make_file<F: Files + Drop, A: Allocator + Copy>(
     place: &Place<F, A>,
-    like: &Noted<F::File>,
+    like: &Noted<F>,
     bytes: &[u8],
-) -> Result<(ArrayString<PATH_LEN>, Noted<F::File>), DeviceError>
+) -> Result<(ArrayString<PATH_LEN>, Noted<F>), DeviceError>
 where
     F::File: LockFile,
     ensures names { IfOk result (λ made. made.0.bytes ≡ compaction_path (place_path place.now)) }
@@ -93,13 +92,15 @@ where
 }
 
 /// Gives a file that was made another one's owner and permissions, fills it and locks it.
-fn fill_like<T: Read + Write + Seek + OpenFile + Drop + LockFile, F: Files>(
-    file: &mut Noted<T>,
+fn fill_like<F: Files>(
+    file: &mut Noted<F>,
     files: &F,
     name: &str,
-    like: &Noted<T>,
+    like: &Noted<F>,
     bytes: &[u8],
 ) -> Result<(), DeviceError>
+where
+    F::File: LockFile,
     requires made { noted_calls file.old ≡ open_call [] ∷ [] }
     ensures bytes { OnOk result (seen_after (noted_calls file.new) ≡ bytes.now) }
     ensures durable { OnOk result (Only bytes.now (MayLeave (noted_calls file.new))) }
@@ -120,10 +121,7 @@ fn fill_like<T: Read + Write + Seek + OpenFile + Drop + LockFile, F: Files>(
 }
 
 /// Writes a file that was made, and puts it on the disk.
-fn fill<T: Read + Write + Seek + OpenFile + Drop>(
-    file: &mut Noted<T>,
-    bytes: &[u8],
-) -> Result<(), DeviceError>
+fn fill<F: Files>(file: &mut Noted<F>, bytes: &[u8]) -> Result<(), DeviceError>
     requires made { noted_calls file.old ≡ open_call [] ∷ [] }
     ensures bytes { OnOk result (seen_after (noted_calls file.new) ≡ bytes.now) }
     ensures durable { OnOk result (Only bytes.now (MayLeave (noted_calls file.new))) }
@@ -140,11 +138,11 @@ fn fill<T: Read + Write + Seek + OpenFile + Drop>(
 ///
 /// # Errors
 /// That of a call that failed. The disk has the one file or the other then.
-pub(crate) fn put_in_place<T: Read + Write + Seek + OpenFile + Drop, F: Files + Drop, A: Allocator>(
-    file: &mut Noted<T>,
+pub(crate) fn put_in_place<F: Files + Drop, A: Allocator>(
+    file: &mut Noted<F>,
     place: &Place<F, A>,
     name: &str,
-    other: Noted<T>,
+    other: Noted<F>,
     bytes: &[u8],
 ) -> io::Result<()>
     requires beside { is_beside file.old ≡ true }

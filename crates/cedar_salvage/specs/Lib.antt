@@ -1,3 +1,4 @@
+pub mod Openings
 pub mod Restoring
 pub mod Whole
 pub mod Words

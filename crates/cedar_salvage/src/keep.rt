@@ -1,9 +1,9 @@
 //! What an opening would cut off a store's file, kept beside it.
 
-ghost use Rattle.std.specs.Prelude.{◌+◌, ◌++◌, ◌≡◌, ◌≤◌, [], drop, IfNone, IfOk, IfSome};
+ghost use Rattle.std.specs.Prelude.{◌+◌, ◌++◌, ◌≡◌, ◌≤◌, [], drop, IfErr, IfNone, IfOk, IfSome};
 ghost use Rattle.std.specs.Prelude.{length, List, OnOk, take};
-ghost use Rattle.cedar_salvage.specs.Words.{CutsNone, Elapses, IsCutOf, MayLeave, Memory};
-ghost use Rattle.cedar_salvage.specs.Words.{Only, seen_after};
+ghost use Rattle.cedar_salvage.specs.Words.{CutsNone, Elapses, IsCutOf, IsReadable, MayLeave};
+ghost use Rattle.cedar_salvage.specs.Words.{Memory, Only, seen_after};
 ghost use Rattle.cedar_disk.specs.FileDevices.{device_calls};
 
 use crate::cut::may_cut_records;
@@ -54,7 +54,7 @@ impl From<AllocError> for KeepError {
 /// behind the header into a new file at the path with `.cut` after it, or with `.1.cut` and so on to `.99.cut` where a name is taken. That
 /// is the file of a store, from which `salvage` takes the records. Where a name is that of a file with the very same bytes, which an earlier
 /// call has kept, that one is returned, and none is made. If the path is a link, the file is beside what that leads to. Call this before the
-/// store is opened. The store's file is only read.
+/// store is opened, or make both calls by `keep_and_open`. The store's file is only read.
 ///
 /// Returns None if nothing has to be kept: the opening would cut off no whole record, or the file is of another kind or damaged.
 ///
@@ -79,6 +79,10 @@ where
     ensures seen { D.seen device.new ≡ D.seen device.old }
     ensures restarted { Only (D.seen device.old) (D.may_leave device.old) → Only (D.seen device.new) (D.may_leave device.new) }
     ensures time { Elapses (D.moment device.old) (D.moment device.new) (D.left_since device.old) (D.left_since device.new) (D.may_leave device.new) }
+    //= No call of its device has failed, unless `Unread` is returned, and no write has found no room. [with unfailed, room]
+    ensures done { OnOk result (D.faults device.new ≡ D.faults device.old) }
+    ensures unfailed { IfErr result (λ error. IsReadable error → D.faults device.new ≡ D.faults device.old) }
+    ensures room { D.full device.new ≡ D.full device.old }
 {
     let bytes = match device.read(alloc) {
         Ok(bytes) => bytes,

@@ -6,11 +6,13 @@ mod change;
 mod cut;
 mod held;
 mod keep;
+mod opening;
 mod record;
 mod whole;
 
 pub use change::{Kind, kind_of};
 pub use cut::may_cut_records;
 pub use keep::{KeepError, Kept, keep_cut};
+pub use opening::{OpenedStore, OpeningError, UnopenedStore, keep_and_open};
 pub use record::format_of;
 pub use whole::{salvage, store_with};

@@ -10,12 +10,13 @@ use Rattle.cedar_scan.specs.declared.falls.Fall.{Fall}
 use Rattle.cedar_scan.specs.declared.falls.Popped.{Popped}
 use Rattle.cedar_scan.specs.declared.state.PlacedNode.{PlacedNode}
 use Rattle.cedar_scan.specs.declared.state.State.{State}
-use Rattle.cedar_scan.specs.Automata.{AreByDepth, AreNodes, child_in, IsGoto, IsPlacing, state_at}
+use Rattle.cedar_scan.specs.Automata.{AreByDepth, AreNodes, child_in, IsGoto, IsPlacing, path_in}
 use Rattle.cedar_scan.specs.Falls.{AddsFall, AddsPopped, AreFalls, AreFallsFirst, CanFall, fall_at, FallsTo, HasFall, popped_key, pops_of}
 use Rattle.cedar_scan.specs.Leftmost.{IsFall, IsFallOn, popped_at}
 use Rattle.cedar_scan.specs.Suffixes.{is_node}
 use Rattle.cedar_scan.proofs.LeftmostLemmas.{fall_of_byte, fall_of_key, fall_to_child, fall_to_root, falls_further, falls_on}
 use Rattle.cedar_scan.proofs.LinkLemmas.{listed}
+use Rattle.cedar_scan.proofs.PathLemmas.{path_long}
 use Rattle.cedar_scan.proofs.SuffixLemmas.{node_front}
 
 -- ---- lists of keys that grow
@@ -178,13 +179,13 @@ module _ (t : Tree) (slot_of : List ℕ → ℕ) (states : List State) (falls : 
         let more = adds_length old so_far.pops now so_far.adds in
         omega (arith, low, same, more)
 
-    slot_depth : (state_at states slot).depth ≡ length so_far.path
-    slot_depth = ap (λ s. (state_at states s).depth) so_far.at ∙ can.goto.depth so_far.path so_far.node
+    slot_depth : (fall_at falls slot).depth ≡ length so_far.path
+    slot_depth = ap (λ (f : Fall). f.depth) same_fall ∙ own.depth
 
     front_depth : n.depth ≡ length can.is.path + 1
     front_depth = can.is.depth
 
-    pub front_above : (state_at states slot).depth ≤ n.depth - 1
+    pub front_above : (fall_at falls slot).depth ≤ n.depth - 1
     front_above = let deep = slot_depth in let front = front_depth in let short = still_short in omega (arith, deep, front, short)
 
     to_is : (fall_at falls slot).to ≡ slot_of own.rest
@@ -194,7 +195,7 @@ module _ (t : Tree) (slot_of : List ℕ → ℕ) (states : List State) (falls : 
     to_inside = subst (λ s. s < length states) (sym to_is) (can.goto.within own.rest own.fall.node)
 
     -- once its own keys were given too
-    module _ (shift : ℕ) (shift_is : shift ≡ n.depth - 1 - (state_at states slot).depth) (new : List Popped) (copied : AddsPopped now (map (popped_at shift) (pops_of (fall_at falls slot) now)) new) where
+    module _ (shift : ℕ) (shift_is : shift ≡ n.depth - 1 - (fall_at falls slot).depth) (new : List Popped) (copied : AddsPopped now (map (popped_at shift) (pops_of (fall_at falls slot) now)) new) where
       same_pops : map (popped_at shift) (pops_of (fall_at falls slot) now) ≡ map (popped_at (length can.is.path - length so_far.path)) (pops_of (fall_at falls (slot_of so_far.path)) old)
       same_pops =
           let deep = slot_depth in
@@ -277,10 +278,10 @@ module _ (t : Tree) (slot_of : List ℕ → ℕ) (states : List State) (falls : 
           by_path [] e = absurd (other (to_is ∙ ap slot_of e ∙ can.placing.root))
           by_path (b ∷ w) e = omega arith
 
-      pub falls_down : (state_at states (fall_at falls slot).to).depth < (state_at states slot).depth
+      pub falls_down : length (path_in t states (fall_at falls slot).to) < length (path_in t states slot)
       falls_down =
-          let deep : (state_at states (fall_at falls slot).to).depth ≡ length own.rest = ap (λ s. (state_at states s).depth) to_is ∙ can.goto.depth own.rest own.fall.node in
-          let here = slot_depth in
+          let deep : length (path_in t states (fall_at falls slot).to) ≡ length own.rest = ap (λ s. length (path_in t states s)) to_is ∙ path_long t slot_of states can.placing can.goto own.rest own.fall.node in
+          let here : length (path_in t states slot) ≡ length so_far.path = ap (λ s. length (path_in t states s)) so_far.at ∙ path_long t slot_of states can.placing can.goto so_far.path so_far.node in
           let less = own.fall.shorter in
           omega (arith, deep, here, less)
 
@@ -311,18 +312,21 @@ module _ (t : Tree) (slot_of : List ℕ → ℕ) (states : List State) (falls : 
     pub to_small : to < 2 ^ 30
     to_small = subst (λ s. s < 2 ^ 30) (sym falls_to.at) (can.placing.small falls_to.rest (falls_to.fall can.is).node)
 
-    module _ (own : Fall) (first : own.first ≡ length old) (last : own.last ≡ length new) (leads : own.to ≡ to) where
+    module _ (own : Fall) (first : own.first ≡ length old) (last : own.last ≡ length new) (leads : own.to ≡ to) (deep : own.depth ≡ n.depth) where
       grown : length new ≡ length old + length falls_to.adds.added
       grown = adds_length old falls_to.pops new falls_to.adds
 
       own_pops : pops_of own new ≡ falls_to.pops
       own_pops = let more = grown in ap (pops_of own) falls_to.adds.whole ∙ pops_new own old falls_to.adds.added first (omega (arith, last, more)) ∙ falls_to.adds.are
 
+      own_long : n.depth ≡ length (can.is.path ++ n.label ∷ [])
+      own_long = let one = length-append can.is.path (n.label ∷ []) in let below = can.is.depth in omega (arith, one, below)
+
       here : (w : List ℕ) → is_node t w ≡ true → n.slot ≡ slot_of w → HasFall t slot_of (slice_set falls n.slot own) new w
       here w node at =
           let same : can.is.path ++ n.label ∷ [] ≡ w = can.placing.one (can.is.path ++ n.label ∷ []) w can.is.node node (sym can.is.slot ∙ at) in
           let written : fall_at (slice_set falls n.slot own) (slot_of w) ≡ own =
-          ap (fall_at (slice_set falls n.slot own)) (sym at) ∙ get_or-set_same falls n.slot own (record { to = 0; first = 0; last = 0 }) own_inside in
+          ap (fall_at (slice_set falls n.slot own)) (sym at) ∙ get_or-set_same falls n.slot own (record { to = 0; first = 0; last = 0; depth = 0 }) own_inside in
           let more = grown in
           let low : own.first ≤ own.last = omega (arith, first, last, more) in
           let high : own.last ≤ length new = omega (arith, last) in
@@ -331,6 +335,7 @@ module _ (t : Tree) (slot_of : List ℕ → ℕ) (states : List State) (falls : 
             to = ap (λ (f : Fall). f.to) written ∙ leads ∙ falls_to.at;
             range = subst (λ (f : Fall). f.first ≤ f.last) (sym written) low;
             inside = subst (λ (f : Fall). f.last ≤ length new) (sym written) high;
+            depth = ap (λ (f : Fall). f.depth) written ∙ deep ∙ own_long ∙ ap length same;
             fall = subst (λ (ps : List Spot). IsFall t w ps falls_to.rest) (sym (ap (λ (f : Fall). pops_of f new) written ∙ own_pops))
                 (subst (λ v. IsFall t v falls_to.pops falls_to.rest) same (falls_to.fall can.is));
           }
@@ -339,7 +344,7 @@ module _ (t : Tree) (slot_of : List ℕ → ℕ) (states : List State) (falls : 
       kept w node was = elim (eqb_tells (slot_of w) n.slot) [
         | inl same ↦ here w node (sym same.1)
         | inr other ↦
-            let still : fall_at (slice_set falls n.slot own) (slot_of w) ≡ fall_at falls (slot_of w) = get_or-set_other falls n.slot (slot_of w) own (record { to = 0; first = 0; last = 0 }) other.1 in
+            let still : fall_at (slice_set falls n.slot own) (slot_of w) ≡ fall_at falls (slot_of w) = get_or-set_other falls n.slot (slot_of w) own (record { to = 0; first = 0; last = 0; depth = 0 }) other.1 in
             let more = grown in
             let low = was.inside in
             let fits : (fall_at falls (slot_of w)).last ≤ length new = omega (arith, low, more) in
@@ -348,6 +353,7 @@ module _ (t : Tree) (slot_of : List ℕ → ℕ) (states : List State) (falls : 
               to = ap (λ (f : Fall). f.to) still ∙ was.to;
               range = subst (λ (f : Fall). f.first ≤ f.last) (sym still) was.range;
               inside = subst (λ (f : Fall). f.last ≤ length new) (sym still) fits;
+              depth = ap (λ (f : Fall). f.depth) still ∙ was.depth;
               fall = subst (λ (ps : List Spot). IsFall t w ps was.rest)
                   (sym (ap (λ (f : Fall). pops_of f new) still ∙ ap (pops_of (fall_at falls (slot_of w))) falls_to.adds.whole ∙ pops_kept (fall_at falls (slot_of w)) old falls_to.adds.added was.range was.inside)) was.fall;
             }

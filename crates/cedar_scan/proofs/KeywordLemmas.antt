@@ -11,13 +11,14 @@ use Rattle.cedar_scan.specs.declared.falls.Fall.{Fall}
 use Rattle.cedar_scan.specs.declared.falls.Popped.{Popped}
 use Rattle.cedar_scan.specs.declared.leftmost.KeywordCursor.{KeywordCursor}
 use Rattle.cedar_scan.specs.declared.state.State.{State}
-use Rattle.cedar_scan.specs.Automata.{child_in, state_at}
+use Rattle.cedar_scan.specs.Automata.{child_in, path_in}
 use Rattle.cedar_scan.specs.Falls.{fall_at, HasFall, popped_key, pops_of}
 use Rattle.cedar_scan.specs.Keywords.{CantGoOn, ScansOn, IsKeywordAutomaton, IsKeywordCursor, keywords_left, read_path, pending_of, ScansOnOrEnds, tests_left}
 use Rattle.cedar_scan.specs.Leftmost.{popped_at}
 use Rattle.cedar_scan.specs.Scans.{last_of}
 use Rattle.cedar_scan.specs.Suffixes.{is_node}
 use Rattle.cedar_scan.proofs.LeftmostLemmas.{byte_passed, longest_stops}
+use Rattle.cedar_scan.proofs.PathLemmas.{path_long, root_path}
 use Rattle.cedar_scan.proofs.ScanLemmas.{last_last}
 
 none_some : (x : ℕ) → None ≡ Some x → ⊥
@@ -45,8 +46,8 @@ module _ (t : Tree) (slot_of : List ℕ → ℕ) (states : List State) (falls : 
   -- ---- where a search is
 
   module _ (c : KeywordCursor) (at : IsKeywordCursor t slot_of states popped text c) where
-    deep : (state_at states c.slot).depth ≡ length at.path
-    deep = ap (λ s. (state_at states s).depth) at.at ∙ h.goto.depth at.path at.node
+    deep : length (path_in t states c.slot) ≡ length at.path
+    deep = ap (λ s. length (path_in t states s)) at.at ∙ path_long t slot_of states h.placing h.goto at.path at.node
 
     pub slot_inside : c.slot < length states
     slot_inside = subst (λ s. s < length states) (sym at.at) (h.goto.within at.path at.node)
@@ -54,15 +55,23 @@ module _ (t : Tree) (slot_of : List ℕ → ℕ) (states : List State) (falls : 
     pub fall_inside : c.slot < length falls
     fall_inside = let low = slot_inside in let size = h.size in omega (arith, low, size)
 
-    pub deep_within : (state_at states c.slot).depth ≤ c.place
-    deep_within = let same = deep in let short = at.short in omega (arith, same, short)
+    -- how long the path is stands in the fall
+    fall_deep : (c.slot ≡ 0 → ⊥) → (fall_at falls c.slot).depth ≡ length at.path
+    fall_deep other = by_path at.path refl
+      where
+        by_path : (w : List ℕ) → at.path ≡ w → (fall_at falls c.slot).depth ≡ length at.path
+        by_path [] e = absurd (other (at.at ∙ ap slot_of e ∙ h.placing.root))
+        by_path (x ∷ u) e = let long = ap length e in ap (λ s. (fall_at falls s).depth) at.at ∙ (h.each at.path at.node (omega (arith, long))).depth
 
-    path_is : read_path states text c ≡ at.path
+    pub deep_within : (c.slot ≡ 0 → ⊥) → (fall_at falls c.slot).depth ≤ c.place
+    deep_within other = let same = fall_deep other in let short = at.short in omega (arith, same, short)
+
+    path_is : read_path t states text c ≡ at.path
     path_is = ap (λ n. last_of n (take c.place text)) deep ∙ sym at.here
 
     left_is : keywords_left t states popped text c ≡ map (popped_at c.base) (pending_of popped c) ++ keywords_from t (c.place - length at.path) (at.path ++ drop c.place text)
     left_is =
-        ap (λ n. map (popped_at c.base) (pending_of popped c) ++ keywords_from t (c.place - n) (read_path states text c ++ drop c.place text)) deep
+        ap (λ n. map (popped_at c.base) (pending_of popped c) ++ keywords_from t (c.place - n) (read_path t states text c ++ drop c.place text)) deep
         ∙ ap (λ w. map (popped_at c.base) (pending_of popped c) ++ keywords_from t (c.place - length at.path) (w ++ drop c.place text)) path_is
 
     left_alone : c.next ≡ c.last → keywords_left t states popped text c ≡ keywords_from t (c.place - length at.path) (at.path ++ drop c.place text)
@@ -179,7 +188,7 @@ module _ (t : Tree) (slot_of : List ℕ → ℕ) (states : List State) (falls : 
       ∙ longest_stops t at.path (get_or text c.place 0) (drop (c.place + 1) text) (missed c at none less missing)
 
   pub falls_from : (c : KeywordCursor) (at : IsKeywordCursor t slot_of states popped text c) → c.next ≡ c.last → (c.slot ≡ 0 → ⊥) → CantGoOn states text c
-      → (new : KeywordCursor) → new ≡ record { place = c.place; slot = (fall_at falls c.slot).to; base = c.place - (state_at states c.slot).depth; next = (fall_at falls c.slot).first; last = (fall_at falls c.slot).last }
+      → (new : KeywordCursor) → new ≡ record { place = c.place; slot = (fall_at falls c.slot).to; base = c.place - (fall_at falls c.slot).depth; next = (fall_at falls c.slot).first; last = (fall_at falls c.slot).last }
       → ScansOn t slot_of states popped text c new 0 0
   falls_from c at none other cant new new_is = by_path at.path refl
     where
@@ -190,8 +199,8 @@ module _ (t : Tree) (slot_of : List ℕ → ℕ) (states : List State) (falls : 
           let own : HasFall t slot_of falls popped at.path = h.each at.path at.node (omega (arith, long)) in
           let same : fall_at falls c.slot ≡ fall_at falls (slot_of at.path) = ap (fall_at falls) at.at in
           let depth_is = deep c at in
-          let next : KeywordCursor = record { place = c.place; slot = (fall_at falls c.slot).to; base = c.place - (state_at states c.slot).depth; next = (fall_at falls c.slot).first; last = (fall_at falls c.slot).last } in
-          let base : next.base ≡ c.place - length at.path = ap (λ n. c.place - n) depth_is in
+          let next : KeywordCursor = record { place = c.place; slot = (fall_at falls c.slot).to; base = c.place - (fall_at falls c.slot).depth; next = (fall_at falls c.slot).first; last = (fall_at falls c.slot).last } in
+          let base : next.base ≡ c.place - length at.path = ap (λ n. c.place - n) (fall_deep c at other) in
           let pops : pending_of popped next ≡ pops_of (fall_at falls (slot_of at.path)) popped = ap (λ (f : Fall). pops_of f popped) same in
           let less = own.fall.shorter in
           let short = at.short in
@@ -278,11 +287,11 @@ module _ (t : Tree) (slot_of : List ℕ → ℕ) (states : List State) (falls : 
 
     pub gives_key : keywords_left t states popped text c ≡ (c.base + key.before, key.len, key.value) ∷ keywords_left t states popped text new
     gives_key =
-        ap (λ (ps : List Spot). map (popped_at c.base) ps ++ keywords_from t (c.place - (state_at states c.slot).depth) (read_path states text c ++ drop c.place text)) pending_is
+        ap (λ (ps : List Spot). map (popped_at c.base) ps ++ keywords_from t (c.place - length (path_in t states c.slot)) (read_path t states text c ++ drop c.place text)) pending_is
         ∙ ap (λ (k : KeywordCursor). (c.base + key.before, key.len, key.value) ∷ keywords_left t states popped text k) (sym new_is)
 
-    pub same_tests : tests_left states text new ≡ tests_left states text c
-    same_tests = ap (tests_left states text) new_is
+    pub same_tests : tests_left t states text new ≡ tests_left t states text c
+    same_tests = ap (tests_left t states text) new_is
 
   -- ---- the beginning
 
@@ -299,16 +308,13 @@ module _ (t : Tree) (slot_of : List ℕ → ℕ) (states : List State) (falls : 
     fits = All-nil (λ (p : Spot). 0 + p.0 + p.1 ≤ 0);
   }
 
-  root_deep : (state_at states 0).depth ≡ 0
-  root_deep = ap (λ s. (state_at states s).depth) (sym h.placing.root) ∙ h.goto.depth [] refl
-
   pub first_left : keywords_left t states popped text (record { place = 0; slot = 0; base = 0; next = 0; last = 0 }) ≡ keywords_in t text
   unfolding first_cursor
   first_left =
       left_alone (record { place = 0; slot = 0; base = 0; next = 0; last = 0 }) first_cursor refl
 
-  pub first_tests : tests_left states text (record { place = 0; slot = 0; base = 0; next = 0; last = 0 }) ≡ 2 * length text
-  first_tests = let none = root_deep in omega (arith, none)
+  pub first_tests : tests_left t states text (record { place = 0; slot = 0; base = 0; next = 0; last = 0 }) ≡ 2 * length text
+  first_tests = let none = ap length (root_path t states) in omega (arith, none)
 
   -- ---- a position to begin at
 
@@ -335,5 +341,5 @@ module _ (t : Tree) (slot_of : List ℕ → ℕ) (states : List State) (falls : 
         let begin : start - 0 ≡ start = omega arith in
         left_alone cursor_at at_position refl ∙ ap (λ n. keywords_from t n (drop start text)) begin
 
-    pub position_tests : (place : ℕ) → start ≡ min place (length text) → tests_left states text cursor_at ≡ 2 * (length text - place)
-    position_tests place e = let none = root_deep in omega (arith, none, e)
+    pub position_tests : (place : ℕ) → start ≡ min place (length text) → tests_left t states text cursor_at ≡ 2 * (length text - place)
+    position_tests place e = let none = ap length (root_path t states) in omega (arith, none, e)

@@ -1,18 +1,18 @@
 -- What the states are once each node has its place.
-use Rattle.std.proofs.Common.{◌≡◌, ◌⊎◌, inl, inr, ℕ, ◌+◌, ◌*◌, ◌%◌, ◌^◌, ◌<◌, true, false, cond, ◌&&◌, ◌==◌, ltb, ℤ, List, [], ◌∷◌, ◌++◌, get_or, length, length-append, Some, None, refl, sym, ap, subst, ◌∙◌, arith, eq-eqb, w32}
-use Rattle.std.specs.Prelude.{bit_or, bit_xor, pos, unwrap_or}
+use Rattle.std.proofs.Common.{◌≡◌, ◌⊎◌, inl, inr, ℕ, ◌+◌, ◌*◌, ◌%◌, ◌^◌, ◌<◌, true, false, cond, ◌&&◌, ◌==◌, ltb, List, [], ◌∷◌, ◌++◌, get_or, length, Some, None, refl, sym, ap, subst, ◌∙◌, arith, eq-eqb, w32}
+use Rattle.std.specs.Prelude.{bit_or, bit_xor}
 use Rattle.std.specs.Int.{bit_at}
 use Rattle.std.proofs.lemmas.Bool.{and_from, and_parts, eqb-true, lt-ltb, ltb-true, true≢false}
 use Rattle.std.proofs.lemmas.Bool.Decides.{eqb_tells}
 use Rattle.std.proofs.lemmas.Nat.Bits.{bit_at_set_other, bit_at_set_same}
-use Rattle.cedar_tree.specs.Tree.{number_at, Tree}
+use Rattle.cedar_tree.specs.Tree.{Tree}
 use Rattle.cedar_model.proofs.MeaningLemmas.ExclusiveOr.{xor_again, xor_injective}
 use Rattle.cedar_scan.specs.declared.state.PlacedNode.{PlacedNode}
 use Rattle.cedar_scan.specs.declared.state.State.{State}
 use Rattle.cedar_scan.specs.Automata.{AreLaid, AreNodes, child_in, IsChildSlot, IsGoto, IsLaid, IsListedNode, IsPlacing, may_have, state_at, with_base, with_child_label, with_node}
 use Rattle.cedar_scan.specs.Suffixes.{is_node}
-use Rattle.cedar_scan.proofs.ListLemmas.{field_kept, same_front, same_last, snoc, snoc_not_empty, still_inside, written_elsewhere, written_here}
-use Rattle.cedar_scan.proofs.SuffixLemmas.{node_front, number_is_node}
+use Rattle.cedar_scan.proofs.ListLemmas.{field_kept, same_front, same_last, still_inside, written_elsewhere, written_here}
+use Rattle.cedar_scan.proofs.SuffixLemmas.{node_front}
 
 label_set : (labels l : ℕ) → bit_at (bit_or labels (1 * 2 ^ (l % 32) % 2 ^ 32)) (l % 32) ≡ 1
 label_set labels l = bit_at_set_same w32 labels (l % 32) (omega (arith))
@@ -45,16 +45,16 @@ module _ (t : Tree) (slot_of : List ℕ → ℕ) (p : IsPlacing t slot_of) where
 
     -- what the two writes leave
     base_kept : (y : ℕ) → (state_at (with_node states x) y).base ≡ (state_at (with_base states x) y).base
-    base_kept y = field_kept (λ (s : State). s.base) (with_base states x) x.slot (record (state_at (with_base states x) x.slot) { owner = x.parent; depth = x.depth; value = unwrap_or x.number (pos 0) }) y slot_still refl
+    base_kept y = field_kept (λ (s : State). s.base) (with_base states x) x.slot (record (state_at (with_base states x) x.slot) { owner = x.parent }) y slot_still refl
 
     failure_kept : (y : ℕ) → (state_at (with_node states x) y).failure ≡ (state_at states y).failure
     failure_kept y =
-        field_kept (λ (s : State). s.failure) (with_base states x) x.slot (record (state_at (with_base states x) x.slot) { owner = x.parent; depth = x.depth; value = unwrap_or x.number (pos 0) }) y slot_still refl
+        field_kept (λ (s : State). s.failure) (with_base states x) x.slot (record (state_at (with_base states x) x.slot) { owner = x.parent }) y slot_still refl
         ∙ field_kept (λ (s : State). s.failure) states x.parent (with_child_label (state_at states x.parent) x) y parent_in refl
 
     output_kept : (y : ℕ) → (state_at (with_node states x) y).output ≡ (state_at states y).output
     output_kept y =
-        field_kept (λ (s : State). s.output) (with_base states x) x.slot (record (state_at (with_base states x) x.slot) { owner = x.parent; depth = x.depth; value = unwrap_or x.number (pos 0) }) y slot_still refl
+        field_kept (λ (s : State). s.output) (with_base states x) x.slot (record (state_at (with_base states x) x.slot) { owner = x.parent }) y slot_still refl
         ∙ field_kept (λ (s : State). s.output) states x.parent (with_child_label (state_at states x.parent) x) y parent_in refl
 
     base_here : (y : ℕ) → y ≡ x.parent → (state_at (with_node states x) y).base ≡ bit_xor x.slot x.label
@@ -64,7 +64,7 @@ module _ (t : Tree) (slot_of : List ℕ → ℕ) (p : IsPlacing t slot_of) where
     base_elsewhere y other = base_kept y ∙ ap (λ (s : State). s.base) (written_elsewhere states x.parent (with_child_label (state_at states x.parent) x) y other)
 
     labels_kept : (y : ℕ) → (state_at (with_node states x) y).labels ≡ (state_at (with_base states x) y).labels
-    labels_kept y = field_kept (λ (s : State). s.labels) (with_base states x) x.slot (record (state_at (with_base states x) x.slot) { owner = x.parent; depth = x.depth; value = unwrap_or x.number (pos 0) }) y slot_still refl
+    labels_kept y = field_kept (λ (s : State). s.labels) (with_base states x) x.slot (record (state_at (with_base states x) x.slot) { owner = x.parent }) y slot_still refl
 
     labels_here : (y : ℕ) → y ≡ x.parent → (state_at (with_node states x) y).labels ≡ (with_child_label (state_at states x.parent) x).labels
     labels_here y e = labels_kept y ∙ ap (λ (s : State). s.labels) (written_here states x.parent (with_child_label (state_at states x.parent) x) y parent_in e)
@@ -84,13 +84,13 @@ module _ (t : Tree) (slot_of : List ℕ → ℕ) (p : IsPlacing t slot_of) where
     ]
 
     -- in the slot of the node
-    own : (y : ℕ) → y ≡ x.slot → state_at (with_node states x) y ≡ record (state_at (with_base states x) x.slot) { owner = x.parent; depth = x.depth; value = unwrap_or x.number (pos 0) }
-    own y e = written_here (with_base states x) x.slot (record (state_at (with_base states x) x.slot) { owner = x.parent; depth = x.depth; value = unwrap_or x.number (pos 0) }) y slot_still e
+    own : (y : ℕ) → y ≡ x.slot → state_at (with_node states x) y ≡ record (state_at (with_base states x) x.slot) { owner = x.parent }
+    own y e = written_here (with_base states x) x.slot (record (state_at (with_base states x) x.slot) { owner = x.parent }) y slot_still e
 
     -- and in each other one
     elsewhere : {X : Type 0} (f : State → X) (y : ℕ) → f (with_child_label (state_at states x.parent) x) ≡ f (state_at states x.parent) → (y ≡ x.slot → ⊥) → f (state_at (with_node states x) y) ≡ f (state_at states y)
     elsewhere f y same other =
-        ap f (written_elsewhere (with_base states x) x.slot (record (state_at (with_base states x) x.slot) { owner = x.parent; depth = x.depth; value = unwrap_or x.number (pos 0) }) y other)
+        ap f (written_elsewhere (with_base states x) x.slot (record (state_at (with_base states x) x.slot) { owner = x.parent }) y other)
         ∙ field_kept f states x.parent (with_child_label (state_at states x.parent) x) y parent_in same
 
     laid_here : IsLaid (with_node states x) x
@@ -98,8 +98,6 @@ module _ (t : Tree) (slot_of : List ℕ → ℕ) (p : IsPlacing t slot_of) where
       base = base_here x.parent refl;
       labels = may_have_here;
       owner = ap (λ (s : State). s.owner) (own x.slot refl);
-      depth = ap (λ (s : State). s.depth) (own x.slot refl);
-      value = ap (λ (s : State). s.value) (own x.slot refl);
     }
 
     laid_kept : (m : PlacedNode) → IsListedNode t slot_of m → IsLaid states m → IsLaid (with_node states x) m
@@ -112,14 +110,6 @@ module _ (t : Tree) (slot_of : List ℕ → ℕ) (p : IsPlacing t slot_of) where
       owner = elim (eqb_tells m.slot x.slot) [
         | inl same ↦ ap (λ (s : State). s.owner) (own m.slot same.1) ∙ b.parent ∙ ap slot_of (sym (same_front a.path b.path m.label x.label (one_path m x a b same.1))) ∙ sym a.parent
         | inr other ↦ elsewhere (λ (s : State). s.owner) m.slot refl other.1 ∙ laid.owner
-      ];
-      depth = elim (eqb_tells m.slot x.slot) [
-        | inl same ↦ ap (λ (s : State). s.depth) (own m.slot same.1) ∙ b.depth ∙ ap (λ w. length w + 1) (sym (same_front a.path b.path m.label x.label (one_path m x a b same.1))) ∙ sym a.depth
-        | inr other ↦ elsewhere (λ (s : State). s.depth) m.slot refl other.1 ∙ laid.depth
-      ];
-      value = elim (eqb_tells m.slot x.slot) [
-        | inl same ↦ ap (λ (s : State). s.value) (own m.slot same.1) ∙ ap (λ n. unwrap_or n (pos 0)) (b.number ∙ ap (number_at t) (sym (one_path m x a b same.1)) ∙ sym a.number)
-        | inr other ↦ elsewhere (λ (s : State). s.value) m.slot refl other.1 ∙ laid.value
       ];
     }
 
@@ -144,9 +134,6 @@ module _ (t : Tree) (slot_of : List ℕ → ℕ) (p : IsPlacing t slot_of) where
       ]
     ]
 
-    not_root : 0 ≡ x.slot → ⊥
-    not_root e = snoc_not_empty b.path x.label (p.one (b.path ++ x.label ∷ []) [] b.node refl (sym b.slot ∙ sym e ∙ sym p.root))
-
     -- one node more has its place
     pub laid_more : (nodes : List PlacedNode) (n : ℕ) → ((k : ℕ) (d : PlacedNode) → k < length nodes → IsListedNode t slot_of (get_or nodes k d)) → n < length nodes → ((d : PlacedNode) → get_or nodes n d ≡ x) → AreLaid t slot_of nodes n states
         → AreLaid t slot_of nodes (n + 1) (with_node states x)
@@ -156,13 +143,12 @@ module _ (t : Tree) (slot_of : List ℕ → ℕ) (p : IsPlacing t slot_of) where
         | inr other ↦ let before = other.1 in let low : k < n = omega (arith, less, before) in laid_kept (get_or nodes k d) (each k d (omega (arith, low, inside))) (laid.each k d low)
       ];
       only = λ y less. only_kept y (laid.only y (subst (λ m. y < m) same_length less));
-      root = elsewhere (λ (s : State). s.depth) 0 refl not_root ∙ laid.root;
       links = λ y. (failure_kept y ∙ (laid.links y).0, output_kept y ∙ (laid.links y).1);
     }
       where
         same_length : length (with_node states x) ≡ length states
         same_length =
-            still_inside (with_base states x) x.slot (record (state_at (with_base states x) x.slot) { owner = x.parent; depth = x.depth; value = unwrap_or x.number (pos 0) })
+            still_inside (with_base states x) x.slot (record (state_at (with_base states x) x.slot) { owner = x.parent })
             ∙ still_inside states x.parent (with_child_label (state_at states x.parent) x)
 
   -- ---- all nodes have their places
@@ -173,8 +159,6 @@ module _ (t : Tree) (slot_of : List ℕ → ℕ) (p : IsPlacing t slot_of) where
       pub base : (state_at states (slot_of w)).base ≡ bit_xor (slot_of (w ++ l ∷ [])) l
       pub labels : may_have (state_at states (slot_of w)) l ≡ true
       pub owner : (state_at states (slot_of (w ++ l ∷ []))).owner ≡ slot_of w
-      pub depth : (state_at states (slot_of (w ++ l ∷ []))).depth ≡ length w + 1
-      pub value : (state_at states (slot_of (w ++ l ∷ []))).value ≡ unwrap_or (number_at t (w ++ l ∷ [])) (pos 0)
 
     read_by : (w : List ℕ) (l : ℕ) → is_node t (w ++ l ∷ []) ≡ true → (n : PlacedNode) (is : IsListedNode t slot_of n) → n.slot ≡ slot_of (w ++ l ∷ []) → IsLaid states n → IsRead w l
     read_by w l node n is slot here =
@@ -186,8 +170,6 @@ module _ (t : Tree) (slot_of : List ℕ → ℕ) (p : IsPlacing t slot_of) where
           base = ap (λ s. (state_at states s).base) (sym parent) ∙ here.base ∙ ap (λ s. bit_xor s n.label) slot ∙ ap (bit_xor (slot_of (w ++ l ∷ []))) last;
           labels = ap (λ s. may_have (state_at states s) l) (sym parent) ∙ ap (may_have (state_at states n.parent)) (sym last) ∙ here.labels;
           owner = ap (λ s. (state_at states s).owner) (sym slot) ∙ here.owner ∙ parent;
-          depth = ap (λ s. (state_at states s).depth) (sym slot) ∙ here.depth ∙ is.depth ∙ ap (λ v. length v + 1) front;
-          value = ap (λ s. (state_at states s).value) (sym slot) ∙ here.value ∙ ap (λ x. unwrap_or x (pos 0)) (is.number ∙ ap (number_at t) path);
         }
 
     read_at : (w : List ℕ) (l : ℕ) → is_node t (w ++ l ∷ []) ≡ true → IsRead w l
@@ -242,22 +224,5 @@ module _ (t : Tree) (slot_of : List ℕ → ℕ) (p : IsPlacing t slot_of) where
           | false ↦ λ e. missed w l node e
         ]) refl
 
-    depth : (w : List ℕ) → is_node t w ≡ true → (state_at states (slot_of w)).depth ≡ length w
-    depth [] node = ap (λ s. (state_at states s).depth) p.root ∙ laid.root
-    depth (b ∷ v) node =
-        let s = snoc b v in
-        let at : is_node t (s.0 ++ s.1 ∷ []) ≡ true = ap (is_node t) (sym s.2) ∙ node in
-        let long = length-append s.0 (s.1 ∷ []) in
-        let all_of = ap length s.2 in
-        let end : length s.0 + 1 ≡ length (b ∷ v) = omega (arith, long, all_of) in
-        ap (λ w. (state_at states (slot_of w)).depth) s.2 ∙ (read_at s.0 s.1 at).depth ∙ end
-
-    value : (w : List ℕ) (v : ℤ) → number_at t w ≡ Some v → 0 < length w → (state_at states (slot_of w)).value ≡ v
-    value [] v held some = absurd (omega (arith, some))
-    value (b ∷ u) v held some =
-        let s = snoc b u in
-        let at : is_node t (s.0 ++ s.1 ∷ []) ≡ true = ap (is_node t) (sym s.2) ∙ number_is_node t (b ∷ u) v held in
-        ap (λ w. (state_at states (slot_of w)).value) s.2 ∙ (read_at s.0 s.1 at).value ∙ ap (λ x. unwrap_or x (pos 0)) (ap (number_at t) (sym s.2) ∙ held)
-
     pub laid_goto : IsGoto t slot_of states
-    laid_goto = record { within = inside; child = child; depth = depth; value = value }
+    laid_goto = record { within = inside; child = child }

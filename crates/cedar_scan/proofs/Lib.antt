@@ -1,4 +1,5 @@
 pub mod BehindLemmas
+pub mod CountLemmas
 pub mod EarliestLemmas
 pub mod EndOrderLemmas
 pub mod FallLemmas
@@ -8,8 +9,10 @@ pub mod LayoutLemmas
 pub mod LeftmostLemmas
 pub mod LinkLemmas
 pub mod ListLemmas
+pub mod ListedLemmas
 pub mod NodesLemmas
 pub mod OccurrenceLemmas
+pub mod PathLemmas
 pub mod PlacingLemmas
 pub mod PlainLemmas
 pub mod PreferredLemmas

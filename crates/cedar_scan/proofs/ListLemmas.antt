@@ -1,6 +1,6 @@
 -- Lists that end with one more element, and fields of states that are written.
 use Rattle.std.proofs.Common.{◌≡◌, ℕ, ◌<◌, List, [], ◌∷◌, ◌++◌, get_or, length, length-append, take, refl, sym, ap, ◌∙◌, arith, inl, inr}
-use Rattle.std.specs.Prelude.{pos, slice_set}
+use Rattle.std.specs.Prelude.{slice_set}
 use Rattle.std.proofs.lemmas.Bool.Decides.{eqb_tells}
 use Rattle.std.proofs.lemmas.List.{append_cancel_left, get_or-set_other, get_or-set_same, length-set, take-append-le, take_all}
 use Rattle.cedar_scan.specs.declared.state.State.{State}
@@ -45,17 +45,17 @@ pub field_kept : {X : Type 0} (f : State → X) (states : List State) (i : ℕ) 
 field_kept f states i v y inside same = elim (eqb_tells y i) [
   | inl here ↦ let at = here.1 in
       ap (λ k. f (state_at (slice_set states i v) k)) at
-      ∙ ap f (get_or-set_same states i v (record { base = 0; owner = 0; labels = 0; failure = 0; output = 0; depth = 0; value = pos 0 }) inside)
+      ∙ ap f (get_or-set_same states i v (record { base = 0; owner = 0; labels = 0; failure = 0; output = 0 }) inside)
       ∙ same ∙ ap (λ k. f (state_at states k)) (sym at)
-  | inr there ↦ ap f (get_or-set_other states i y v (record { base = 0; owner = 0; labels = 0; failure = 0; output = 0; depth = 0; value = pos 0 }) there.1)
+  | inr there ↦ ap f (get_or-set_other states i y v (record { base = 0; owner = 0; labels = 0; failure = 0; output = 0 }) there.1)
 ]
 
 pub written_here : (states : List State) (i : ℕ) (v : State) (y : ℕ) → i < length states → y ≡ i → state_at (slice_set states i v) y ≡ v
 written_here states i v y inside at =
-    ap (λ k. state_at (slice_set states i v) k) at ∙ get_or-set_same states i v (record { base = 0; owner = 0; labels = 0; failure = 0; output = 0; depth = 0; value = pos 0 }) inside
+    ap (λ k. state_at (slice_set states i v) k) at ∙ get_or-set_same states i v (record { base = 0; owner = 0; labels = 0; failure = 0; output = 0 }) inside
 
 pub written_elsewhere : (states : List State) (i : ℕ) (v : State) (y : ℕ) → (y ≡ i → ⊥) → state_at (slice_set states i v) y ≡ state_at states y
-written_elsewhere states i v y other = get_or-set_other states i y v (record { base = 0; owner = 0; labels = 0; failure = 0; output = 0; depth = 0; value = pos 0 }) other
+written_elsewhere states i v y other = get_or-set_other states i y v (record { base = 0; owner = 0; labels = 0; failure = 0; output = 0 }) other
 
 pub still_inside : (states : List State) (i : ℕ) (v : State) → length (slice_set states i v) ≡ length states
 still_inside states i v = length-set states i v

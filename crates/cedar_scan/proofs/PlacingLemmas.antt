@@ -1,24 +1,26 @@
 -- Slots that are chosen for the nodes of a dictionary.
-use Rattle.std.proofs.Common.{◌≡◌, inl, inr, ℕ, suc, ◌+◌, ◌^◌, ◌<◌, ◌≤◌, Bool, true, false, cond, List, [], ◌∷◌, ◌++◌, append_assoc, get_or, length, length-append, map, take, None, Some, is_some, refl, sym, ap, subst, ◌∙◌, arith}
+use Rattle.std.proofs.Common.{◌≡◌, inl, inr, ℕ, suc, ◌+◌, ◌^◌, ◌<◌, ◌≤◌, Bool, true, false, cond, List, [], ◌∷◌, ◌++◌, append_assoc, get_or, length, length-append, map, take, None, Some, refl, sym, ap, subst, ◌∙◌, arith}
 use Rattle.std.specs.Prelude.{bit_xor, unwrap_or}
 use Rattle.std.proofs.Math.Seq.{get_or-append_seam, take-suc}
 use Rattle.std.proofs.lemmas.Bool.Decides.{eqb_tells}
 use Rattle.std.proofs.lemmas.List.{append-nil, get_or-map, get_or_append_left, get_or_default, length-map, map-append, take_all}
 use Rattle.std.proofs.lemmas.List.Elements.{All-map}
-use Rattle.cedar_tree.specs.Tree.{number_at, Tree}
+use Rattle.cedar_tree.specs.Tree.{Tree}
+use Rattle.cedar_scan.specs.declared.state.ListedKey.{ListedKey}
 use Rattle.cedar_scan.specs.declared.state.PlacedNode.{PlacedNode}
 use Rattle.cedar_scan.specs.declared.state.State.{State}
-use Rattle.cedar_scan.specs.Automata.{AreNodes, child_in, GoesToSuffix, IsAutomaton, IsGoto, IsLinked, IsListedNode, IsPlacing, IsStepFrom, slot_of_path, state_at, slot_along}
+use Rattle.cedar_scan.specs.Automata.{AreNodes, child_in, GoesToSuffix, HasOutput, IsAutomaton, IsGoto, IsLinked, IsListedNode, IsPlacing, IsStepFrom, slot_of_path, state_at, slot_along}
 use Rattle.cedar_scan.specs.Falls.{AreFalls, fall_at, pops_of}
 use Rattle.cedar_scan.specs.Keywords.{IsKeywordAutomaton}
 use Rattle.cedar_scan.specs.Leftmost.{IsFall}
+use Rattle.cedar_scan.specs.Listed.{keys_from}
 use Rattle.cedar_scan.specs.Places.{ArePutAnew, IsPutAnew, chosen_slot, placed_by, placed_node}
-use Rattle.cedar_scan.specs.Suffixes.{failure, held_suffix, is_node, key_suffix}
+use Rattle.cedar_scan.specs.Suffixes.{failure, held_suffix, is_node}
 use Rattle.cedar_scan.specs.declared.falls.Fall.{Fall}
 use Rattle.cedar_scan.specs.declared.falls.Popped.{Popped}
 use Rattle.cedar_scan.proofs.LinkLemmas.{failure_node}
 use Rattle.cedar_scan.proofs.ListLemmas.{same_front, same_last, snoc}
-use Rattle.cedar_scan.proofs.SuffixLemmas.{held_is_node, node_front, number_is_node}
+use Rattle.cedar_scan.proofs.SuffixLemmas.{held_is_node, node_front}
 
 -- ---- what was checked is a placing
 
@@ -140,14 +142,6 @@ one_own i old new pushed so_far =
 
 -- ---- the same slots by another function of the paths
 
-key_is_node : (t : Tree) (w : List ℕ) → is_node t (key_suffix t w) ≡ true
-key_is_node t [] = refl
-key_is_node t (b ∷ v) =
-    (elim (number_at t (b ∷ v)) as (λ o. number_at t (b ∷ v) ≡ o → is_node t (cond (is_some o) (b ∷ v) (key_suffix t v)) ≡ true) [
-      | None ↦ λ _. key_is_node t v
-      | Some x ↦ λ e. number_is_node t (b ∷ v) x e
-    ]) refl
-
 module _ (t : Tree) (slot_of other : List ℕ → ℕ) (same : (w : List ℕ) → is_node t w ≡ true → slot_of w ≡ other w) where
   pub same_placing : IsPlacing t slot_of → IsPlacing t other
   same_placing p = record {
@@ -166,21 +160,24 @@ module _ (t : Tree) (slot_of other : List ℕ → ℕ) (same : (w : List ℕ) �
   same_goto states h = record {
     within = λ w node. subst (λ s. s < length states) (same w node) (h.within w node);
     child = λ w l node. ap (λ s. child_in states s l) (sym (same w node)) ∙ h.child w l node ∙ same_some (w ++ l ∷ []) (is_node t (w ++ l ∷ [])) refl;
-    depth = λ w node. ap (λ s. (state_at states s).depth) (sym (same w node)) ∙ h.depth w node;
-    value = λ w v held some. ap (λ s. (state_at states s).value) (sym (same w (number_is_node t w v held))) ∙ h.value w v held some;
   }
 
   pub same_linked : (states : List State) (w : List ℕ) → is_node t w ≡ true → IsLinked t slot_of states w → IsLinked t other states w
-  same_linked states w node h = record {
-    failure = ap (λ s. (state_at states s).failure) (sym (same w node)) ∙ h.failure ∙ same (failure t w) (failure_node t w);
-    output = ap (λ s. (state_at states s).output) (sym (same w node)) ∙ h.output ∙ same (key_suffix t w) (key_is_node t w);
+  same_linked states w node h = ap (λ s. (state_at states s).failure) (sym (same w node)) ∙ h ∙ same (failure t w) (failure_node t w)
+
+  same_output : (states : List State) (keys : List ListedKey) (w : List ℕ) → is_node t w ≡ true → HasOutput t slot_of states keys w → HasOutput t other states keys w
+  same_output states keys w node h = record {
+    inside = subst (λ s. (state_at states s).output < length keys) (same w node) h.inside;
+    gives = ap (λ s. keys_from keys (state_at states s).output) (sym (same w node)) ∙ h.gives;
   }
 
-  pub same_automaton : (states : List State) → IsAutomaton t slot_of states → IsAutomaton t other states
-  same_automaton states h = record {
+  pub same_automaton : (states : List State) (keys : List ListedKey) → IsAutomaton t slot_of states keys → IsAutomaton t other states keys
+  same_automaton states keys h = record {
     placing = same_placing h.placing;
     goto = same_goto states h.goto;
+    listed = h.listed;
     links = λ w node. same_linked states w node (h.links w node);
+    outputs = λ w node. same_output states keys w node (h.outputs w node);
   }
 
   pub same_falls : (falls : List Fall) (popped : List Popped) → AreFalls t slot_of falls popped → AreFalls t other falls popped
@@ -191,6 +188,7 @@ module _ (t : Tree) (slot_of other : List ℕ → ℕ) (same : (w : List ℕ) �
         to = ap (λ s. (fall_at falls s).to) (sym (same w node)) ∙ is.to ∙ same is.rest is.fall.node;
         range = subst (λ s. (fall_at falls s).first ≤ (fall_at falls s).last) (same w node) is.range;
         inside = subst (λ s. (fall_at falls s).last ≤ length popped) (same w node) is.inside;
+        depth = ap (λ s. (fall_at falls s).depth) (sym (same w node)) ∙ is.depth;
         fall = subst (λ s. IsFall t w (pops_of (fall_at falls s) popped) is.rest) (same w node) is.fall;
       }
 
@@ -238,8 +236,8 @@ pub own_are_placing : (t : Tree) (slot_of : List ℕ → ℕ) → IsPlacing t sl
 own_are_placing t slot_of p slots inside places own = same_placing t slot_of (placed_by places slot_of) (λ w node. sym (own (slot_of w) (inside w node))) p
 
 -- the slots of an automaton are those that its states lead to
-pub reached_automaton : (t : Tree) (slot_of : List ℕ → ℕ) (states : List State) → IsAutomaton t slot_of states → IsAutomaton t (slot_of_path states) states
-reached_automaton t slot_of states h = same_automaton t slot_of (slot_of_path states) (is_reached t slot_of states h.placing h.goto) states h
+pub reached_automaton : (t : Tree) (slot_of : List ℕ → ℕ) (states : List State) (keys : List ListedKey) → IsAutomaton t slot_of states keys → IsAutomaton t (slot_of_path states) states keys
+reached_automaton t slot_of states keys h = same_automaton t slot_of (slot_of_path states) (is_reached t slot_of states h.placing h.goto) states keys h
 
 pub reached_keywords : (t : Tree) (slot_of : List ℕ → ℕ) (states : List State) (falls : List Fall) (popped : List Popped) → IsKeywordAutomaton t slot_of states falls popped → IsKeywordAutomaton t (slot_of_path states) states falls popped
 reached_keywords t slot_of states falls popped h = same_keyword_automaton t slot_of (slot_of_path states) (is_reached t slot_of states h.placing h.goto) states falls popped h

@@ -1,5 +1,5 @@
 -- Searches that go on from a position of a text.
-use Rattle.std.proofs.Common.{◌≡◌, ◌⊎◌, inl, inr, ℕ, suc, ◌+◌, ◌-◌, ◌*◌, ◌<◌, ◌≤◌, true, false, List, [], ◌∷◌, ◌++◌, drop, get_or, length, length-append, map, min, take, refl, sym, ap, subst, ◌∙◌, arith}
+use Rattle.std.proofs.Common.{◌≡◌, ◌⊎◌, inl, inr, ℕ, suc, ◌+◌, ◌-◌, ◌*◌, ◌<◌, ◌≤◌, true, false, List, [], ◌∷◌, ◌++◌, drop, get_or, length, length-append, min, take, refl, sym, ap, subst, ◌∙◌, arith}
 use Rattle.std.specs.List.{All, Contains}
 use Rattle.std.proofs.Math.Seq.{drop-length, take-suc}
 use Rattle.std.proofs.lemmas.Bool.Decides.{leb_tells}
@@ -7,15 +7,17 @@ use Rattle.std.proofs.lemmas.List.{drop_all, length-drop, length-take, take-appe
 use Rattle.cedar_tree.specs.Tree.{Tree}
 use Rattle.cedar_words.specs.Spots.{keywords_from}
 use Rattle.cedar_scan.specs.declared.scan.Cursor.{Cursor}
+use Rattle.cedar_scan.specs.declared.state.ListedKey.{ListedKey}
 use Rattle.cedar_scan.specs.declared.state.PlacedNode.{PlacedNode}
 use Rattle.cedar_scan.specs.declared.state.State.{State}
-use Rattle.cedar_scan.specs.Automata.{AreNodes, IsAutomaton, IsListedNode, IsPlacing, IsStepFrom, state_at}
+use Rattle.cedar_scan.specs.Automata.{AreNodes, IsAutomaton, IsListedNode, IsPlacing, IsStepFrom, path_in}
 use Rattle.cedar_scan.specs.Earliest.{earliest_from}
 use Rattle.cedar_scan.specs.Resumed.{earliest_behind, ending_behind, IsHeight}
-use Rattle.cedar_scan.specs.Scans.{all_left, IsCursor, pending_key, read_of, steps_left}
-use Rattle.cedar_scan.specs.Suffixes.{all_ending, held_suffix, is_node, key_suffix, keys_ending, occurrence_ending}
+use Rattle.cedar_scan.specs.Scans.{all_left, IsCursor, steps_left}
+use Rattle.cedar_scan.specs.Suffixes.{all_ending, held_suffix, is_node}
 use Rattle.cedar_scan.proofs.LinkLemmas.{listed}
-use Rattle.cedar_scan.proofs.ScanLemmas.{no_key_yet}
+use Rattle.cedar_scan.proofs.PathLemmas.{path_long}
+use Rattle.cedar_scan.proofs.ScanLemmas.{none_short}
 use Rattle.cedar_scan.proofs.SuffixLemmas.{held_goes_on, held_is_node, held_of_other, held_shorter}
 
 -- ---- a position behind the end is that of the end
@@ -100,7 +102,7 @@ held_last_bytes t height h read first e = elim (leb_tells height (length read)) 
       ap (λ n. held_suffix t (drop n read)) none
 ]
 
-module _ (t : Tree) (slot_of : List ℕ → ℕ) (states : List State) (h : IsAutomaton t slot_of states) where
+module _ (t : Tree) (slot_of : List ℕ → ℕ) (states : List State) (keys : List ListedKey) (h : IsAutomaton t slot_of states keys) where
   -- a step can be taken from the longest suffix of what was read
   pub step_behind : (read : List ℕ) (state : ℕ) → state ≡ slot_of (held_suffix t read) → IsStepFrom t slot_of states state
   step_behind read state at = record {
@@ -125,27 +127,26 @@ module _ (t : Tree) (slot_of : List ℕ → ℕ) (states : List State) (h : IsAu
     abbrev pub first : Cursor
     first = record { place = place; state = state; pending = 0 }
 
-    none : pending_key states (read_of [] text first) 0 ≡ []
-    none = no_key_yet t slot_of states h (read_of [] text first)
+    pub cursor_behind : IsCursor t slot_of keys [] text first
+    cursor_behind = record { within = within; state = at; pending = h.listed.some; short = none_short (length (held_suffix t (take place text))) keys }
 
-    pub cursor_behind : IsCursor t slot_of states [] text first
-    cursor_behind = record {
-      within = within;
-      state = at;
-      pending = sym h.placing.root ∙ ap slot_of (sym none);
-      node = ap (is_node t) none;
-      key = ap (key_suffix t) none ∙ sym none;
-    }
+    pub left_behind : all_left t keys [] 0 text first ≡ ending_behind t place text
+    left_behind = let begin : 0 + place ≡ place = omega arith in ap (λ n. all_ending t (take place text) n (drop place text)) begin
 
-    pub left_behind : all_left t states [] 0 text first ≡ ending_behind t place text
-    left_behind =
-        let begin : 0 + place ≡ place = omega arith in
-        ap (λ w. map (occurrence_ending (0 + place)) (keys_ending t w) ++ all_ending t (take place text) (0 + place) (drop place text)) none
-        ∙ ap (λ n. all_ending t (take place text) n (drop place text)) begin
+    long_behind : length (path_in t states state) ≡ length (held_suffix t (take place text))
+    long_behind = ap (λ s. length (path_in t states s)) at ∙ path_long t slot_of states h.placing h.goto (held_suffix t (take place text)) (held_is_node t (take place text))
 
-    pub steps_behind : steps_left states text first ≤ place + 2 * (length text - place)
+    pub steps_behind : steps_left t states text first ≤ place + 2 * (length text - place)
     steps_behind =
-        let deep : (state_at states state).depth ≡ length (held_suffix t (take place text)) = ap (λ s. (state_at states s).depth) at ∙ h.goto.depth (held_suffix t (take place text)) (held_is_node t (take place text)) in
+        let long = long_behind in
         let short = held_shorter t (take place text) in
         let most = length-take place text in
-        omega (arith, deep, short, most)
+        omega (arith, long, short, most)
+
+    -- where no byte was read, no more than two for each are to come
+    pub steps_at_first : place ≡ 0 → steps_left t states text first ≡ 2 * length text
+    steps_at_first none =
+        let long = long_behind in
+        let short = held_shorter t (take place text) in
+        let most = length-take place text in
+        omega (arith, long, short, most, none)

@@ -2,8 +2,9 @@
 use Rattle.std.proofs.Common.{◌≡◌, ℕ, ◌+◌, ◌<◌, ◌≤◌, true, false, cond, List, [], ◌∷◌, ◌++◌, length, length-append, Some, None, refl, sym, ap, subst, ◌∙◌, arith}
 use Rattle.cedar_tree.specs.Tree.{Tree}
 use Rattle.cedar_scan.specs.declared.state.State.{State}
-use Rattle.cedar_scan.specs.Automata.{child_in, IsLinked, IsStepFrom, state_at}
+use Rattle.cedar_scan.specs.Automata.{child_in, IsLinked, IsStepFrom, path_in, state_at}
 use Rattle.cedar_scan.specs.Suffixes.{failure, held_suffix, is_node}
+use Rattle.cedar_scan.proofs.PathLemmas.{path_long}
 use Rattle.cedar_scan.proofs.SuffixLemmas.{held_by_failure, held_is_node, held_of_node, held_of_other, held_shorter}
 
 -- a step from the path u by a label has come to a slot by failure links
@@ -40,8 +41,8 @@ module _ (t : Tree) (slot_of : List ℕ → ℕ) (states : List State) (from lab
     pub way_inside : slot < length states
     way_inside = subst (λ s. s < length states) (sym way.at) (h.goto.within way.path way.node)
 
-    pub way_depth : (state_at states slot).depth ≡ length way.path
-    way_depth = ap (λ s. (state_at states s).depth) way.at ∙ h.goto.depth way.path way.node
+    way_long : length (path_in t states slot) ≡ length way.path
+    way_long = ap (λ s. length (path_in t states s)) way.at ∙ path_long t slot_of states h.placing h.goto way.path way.node
 
     -- there is a child
     pub found : (child : ℕ) → child_in states slot label ≡ Some child → is_node t (way.path ++ label ∷ []) ≡ true
@@ -108,7 +109,7 @@ module _ (t : Tree) (slot_of : List ℕ → ℕ) (states : List State) (from lab
 
   pub goes_on : (slot : ℕ) (way : IsOnWay t slot_of u label slot before after) → (slot ≡ 0 → ⊥) → child_in states slot label ≡ None → (to later : ℕ) → to ≡ (state_at states slot).failure → later ≡ after + 1 → IsOnWay t slot_of u label to before later
   goes_on slot way other is to later next one =
-      further slot way.path way.node way.at other way.shorter way.same way.cost (missing slot way is) to later (next ∙ ap (λ s. (state_at states s).failure) way.at ∙ (linked slot way).failure) one
+      further slot way.path way.node way.at other way.shorter way.same way.cost (missing slot way is) to later (next ∙ ap (λ s. (state_at states s).failure) way.at ∙ linked slot way) one
 
   failure_less : (path : List ℕ) → (slot_of path ≡ 0 → ⊥) → length (failure t path) < length path
   failure_less [] other = absurd (other h.placing.root)
@@ -118,10 +119,10 @@ module _ (t : Tree) (slot_of : List ℕ → ℕ) (states : List State) (from lab
   failure_node [] = refl
   failure_node (c ∷ w) = held_is_node t w
 
-  pub goes_down : (slot : ℕ) (way : IsOnWay t slot_of u label slot before after) → (slot ≡ 0 → ⊥) → (to : ℕ) → to ≡ (state_at states slot).failure → (state_at states to).depth < (state_at states slot).depth
+  pub goes_down : (slot : ℕ) (way : IsOnWay t slot_of u label slot before after) → (slot ≡ 0 → ⊥) → (to : ℕ) → to ≡ (state_at states slot).failure → length (path_in t states to) < length (path_in t states slot)
   goes_down slot way other to next =
-      let there : to ≡ slot_of (failure t way.path) = next ∙ ap (λ s. (state_at states s).failure) way.at ∙ (linked slot way).failure in
-      let deep : (state_at states to).depth ≡ length (failure t way.path) = ap (λ s. (state_at states s).depth) there ∙ h.goto.depth (failure t way.path) (failure_node way.path) in
-      let here = way_depth slot way in
+      let there : to ≡ slot_of (failure t way.path) = next ∙ ap (λ s. (state_at states s).failure) way.at ∙ linked slot way in
+      let deep : length (path_in t states to) ≡ length (failure t way.path) = ap (λ s. length (path_in t states s)) there ∙ path_long t slot_of states h.placing h.goto (failure t way.path) (failure_node way.path) in
+      let here = way_long slot way in
       let less = failure_less way.path (λ z. other (way.at ∙ z)) in
       omega (arith, deep, here, less)

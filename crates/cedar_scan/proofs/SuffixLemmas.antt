@@ -1,10 +1,11 @@
 -- What a node's suffixes are, and how they go on by one byte.
-use Rattle.std.proofs.Common.{◌≡◌, ℕ, ◌+◌, ◌≤◌, true, false, cond, ◌&&◌, ℤ, List, [], ◌∷◌, ◌++◌, length, map, Some, None, option_map, is_some, refl, sym, ap, ◌∙◌, arith}
-use Rattle.std.specs.List.{cons_option}
+use Rattle.std.proofs.Common.{◌≡◌, ℕ, ◌+◌, ◌≤◌, true, false, cond, ◌&&◌, ℤ, List, [], ◌∷◌, ◌++◌, length, map, Some, None, option_map, refl, sym, ap, ◌∙◌, arith}
+use Rattle.std.specs.List.{All, cons_option}
 use Rattle.std.proofs.lemmas.Bool.{true≢false}
+use Rattle.std.proofs.lemmas.List.Elements.{All-cons, All-nil}
 use Rattle.cedar_tree.specs.Tree.{Tree, has_label, subtree, number_at}
 use Rattle.cedar_tree.proofs.TreeLemmas.{number_at-empty, subtree_absent}
-use Rattle.cedar_scan.specs.Suffixes.{failure, held_suffix, is_node, key_suffix, keys_ending, Occurrence, occurrence_ending, all_ending}
+use Rattle.cedar_scan.specs.Suffixes.{failure, held_suffix, is_node, keys_ending, Occurrence, occurrence_ending, all_ending}
 
 -- a front of a path to a node leads to a node
 pub node_front : (t : Tree) (w v : List ℕ) → is_node t (w ++ v) ≡ true → is_node t w ≡ true
@@ -31,16 +32,6 @@ no_node_no_number t (l ∷ w) h =
       | true ↦ λ e k. no_node_no_number (subtree t.children l) w k
       | false ↦ λ e k. ap (λ u. number_at u w) (subtree_absent t.children l e) ∙ number_at-empty w
     ]) refl h
-
-some_not_none : (v : ℤ) → Some v ≡ None → ⊥
-some_not_none v e = absurd (cc)
-
-pub number_is_node : (t : Tree) (w : List ℕ) (v : ℤ) → number_at t w ≡ Some v → is_node t w ≡ true
-number_is_node t w v h =
-    (elim (is_node t w) as (λ b. is_node t w ≡ b → b ≡ true) [
-      | true ↦ λ _. refl
-      | false ↦ λ e. absurd (some_not_none v (sym h ∙ no_node_no_number t w e))
-    ]) refl
 
 -- the longest suffix that leads to a node does so
 pub held_is_node : (t : Tree) (w : List ℕ) → is_node t (held_suffix t w) ≡ true
@@ -98,52 +89,14 @@ keys_of_held t (b ∷ w) =
       | false ↦ λ e. keys_of_other t b w (no_node_no_number t (b ∷ w) e) ∙ keys_of_held t w
     ]) refl
 
-pub key_of_other : (t : Tree) (b : ℕ) (w : List ℕ) → number_at t (b ∷ w) ≡ None → key_suffix t (b ∷ w) ≡ key_suffix t w
-key_of_other t b w h = ap (λ n. cond (is_some n) (b ∷ w) (key_suffix t w)) h
-
-pub key_of_key : (t : Tree) (b : ℕ) (w : List ℕ) (v : ℤ) → number_at t (b ∷ w) ≡ Some v → key_suffix t (b ∷ w) ≡ b ∷ w
-key_of_key t b w v h = ap (λ n. cond (is_some n) (b ∷ w) (key_suffix t w)) h
-
-pub key_of_held : (t : Tree) (w : List ℕ) → key_suffix t w ≡ key_suffix t (held_suffix t w)
-key_of_held t [] = refl
-key_of_held t (b ∷ w) =
-    (elim (is_node t (b ∷ w)) as (λ x. is_node t (b ∷ w) ≡ x → key_suffix t (b ∷ w) ≡ key_suffix t (cond x (b ∷ w) (held_suffix t w))) [
-      | true ↦ λ e. refl
-      | false ↦ λ e. key_of_other t b w (no_node_no_number t (b ∷ w) e) ∙ key_of_held t w
-    ]) refl
-
--- and those end where the longest key does
-pub keys_of_key_suffix : (t : Tree) (w : List ℕ) → keys_ending t w ≡ keys_ending t (key_suffix t w)
-keys_of_key_suffix t [] = refl
-keys_of_key_suffix t (b ∷ w) =
-    (elim (number_at t (b ∷ w)) as (λ n. number_at t (b ∷ w) ≡ n → keys_ending t (b ∷ w) ≡ keys_ending t (cond (is_some n) (b ∷ w) (key_suffix t w))) [
-      | None ↦ λ e. keys_of_other t b w e ∙ keys_of_key_suffix t w
-      | Some v ↦ λ e. refl
-    ]) refl
-
--- the longest key that ends where a text does is a key, unless it has no byte
-pub key_suffix_held : (t : Tree) (w : List ℕ) (b : ℕ) (u : List ℕ) → key_suffix t w ≡ b ∷ u → (v : ℤ) × (number_at t (b ∷ u) ≡ Some v)
-key_suffix_held t [] b u h = absurd (cc)
-key_suffix_held t (c ∷ w) b u h =
-    (elim (number_at t (c ∷ w)) as (λ n. number_at t (c ∷ w) ≡ n → cond (is_some n) (c ∷ w) (key_suffix t w) ≡ b ∷ u → (v : ℤ) × (number_at t (b ∷ u) ≡ Some v)) [
-      | None ↦ λ e k. key_suffix_held t w b u k
-      | Some v ↦ λ e k. (v, ap (number_at t) (sym k) ∙ e)
-    ]) refl h
-
-pub key_suffix_is_node : (t : Tree) (w : List ℕ) → is_node t (key_suffix t w) ≡ true
-key_suffix_is_node t [] = refl
-key_suffix_is_node t (b ∷ w) =
-    (elim (number_at t (b ∷ w)) as (λ n. number_at t (b ∷ w) ≡ n → is_node t (cond (is_some n) (b ∷ w) (key_suffix t w)) ≡ true) [
-      | None ↦ λ e. key_suffix_is_node t w
-      | Some v ↦ λ e. number_is_node t (b ∷ w) v e
-    ]) refl
-
-pub key_suffix_shorter : (t : Tree) (w : List ℕ) → length (key_suffix t w) ≤ length w
-key_suffix_shorter t [] = omega arith
-key_suffix_shorter t (b ∷ w) =
-    (elim (is_some (number_at t (b ∷ w))) as (λ x. length (cond x (b ∷ w) (key_suffix t w)) ≤ length (b ∷ w)) [
-      | true ↦ omega arith
-      | false ↦ let h = key_suffix_shorter t w in omega (arith, h)
+-- and none has more bytes than the text
+pub keys_short : (t : Tree) (w : List ℕ) → All (λ (found : ℤ × ℕ). found.1 ≤ length w) (keys_ending t w)
+keys_short t [] = All-nil (λ (found : ℤ × ℕ). found.1 ≤ 0)
+keys_short t (b ∷ w) =
+    let later : All (λ (found : ℤ × ℕ). found.1 ≤ length (b ∷ w)) (keys_ending t w) = λ k d less. let low = keys_short t w k d less in omega (arith, low) in
+    (elim (number_at t (b ∷ w)) as (λ n. All (λ (found : ℤ × ℕ). found.1 ≤ length (b ∷ w)) (cons_option (option_map (λ (v : ℤ). (v, length (b ∷ w))) n) (keys_ending t w))) [
+      | None ↦ later
+      | Some v ↦ All-cons (λ (found : ℤ × ℕ). found.1 ≤ length (b ∷ w)) (v, length (b ∷ w)) (keys_ending t w) (omega arith) later
     ])
 
 -- ---- texts

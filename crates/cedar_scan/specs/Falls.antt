@@ -20,7 +20,7 @@ pops_of fall popped = map popped_key (take (fall.last - fall.first) (drop fall.f
 
 -- the fall of the node in a slot, and one to the root past the end
 abbrev pub fall_at : List Fall → ℕ → Fall
-fall_at falls s = slice_index_or falls s (record { to = 0; first = 0; last = 0 })
+fall_at falls s = slice_index_or falls s (record { to = 0; first = 0; last = 0; depth = 0 })
 
 -- the keys of a fall are put behind those of other falls
 pub record AddsPopped (old : List Popped) (pops : List Spot) (new : List Popped) : Type 0 where
@@ -34,6 +34,7 @@ pub record HasFall (t : Tree) (slot_of : List ℕ → ℕ) (falls : List Fall) (
   pub to : (fall_at falls (slot_of w)).to ≡ slot_of rest
   pub range : (fall_at falls (slot_of w)).first ≤ (fall_at falls (slot_of w)).last
   pub inside : (fall_at falls (slot_of w)).last ≤ length popped
+  pub depth : (fall_at falls (slot_of w)).depth ≡ length w
   pub fall : IsFall t w (pops_of (fall_at falls (slot_of w)) popped) rest
 
 -- each node below the root has its fall

@@ -5,7 +5,7 @@ use Rattle.std.specs.Coded.{Coded, code_by, coded×, coded_ℕ, coded_ℤ, coded
 use Rattle.std.proofs.Common.{refl}
 use Rattle.cedar_tree.specs.Tree.{Tree}
 use Rattle.cedar_words.specs.Spots.{keywords_from, Spot}
-use Rattle.cedar_scan.specs.Automata.{child_in, IsGoto, IsPlacing, state_at}
+use Rattle.cedar_scan.specs.Automata.{child_in, IsGoto, IsPlacing, path_in}
 use Rattle.cedar_scan.specs.Falls.{AreFalls, popped_key}
 use Rattle.cedar_scan.specs.Leftmost.{popped_at}
 use Rattle.cedar_scan.specs.Scans.{last_of}
@@ -27,8 +27,8 @@ abbrev pub pending_of : List Popped → KeywordCursor → List Spot
 pending_of popped cursor = map popped_key (take (cursor.last - cursor.next) (drop cursor.next popped))
 
 -- the path of the node that a search is at: the last bytes that it has read
-abbrev pub read_path : List State → List ℕ → KeywordCursor → List ℕ
-read_path states text cursor = last_of (state_at states cursor.slot).depth (take cursor.place text)
+abbrev pub read_path : Tree → List State → List ℕ → KeywordCursor → List ℕ
+read_path t states text cursor = last_of (length (path_in t states cursor.slot)) (take cursor.place text)
 
 -- where a search for keywords is: at the node that the last bytes it has read lead to, with the keys of a fall that it has still to give
 pub record IsKeywordCursor (t : Tree) (slot_of : List ℕ → ℕ) (states : List State) (popped : List Popped) (text : List ℕ) (cursor : KeywordCursor) : Type 0 where
@@ -46,11 +46,11 @@ pub record IsKeywordCursor (t : Tree) (slot_of : List ℕ → ℕ) (states : Lis
 abbrev pub keywords_left : Tree → List State → List Popped → List ℕ → KeywordCursor → List Spot
 keywords_left t states popped text cursor =
     map (popped_at cursor.base) (pending_of popped cursor)
-    ++ keywords_from t (cursor.place - (state_at states cursor.slot).depth) (read_path states text cursor ++ drop cursor.place text)
+    ++ keywords_from t (cursor.place - length (path_in t states cursor.slot)) (read_path t states text cursor ++ drop cursor.place text)
 
 -- how many steps of a search are still to come at most
-abbrev pub tests_left : List State → List ℕ → KeywordCursor → ℕ
-tests_left states text cursor = (state_at states cursor.slot).depth + 2 * (length text - cursor.place)
+abbrev pub tests_left : Tree → List State → List ℕ → KeywordCursor → ℕ
+tests_left t states text cursor = length (path_in t states cursor.slot) + 2 * (length text - cursor.place)
 
 -- the node that a search is at has no child under the next byte, or no byte is left
 abbrev pub CantGoOn : List State → List ℕ → KeywordCursor → Type 0
@@ -60,8 +60,8 @@ CantGoOn states text cursor = (length text ≤ cursor.place) ⊎ ((cursor.place 
 pub record ScansOn (t : Tree) (slot_of : List ℕ → ℕ) (states : List State) (popped : List Popped) (text : List ℕ) (old new : KeywordCursor) (before after : ℕ) : Type 0 where
   pub cursor : IsKeywordCursor t slot_of states popped text new
   pub keywords : keywords_left t states popped text old ≡ keywords_left t states popped text new
-  pub fewer : tests_left states text new < tests_left states text old
-  pub cost : after + tests_left states text new ≤ before + tests_left states text old
+  pub fewer : tests_left t states text new < tests_left t states text old
+  pub cost : after + tests_left t states text new ≤ before + tests_left t states text old
 
 -- a search goes on (`ScansOn`), or it has nothing left
 abbrev pub ScansOnOrEnds : Tree → (List ℕ → ℕ) → List State → List Popped → List ℕ → KeywordCursor → Bool → KeywordCursor → ℕ → ℕ → Type 0

@@ -1,9 +1,11 @@
 pub mod Automata
+pub mod Counts
 pub mod Earliest
 pub mod Falls
 pub mod Keywords
 pub mod Laws
 pub mod Leftmost
+pub mod Listed
 pub mod Places
 pub mod Plain
 pub mod Preferred

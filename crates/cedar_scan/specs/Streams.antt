@@ -1,25 +1,17 @@
 -- A text that comes in pieces.
-use Rattle.std.specs.Prelude.{◌≡◌, ℕ, zero, suc, ◌+◌, ◌-◌, ◌*◌, ◌≤◌, ℤ, List, [], ◌∷◌, ◌++◌, length, bit_xor, drop, map}
+use Rattle.std.specs.Prelude.{◌≡◌, ℕ, ◌+◌, ◌-◌, ◌*◌, ◌<◌, ◌≤◌, ℤ, List, [], ◌∷◌, ◌++◌, length, drop, map}
 use Rattle.std.specs.Prelude.{if◌then◌else◌, is_some, Option, MatchOption, true}
 use Rattle.std.specs.Coded.{Coded, code_by, coded×, coded_ℕ, coded_ℤ, coded_list}
+use Rattle.std.specs.List.{All}
 use Rattle.std.proofs.Common.{refl}
 use Rattle.cedar_tree.specs.Stored.{coded_tree}
 use Rattle.cedar_tree.specs.Tree.{Tree}
-use Rattle.cedar_tree.specs.Walks.{forwards}
-use Rattle.cedar_scan.specs.Automata.{IsAutomaton, state_at}
-use Rattle.cedar_scan.specs.Scans.{last_of}
-use Rattle.cedar_scan.specs.Suffixes.{held_suffix, is_node, key_suffix, Occurrence}
+use Rattle.cedar_scan.specs.Automata.{IsAutomaton}
+use Rattle.cedar_scan.specs.Listed.{keys_from}
+use Rattle.cedar_scan.specs.Suffixes.{held_suffix, is_node, Occurrence}
 use Rattle.cedar_scan.specs.Suffixes.{occurrence_ending, all_ending}
+use Rattle.cedar_scan.specs.declared.state.ListedKey.{ListedKey}
 use Rattle.cedar_scan.specs.declared.state.State.{State}
-
--- the last n labels on the way to a slot, from the last one to the first
-abbrev pub path_up : ℕ → List State → ℕ → List ℕ
-path_up zero states s = []
-path_up (suc n) states s = bit_xor (state_at states (state_at states s).owner).base s ∷ path_up n states (state_at states s).owner
-
--- the path to the node in a slot
-abbrev pub path_in : List State → ℕ → List ℕ
-path_in states s = forwards (path_up (state_at states s).depth states s)
 
 -- a scan between two keys: its tree, the longest suffix of the text so far that leads to a node, the keys that end here and are still to
 -- be given, how many bytes of the present piece were read, and how many of the text
@@ -42,18 +34,14 @@ stream_code =
 abbrev pub left_in : StreamAt → List ℕ → List Occurrence
 left_in at piece = map (occurrence_ending at.place) at.pending ++ all_ending at.tree at.suffix at.place (drop at.read piece)
 
--- the slots of a scan between two keys
-pub record IsStream (t : Tree) (slot_of : List ℕ → ℕ) (states : List State) (slot waiting position : ℕ) : Type 0 where
-  pub automaton : IsAutomaton t slot_of states
+-- where a scan between two keys is: the slot of the suffix that it stands for, and the index of the first key that is still to be given
+pub record IsStream (t : Tree) (slot_of : List ℕ → ℕ) (states : List State) (keys : List ListedKey) (slot waiting position : ℕ) : Type 0 where
+  pub automaton : IsAutomaton t slot_of states keys
   pub suffix : List ℕ
   pub node : is_node t suffix ≡ true
   pub at : slot ≡ slot_of suffix
-  pub key : List ℕ
-  pub key_node : is_node t key ≡ true
-  pub pending : waiting ≡ slot_of key
-  pub key_itself : key_suffix t key ≡ key
-  pub last : key ≡ last_of (length key) suffix
-  pub short : length key ≤ length suffix
+  pub pending : waiting < length keys
+  pub short : All (λ (found : ℤ × ℕ). found.1 ≤ length suffix) (keys_from keys waiting)
   pub within : length suffix ≤ position
 
 -- no key is left in a piece: a scan has read it, and is before the next one

@@ -1,6 +1,6 @@
 -- Suffixes of a text that lead to nodes of a tree, and those that are keys.
 use Rattle.std.specs.Prelude.{ℕ, ◌+◌, ◌-◌, Bool, true, ◌&&◌, if◌then◌else◌, ℤ, List, []}
-use Rattle.std.specs.Prelude.{◌∷◌, ◌++◌, length, map, option_map, is_some}
+use Rattle.std.specs.Prelude.{◌∷◌, ◌++◌, length, map, option_map}
 use Rattle.std.specs.List.{cons_option}
 use Rattle.cedar_tree.specs.Tree.{has_label, number_at, subtree, Tree}
 
@@ -18,11 +18,6 @@ held_suffix t (b ∷ text) = if is_node t (b ∷ text) then b ∷ text else held
 abbrev pub failure : Tree → List ℕ → List ℕ
 failure t [] = []
 failure t (b ∷ path) = held_suffix t path
-
--- the longest suffix that is a key, and no byte where none is
-abbrev pub key_suffix : Tree → List ℕ → List ℕ
-key_suffix t [] = []
-key_suffix t (b ∷ text) = if is_some (number_at t (b ∷ text)) then b ∷ text else key_suffix t text
 
 -- the keys that end where a text does, the longest first: for each its number, and how many bytes it has
 abbrev pub keys_ending : Tree → List ℕ → List (ℤ × ℕ)

@@ -1,8 +1,8 @@
 -- The words that the clauses cite, from one place.
 pub use Rattle.cedar_scan.specs.Automata.{AreByDepth, AreLaid, AreLinkedFirst, AreNodes, AreSlotsWithin}
-pub use Rattle.cedar_scan.specs.Automata.{blank, CanLink, child_in, FailsTo, IsAutomaton}
-pub use Rattle.cedar_scan.specs.Automata.{IsGoto, IsLinked, IsPlacing, IsStepFrom, GetsLinks, may_have, slot_of_path}
-pub use Rattle.cedar_scan.specs.Automata.{GoesToSuffix, state_at, StepsWithin, with_node}
+pub use Rattle.cedar_scan.specs.Automata.{blank, CanLink, CanListKey, child_in, FailsTo, IsAutomaton}
+pub use Rattle.cedar_scan.specs.Automata.{IsGoto, IsLinked, IsPlacing, IsStepFrom, GetsLinks, may_have, path_in}
+pub use Rattle.cedar_scan.specs.Automata.{GoesToSuffix, slot_of_path, state_at, StepsWithin, with_node}
 pub use Rattle.cedar_scan.specs.Earliest.{CostsFirst, earliest, earliest_from, GivesEarliest}
 pub use Rattle.cedar_scan.specs.Falls.{AddsFall, AddsPopped, AreFalls, CanFall, FallsTo, pops_of}
 pub use Rattle.cedar_scan.specs.Keywords.{CantGoOn, IsKeywordAutomaton, IsKeywordCursor}
@@ -10,6 +10,7 @@ pub use Rattle.cedar_scan.specs.Keywords.{keyword_code, keywords_left, KeywordsL
 pub use Rattle.cedar_scan.specs.Keywords.{ScansOn, ScansOnOrEnds, tests_left}
 pub use Rattle.cedar_scan.specs.Laws.{AreByEnd, IsLongestHeld, PiecesJoin}
 pub use Rattle.cedar_scan.specs.Leftmost.{popped_at}
+pub use Rattle.cedar_scan.specs.Listed.{keys_from, ListsKey, no_key}
 pub use Rattle.cedar_scan.specs.Places.{ArePlacedAnew, ArePutAnew, IsPutAnew, placed_by, placed_node}
 pub use Rattle.cedar_scan.specs.Plain.{all_beginning, OccursIn}
 pub use Rattle.cedar_scan.specs.Preferred.{first_node, first_tree, FirstIsLongestLeft, if_less}
@@ -18,9 +19,8 @@ pub use Rattle.cedar_scan.specs.Resumed.{earliest_behind, ending_behind, IsHeigh
 pub use Rattle.cedar_scan.specs.Scanners.{LeftmostKeys, leftmost_code}
 pub use Rattle.cedar_scan.specs.Scans.{all_left, CostsNext, CostsStep, GivesNextFound, GivesPending}
 pub use Rattle.cedar_scan.specs.Scans.{GoesOnByByte, IsCursor, steps_left}
-pub use Rattle.cedar_scan.specs.Streams.{CostsInPiece, IsStream, NextInPiece, path_in, stream_code}
-pub use Rattle.cedar_scan.specs.Streams.{StreamAt}
-pub use Rattle.cedar_scan.specs.Suffixes.{failure, held_suffix, is_node, key_suffix, keys_ending}
+pub use Rattle.cedar_scan.specs.Streams.{CostsInPiece, IsStream, NextInPiece, stream_code, StreamAt}
+pub use Rattle.cedar_scan.specs.Suffixes.{failure, held_suffix, is_node, keys_ending}
 pub use Rattle.cedar_scan.specs.Suffixes.{overlapping, Occurrence, all_ending}
 pub use Rattle.cedar_scan.specs.Tables.{slot_in}
 pub use Rattle.cedar_scan.specs.Walks.{scan_code, ScanLeft}

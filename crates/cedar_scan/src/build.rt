@@ -1,21 +1,22 @@
 //! The automaton of a dictionary, made of the list of its nodes: first each node gets its place, then its links, the shorter paths first.
 
-ghost use Rattle.std.specs.Prelude.{◌<◌, ◌^◌, ◌≡◌, ◌≤◌, IfOk, length, ℕ};
+ghost use Rattle.std.specs.Prelude.{◌<◌, ◌∷◌, ◌^◌, ◌≡◌, ◌≤◌, [], IfOk, length, ℕ};
 ghost use Rattle.cedar_scan.specs.Words.{AreByDepth, AreLaid, AreLinkedFirst, AreNodes};
-ghost use Rattle.cedar_scan.specs.Words.{AreSlotsWithin, blank, CanLink, FailsTo, GetsLinks};
-ghost use Rattle.cedar_scan.specs.Words.{IsAutomaton, IsBlankOf, IsGoto, IsPlacing, placed_by};
-ghost use Rattle.cedar_scan.specs.Words.{slot_of_path, state_at, with_node};
+ghost use Rattle.cedar_scan.specs.Words.{AreSlotsWithin, blank, CanLink, CanListKey, FailsTo};
+ghost use Rattle.cedar_scan.specs.Words.{GetsLinks, IsAutomaton, IsBlankOf, IsGoto, IsPlacing};
+ghost use Rattle.cedar_scan.specs.Words.{ListsKey, no_key, placed_by, slot_of_path, state_at};
+ghost use Rattle.cedar_scan.specs.Words.{with_node};
 
 use crate::placed::Placed;
 use crate::places::nodes_anew;
-use crate::state::{BLANK, PlacedNode, State};
+use crate::state::{BLANK, ListedKey, NO_KEY, PlacedNode, State};
 use crate::step::step;
 use cedar_slots::Ticks;
 use std::alloc::{AllocError, Allocator};
 use std::marker::Brand;
 use std::sync::ledger::{Blank, Ledger};
 
-/// Writes where a node is: below the one above it, and what is read in its own slot.
+/// Writes where a node is: below the one above it, and in its own slot which one that is.
 fn place_node(states: &mut [State], node: PlacedNode)
     requires parent { node.parent < length states.old }
     requires slot { node.slot < length states.old }
@@ -26,8 +27,6 @@ fn place_node(states: &mut [State], node: PlacedNode)
     above.labels |= 1 << (u32::from(node.label) % 32);
     let state = &mut states[node.slot as usize];
     state.owner = node.parent;
-    state.depth = node.depth;
-    state.value = node.number.unwrap_or(0);
 }
 
 /// Gives each node its place.
@@ -67,45 +66,71 @@ fn failure_of<T: Placed, C: Ledger>(
     step(trie, states, above, node.label, ticks)
 }
 
-/// Writes the links of a node.
-fn link_node<T: Placed, C: Ledger>(
+/// Lists the key that a node is, if it is one, which goes on with the longest one that is shorter. Returns the index of the longest key that
+/// ends where the node's path does.
+fn list_key<A: Allocator>(
+    keys: &mut Vec<ListedKey, A>,
+    node: PlacedNode,
+    shorter: u32,
+) -> Result<u32, AllocError>
+    ensures { IfOk result (λ index. ListsKey node shorter keys.old.items index keys.new.items) }
+{
+    let Some(value) = node.number else {
+        return Ok(shorter);
+    };
+    // There are fewer than 2^30 nodes.
+    let Ok(index) = u32::try_from(keys.len()) else {
+        return Err(AllocError);
+    };
+    keys.push(ListedKey {
+        len: node.depth,
+        value,
+        next: shorter,
+    })?;
+    Ok(index)
+}
+
+/// Writes the links of a node, and lists the key that it is, if it is one.
+fn link_node<T: Placed, C: Ledger, A: Allocator>(
     trie: &T,
     places: &[u32],
     states: &mut [State],
+    keys: &mut Vec<ListedKey, A>,
     node: PlacedNode,
     ticks: &mut Ticks<C>,
-)
-    requires { CanLink (T.tree trie.now) (placed_by places.now (T.slot_of trie.now)) states.old node }
-    ensures { GetsLinks (T.tree trie.now) (placed_by places.now (T.slot_of trie.now)) node states.old states.new }
+) -> Result<(), AllocError>
+    requires can { CanLink (T.tree trie.now) (placed_by places.now (T.slot_of trie.now)) states.old node }
+    requires listed { CanListKey (T.tree trie.now) (placed_by places.now (T.slot_of trie.now)) states.old keys.old.items node }
+    ensures { IfOk result (λ _. GetsLinks (T.tree trie.now) (placed_by places.now (T.slot_of trie.now)) node states.old keys.old.items states.new keys.new.items) }
 {
     let failure = failure_of(trie, places, states, node, ticks);
-    let output = if node.number.is_some() {
-        node.slot
-    } else {
-        states[failure].output
-    };
+    let shorter = states[failure].output;
+    let output = list_key(keys, node, shorter)?;
     let state = &mut states[node.slot as usize];
     state.failure = failure as u32;
     state.output = output;
+    Ok(())
 }
 
 /// Gives each node its links: the nodes with shorter paths have theirs by then.
-fn link_nodes<T: Placed, C: Ledger>(
+fn link_nodes<T: Placed, C: Ledger, A: Allocator>(
     trie: &T,
     places: &[u32],
     nodes: &[PlacedNode],
     states: &mut [State],
+    keys: &mut Vec<ListedKey, A>,
     ticks: &mut Ticks<C>,
-)
+) -> Result<(), AllocError>
     requires placed { IsPlacing (T.tree trie.now) (placed_by places.now (T.slot_of trie.now)) }
     requires nodes { AreNodes (T.tree trie.now) (placed_by places.now (T.slot_of trie.now)) nodes.now }
     requires sorted { AreByDepth nodes.now }
-    requires first { AreLinkedFirst (T.tree trie.now) (placed_by places.now (T.slot_of trie.now)) nodes.now 0 states.old }
-    ensures { IsAutomaton (T.tree trie.now) (placed_by places.now (T.slot_of trie.now)) states.new }
+    requires first { AreLinkedFirst (T.tree trie.now) (placed_by places.now (T.slot_of trie.now)) nodes.now 0 states.old keys.old.items }
+    ensures { IfOk result (λ _. IsAutomaton (T.tree trie.now) (placed_by places.now (T.slot_of trie.now)) states.new keys.new.items) }
 {
     for node in nodes {
-        link_node(trie, places, states, *node, ticks);
+        link_node(trie, places, states, keys, *node, ticks)?;
     }
+    Ok(())
 }
 
 /// Returns how many slots there are up to the last one of a node.
@@ -124,30 +149,60 @@ pub(crate) fn slots_of(nodes: &[PlacedNode]) -> usize
     slots
 }
 
+/// The parts of an automaton.
+#[derive(Drop)]
+pub(crate) struct ScanParts<A: Allocator> {
+    /// What is read of each node, by its slot.
+    pub(crate) states: Vec<State, A>,
+    /// The keys, by the indices that the states have.
+    pub(crate) keys: Vec<ListedKey, A>,
+}
+
+/// Begins the list of keys: nothing is at index 0. There is room for each key of some nodes.
+fn begin_keys<A: Allocator>(nodes: &[PlacedNode], alloc: A) -> Result<Vec<ListedKey, A>, AllocError>
+    ensures { IfOk result (λ keys. keys.items ≡ no_key ∷ []) }
+{
+    let mut room: usize = 1;
+    for node in nodes {
+        room = room.saturating_add(usize::from(node.number.is_some()));
+    }
+    let mut keys = Vec::with_capacity(alloc, room)?;
+    keys.push(NO_KEY)?;
+    Ok(keys)
+}
+
 /// Makes the automaton of a dictionary, by a count of steps that nothing reads.
 fn build_with<T: Placed, C: Ledger, A: Allocator + Copy>(
     trie: &T,
     alloc: A,
     unread: Blank,
-) -> Result<Vec<State, A>, AllocError>
+) -> Result<ScanParts<A>, AllocError>
     requires { IsBlankOf C.name C.parts unread }
-    ensures { IfOk result (λ states. IsAutomaton (T.tree trie.now) (slot_of_path states.items) states.items) }
+    ensures { IfOk result (λ made. IsAutomaton (T.tree trie.now) (slot_of_path made.states.items) made.states.items made.keys.items) }
 {
     let placed = nodes_anew(trie, alloc)?;
     let mut states = vec![in alloc; BLANK; slots_of(&placed.nodes)]?;
     place_nodes(trie, &placed.places, &placed.nodes, &mut states);
+    let mut keys = begin_keys(&placed.nodes, alloc)?;
     let mut ticks = Ticks::<C>::new(unread);
-    link_nodes(trie, &placed.places, &placed.nodes, &mut states, &mut ticks);
-    Ok(states)
+    link_nodes(
+        trie,
+        &placed.places,
+        &placed.nodes,
+        &mut states,
+        &mut keys,
+        &mut ticks,
+    )?;
+    Ok(ScanParts { states, keys })
 }
 
-/// Makes the automaton of a dictionary: a state for each slot up to the last one of a node. It allocates these, and until it returns lists
-/// of the nodes and of their slots, and what a sort of the nodes needs.
+/// Makes the automaton of a dictionary: a state for each slot up to the last one of a node, and a list of the keys. It allocates these, and
+/// until it returns lists of the nodes and of their slots, and what a sort of the nodes needs.
 pub(crate) fn build<T: Placed, A: Allocator + Copy>(
     trie: &T,
     alloc: A,
-) -> Result<Vec<State, A>, AllocError>
-    ensures { IfOk result (λ states. IsAutomaton (T.tree trie.now) (slot_of_path states.items) states.items) }
+) -> Result<ScanParts<A>, AllocError>
+    ensures { IfOk result (λ made. IsAutomaton (T.tree trie.now) (slot_of_path made.states.items) made.states.items made.keys.items) }
 {
     build_with::<T, Brand, A>(trie, alloc, Blank::new(1))
 }

@@ -9,7 +9,7 @@ ghost use Rattle.cedar_scan.specs.Words.{YieldsFirst};
 
 use crate::placed::Placed;
 use crate::scan::{Cursor, FoundKey, read_byte, take_found};
-use crate::state::State;
+use crate::state::{ListedKey, State};
 use cedar_slots::Ticks;
 use std::alloc::AllocError;
 use std::iter::FusedIterator;
@@ -24,6 +24,7 @@ use std::sync::ledger::{Blank, Ledger};
 pub struct Earliest<'a, T: Placed> {
     trie: &'a T,
     states: &'a [State],
+    keys: &'a [ListedKey],
     // What is left of the text behind the last key, and where that begins.
     text: &'a [u8],
     offset: usize,
@@ -39,17 +40,18 @@ impl<'a, T: Placed> Model for Earliest<'a, T> {
       steps = 2 * length it.text.now;
     } };
 
-    ghost invariant = { λ it. IsAutomaton (T.tree it.trie.now) (slot_of_path it.states.now) it.states.now × (it.offset + length it.text.now < 2 ^ 64) };
+    ghost invariant = { λ it. IsAutomaton (T.tree it.trie.now) (slot_of_path it.states.now) it.states.now it.keys.now × (it.offset + length it.text.now < 2 ^ 64) };
 }
 
 /// Finds the key that ends first in a text, and where it ends.
 fn first_end<T: Placed, C: Ledger>(
     trie: &T,
     states: &[State],
+    keys: &[ListedKey],
     text: &[u8],
     ticks: &mut Ticks<C>,
 ) -> Option<(FoundKey, usize)>
-    requires { IsAutomaton (T.tree trie.now) (slot_of_path states.now) states.now }
+    requires { IsAutomaton (T.tree trie.now) (slot_of_path states.now) states.now keys.now }
     ensures gives { (offset : ℕ) → GivesEarliest (T.tree trie.now) offset text.now result }
     ensures cost { CostsFirst text.now result ticks.old ticks.new }
 {
@@ -59,9 +61,9 @@ fn first_end<T: Placed, C: Ledger>(
         pending: 0,
     };
     while cursor.place < text.len() {
-        read_byte(trie, states, text, &mut cursor, ticks);
+        read_byte(trie, states, keys, text, &mut cursor, ticks);
         if cursor.pending != 0 {
-            let found = take_found(trie, states, text, &mut cursor, ticks);
+            let found = take_found(trie, states, keys, text, &mut cursor, ticks);
             return Some((found, cursor.place));
         }
     }
@@ -70,22 +72,34 @@ fn first_end<T: Placed, C: Ledger>(
 
 impl<'a, T: Placed> Earliest<'a, T> {
     // Before the first byte of the text.
-    pub(crate) fn new(trie: &'a T, states: &'a [State], text: &'a [u8]) -> Self
-        requires { IsAutomaton (T.tree trie.now) (slot_of_path states.now) states.now }
+    pub(crate) fn new(
+        trie: &'a T,
+        states: &'a [State],
+        keys: &'a [ListedKey],
+        text: &'a [u8],
+    ) -> Self
+        requires { IsAutomaton (T.tree trie.now) (slot_of_path states.now) states.now keys.now }
         ensures rest { result.rest ≡ earliest (T.tree trie.now) text.now }
         ensures steps { result.steps ≡ 2 * length text.now }
     {
         Earliest {
             trie,
             states,
+            keys,
             text,
             offset: 0,
         }
     }
 
     // Before the byte at a position of the text.
-    pub(crate) fn behind(trie: &'a T, states: &'a [State], text: &'a [u8], place: usize) -> Self
-        requires { IsAutomaton (T.tree trie.now) (slot_of_path states.now) states.now }
+    pub(crate) fn behind(
+        trie: &'a T,
+        states: &'a [State],
+        keys: &'a [ListedKey],
+        text: &'a [u8],
+        place: usize,
+    ) -> Self
+        requires { IsAutomaton (T.tree trie.now) (slot_of_path states.now) states.now keys.now }
         ensures rest { result.rest ≡ earliest_behind (T.tree trie.now) place text.now }
         ensures steps { result.steps ≡ 2 * (length text.now - place) }
     {
@@ -93,6 +107,7 @@ impl<'a, T: Placed> Earliest<'a, T> {
         Earliest {
             trie,
             states,
+            keys,
             text: &text[offset..],
             offset,
         }
@@ -112,7 +127,8 @@ impl<'a, T: Placed> Earliest<'a, T> {
         //= It takes at most the steps that were to come less those that are then, and one for the item.
         ensures cost { ticks.new + self.new.steps ≤ ticks.old + self.old.steps + (if is_some result then 1 else 0) }
     {
-        let Some((found, end)) = first_end(self.trie, self.states, self.text, ticks) else {
+        let Some((found, end)) = first_end(self.trie, self.states, self.keys, self.text, ticks)
+        else {
             // Nothing is left.
             self.text = &self.text[..0];
             return None;
@@ -134,6 +150,7 @@ impl<'a, T: Placed> Clone for Earliest<'a, T> {
         Ok(Earliest {
             trie: self.trie,
             states: self.states,
+            keys: self.keys,
             text: self.text,
             offset: self.offset,
         })

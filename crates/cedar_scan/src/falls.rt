@@ -20,6 +20,8 @@ pub(crate) struct Fall {
     /// The keys that it gives, as the indices of the first and of the one behind the last.
     pub(crate) first: u32,
     pub(crate) last: u32,
+    /// How many bytes the node's path has.
+    pub(crate) depth: u32,
 }
 
 /// A fall to the root that gives nothing.
@@ -27,6 +29,7 @@ const NO_FALL: Fall = Fall {
     to: 0,
     first: 0,
     last: 0,
+    depth: 0,
 };
 
 /// A key that is given by a fall.
@@ -84,7 +87,7 @@ fn fall_on<T: Placed, A: Allocator>(
     let mut slot = node.parent as usize;
     loop {
         let fall = falls[slot];
-        copy_popped(popped, fall, front - states[slot].depth)?;
+        copy_popped(popped, fall, front - fall.depth)?;
         slot = fall.to as usize;
         if let Some(child) = child_of(states, slot, node.label) {
             return Ok(child);
@@ -141,6 +144,7 @@ fn add_fall<T: Placed, A: Allocator>(
         to: to as u32,
         first,
         last,
+        depth: node.depth,
     };
     Ok(())
 }

@@ -47,7 +47,7 @@ fn fall<T: Placed>(
     ensures { ScansOn (T.tree trie.now) (slot_of_path states.now) states.now popped.now text.now cursor.old cursor.new 0 0 }
 {
     let fall = falls[cursor.slot];
-    cursor.base = cursor.place - states[cursor.slot].depth as usize;
+    cursor.base = cursor.place - fall.depth as usize;
     cursor.next = fall.first as usize;
     cursor.last = fall.last as usize;
     cursor.slot = fall.to as usize;
@@ -121,7 +121,7 @@ fn next_keyword<T: Placed, C: Ledger>(
     requires cursor { IsKeywordCursor (T.tree trie.now) (slot_of_path states.now) states.now popped.now text.now cursor.old }
     ensures gives { YieldsFirst (keywords_left (T.tree trie.now) states.now popped.now text.now) cursor.old result cursor.new }
     ensures cursor { IsKeywordCursor (T.tree trie.now) (slot_of_path states.now) states.now popped.now text.now cursor.new }
-    ensures cost { ticks.new + tests_left states.now text.now cursor.new ≤ ticks.old + tests_left states.now text.now cursor.old }
+    ensures cost { ticks.new + tests_left (T.tree trie.now) states.now text.now cursor.new ≤ ticks.old + tests_left (T.tree trie.now) states.now text.now cursor.old }
 {
     while cursor.next == cursor.last {
         let told = go_on(trie, states, falls, popped, text, cursor, ticks);
@@ -156,7 +156,7 @@ impl<'a, T: Placed> Model for Leftmost<'a, T> {
 
     ghost view = { λ it. record {
       rest = keywords_left (T.tree it.trie.now) it.states.now it.popped.now it.text.now it.cursor;
-      steps = tests_left it.states.now it.text.now it.cursor;
+      steps = tests_left (T.tree it.trie.now) it.states.now it.text.now it.cursor;
     } };
 
     ghost invariant = { λ it. IsKeywordAutomaton (T.tree it.trie.now) (slot_of_path it.states.now) it.states.now it.falls.now it.popped.now

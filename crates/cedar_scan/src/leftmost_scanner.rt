@@ -10,7 +10,7 @@ use std::marker::Model;
 
 /// An automaton beside a dictionary, by which keys that don't overlap are found in linear time: of those that begin first one, and so on
 /// from its end. It borrows the dictionary, which stays as it is while the scanner lives. It has slots of its own, about one for each
-/// node and no more than the dictionary has up to that of its last node, and holds 40 bytes for each. For each node it holds 12 bytes for
+/// node and no more than the dictionary has up to that of its last node, and holds 36 bytes for each. For each node it holds 12 bytes for
 /// each key that the node's path gives where it can't go on: at most as many keys as the path has bytes.
 ///
 /// Where a path can't go on, its keys are known, and what is left of it that may still begin a key: so a search never goes back in the text.

@@ -8,7 +8,7 @@ ghost use Rattle.cedar_scan.specs.Words.{slot_of_path, ScanLeft, steps_left, Yie
 
 use crate::placed::Placed;
 use crate::scan::{Cursor, next_found};
-use crate::state::State;
+use crate::state::{ListedKey, State};
 use cedar_slots::Ticks;
 use std::alloc::AllocError;
 use std::iter::FusedIterator;
@@ -23,6 +23,7 @@ use std::sync::ledger::{Blank, Ledger};
 pub struct Overlapping<'a, T: Placed> {
     trie: &'a T,
     states: &'a [State],
+    keys: &'a [ListedKey],
     text: &'a [u8],
     cursor: Cursor,
 }
@@ -33,24 +34,30 @@ impl<'a, T: Placed> Model for Overlapping<'a, T> {
     ghost coded = { scan_code };
 
     ghost view = { λ it. record {
-      rest = all_left (T.tree it.trie.now) it.states.now [] 0 it.text.now it.cursor;
-      steps = steps_left it.states.now it.text.now it.cursor;
+      rest = all_left (T.tree it.trie.now) it.keys.now [] 0 it.text.now it.cursor;
+      steps = steps_left (T.tree it.trie.now) it.states.now it.text.now it.cursor;
     } };
 
-    ghost invariant = { λ it. IsAutomaton (T.tree it.trie.now) (slot_of_path it.states.now) it.states.now
-        × IsCursor (T.tree it.trie.now) (slot_of_path it.states.now) it.states.now [] it.text.now it.cursor };
+    ghost invariant = { λ it. IsAutomaton (T.tree it.trie.now) (slot_of_path it.states.now) it.states.now it.keys.now
+        × IsCursor (T.tree it.trie.now) (slot_of_path it.states.now) it.keys.now [] it.text.now it.cursor };
 }
 
 impl<'a, T: Placed> Overlapping<'a, T> {
     // Before the first byte of the text.
-    pub(crate) fn new(trie: &'a T, states: &'a [State], text: &'a [u8]) -> Self
-        requires { IsAutomaton (T.tree trie.now) (slot_of_path states.now) states.now }
+    pub(crate) fn new(
+        trie: &'a T,
+        states: &'a [State],
+        keys: &'a [ListedKey],
+        text: &'a [u8],
+    ) -> Self
+        requires { IsAutomaton (T.tree trie.now) (slot_of_path states.now) states.now keys.now }
         ensures rest { result.rest ≡ overlapping (T.tree trie.now) text.now }
         ensures steps { result.steps ≡ 2 * length text.now }
     {
         Overlapping {
             trie,
             states,
+            keys,
             text,
             cursor: Cursor {
                 place: 0,
@@ -64,11 +71,12 @@ impl<'a, T: Placed> Overlapping<'a, T> {
     pub(crate) fn behind(
         trie: &'a T,
         states: &'a [State],
+        keys: &'a [ListedKey],
         text: &'a [u8],
         place: usize,
         state: usize,
     ) -> Self
-        requires automaton { IsAutomaton (T.tree trie.now) (slot_of_path states.now) states.now }
+        requires automaton { IsAutomaton (T.tree trie.now) (slot_of_path states.now) states.now keys.now }
         requires place { place ≤ length text.now }
         requires state { state ≡ slot_of_path states.now (held_suffix (T.tree trie.now) (take place text.now)) }
         ensures rest { result.rest ≡ ending_behind (T.tree trie.now) place text.now }
@@ -77,6 +85,7 @@ impl<'a, T: Placed> Overlapping<'a, T> {
         Overlapping {
             trie,
             states,
+            keys,
             text,
             cursor: Cursor {
                 place,
@@ -101,7 +110,8 @@ impl<'a, T: Placed> Overlapping<'a, T> {
         ensures cost { ticks.new + self.new.steps ≤ ticks.old + self.old.steps + (if is_some result then 1 else 0) }
     {
         let cursor = &mut self.cursor;
-        let Some(found) = next_found(self.trie, self.states, self.text, cursor, ticks) else {
+        let Some(found) = next_found(self.trie, self.states, self.keys, self.text, cursor, ticks)
+        else {
             return None;
         };
         Some((self.cursor.place - found.len, found.len, found.value))
@@ -118,6 +128,7 @@ impl<'a, T: Placed> Clone for Overlapping<'a, T> {
         Ok(Overlapping {
             trie: self.trie,
             states: self.states,
+            keys: self.keys,
             text: self.text,
             cursor: self.cursor,
         })

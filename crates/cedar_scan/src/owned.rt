@@ -1,16 +1,17 @@
 //! A dictionary and its automaton in one.
 
-ghost use Rattle.std.specs.Prelude.{◌*◌, ◌+◌, ◌≡◌, ◌≤◌, ◌⊎◌, IfOk};
+ghost use Rattle.std.specs.Prelude.{◌*◌, ◌+◌, ◌≡◌, ◌≤◌, ◌⊎◌, IfOk, List};
 ghost use Rattle.std.specs.List.{All, Contains};
 ghost use Rattle.cedar_scan.specs.Words.{held_suffix, IsAutomaton, IsBlankOf, IsHeight};
 ghost use Rattle.cedar_scan.specs.Words.{slot_of_path};
+ghost use Rattle.cedar_scan.specs.declared.state.ListedKey.{ListedKey};
 ghost use Rattle.cedar_scan.specs.declared.state.PlacedNode.{PlacedNode};
 
 use crate::build::build;
 use crate::earliest::Earliest;
 use crate::overlapping::Overlapping;
 use crate::placed::Placed;
-use crate::state::{PlacedNode, State};
+use crate::state::{ListedKey, PlacedNode, State};
 use crate::step::step;
 use crate::stream::Stream;
 use cedar_slots::Ticks;
@@ -53,7 +54,7 @@ fn state_behind<T: Placed, C: Ledger>(
     read: &[u8],
     ticks: &mut Ticks<C>,
 ) -> usize
-    requires automaton { IsAutomaton (T.tree trie.now) (slot_of_path states.now) states.now }
+    requires automaton { (keys : List ListedKey) × IsAutomaton (T.tree trie.now) (slot_of_path states.now) states.now keys }
     requires height { IsHeight (T.tree trie.now) height }
     ensures state { result ≡ slot_of_path states.now (held_suffix (T.tree trie.now) read.now) }
     ensures cost { ticks.new ≤ ticks.old + 2 * height }
@@ -76,7 +77,7 @@ fn uncounted_state<C: Ledger, T: Placed>(
     blank: Blank,
 ) -> usize
     requires blank { IsBlankOf C.name C.parts blank }
-    requires automaton { IsAutomaton (T.tree trie.now) (slot_of_path states.now) states.now }
+    requires automaton { (keys : List ListedKey) × IsAutomaton (T.tree trie.now) (slot_of_path states.now) states.now keys }
     requires height { IsHeight (T.tree trie.now) height }
     ensures { result ≡ slot_of_path states.now (held_suffix (T.tree trie.now) read.now) }
 {
@@ -91,6 +92,7 @@ fn uncounted_state<C: Ledger, T: Placed>(
 pub struct OwnedScanner<T: Placed + Drop, A: Allocator> {
     trie: T,
     states: Vec<State, A>,
+    keys: Vec<ListedKey, A>,
     // How many labels lead to the lowest node.
     height: usize,
 }
@@ -105,15 +107,15 @@ impl<T: Placed + Drop, A: Allocator> Model for OwnedScanner<T, A> {
 
     ghost view = { λ it. T.tree it.trie };
 
-    ghost invariant = { λ it. IsAutomaton (T.tree it.trie) (slot_of_path it.states.items) it.states.items × IsHeight (T.tree it.trie) it.height };
+    ghost invariant = { λ it. IsAutomaton (T.tree it.trie) (slot_of_path it.states.items) it.states.items it.keys.items × IsHeight (T.tree it.trie) it.height };
 }
 
 impl<T: Placed + Drop, A: Allocator + Copy> OwnedScanner<T, A> {
     ghost use Rattle.std.specs.Prelude.{◌*◌, ◌+◌, ◌-◌, ◌≡◌, ◌≤◌, [], IfErr, IfOk, length, min};
     ghost use Rattle.cedar_scan.specs.Words.{earliest_behind, ending_behind, IsHeight, StreamAt};
 
-    /// The automaton of a dictionary, which it takes. It allocates its states from `alloc`, and until it returns lists of the dictionary's
-    /// nodes and what a sort of them needs.
+    /// The automaton of a dictionary, which it takes. It allocates its states and keys from `alloc`, and until it returns lists of the
+    /// dictionary's nodes and of their slots, and what sorts of the nodes need.
     ///
     /// ```
     /// cedar.build(&[("he", 1), ("she", 2), ("hers", 3)])?;
@@ -134,12 +136,13 @@ impl<T: Placed + Drop, A: Allocator + Copy> OwnedScanner<T, A> {
         let Ok(height) = height_of(&trie, alloc) else {
             return Err(trie);
         };
-        let Ok(states) = build(&trie, alloc) else {
+        let Ok(parts) = build(&trie, alloc) else {
             return Err(trie);
         };
         Ok(OwnedScanner {
             trie,
-            states,
+            states: parts.states,
+            keys: parts.keys,
             height,
         })
     }
@@ -183,7 +186,7 @@ impl<T: Placed + Drop, A: Allocator + Copy> OwnedScanner<T, A> {
             &text[..start],
             Blank::new(1),
         );
-        Overlapping::behind(&self.trie, &self.states, text, start, state)
+        Overlapping::behind(&self.trie, &self.states, &self.keys, text, start, state)
     }
 
     /// Finds keys in a text that don't overlap from a position on, as [`earliest`](crate::Scanner::earliest) does. From the end of a match
@@ -201,7 +204,7 @@ impl<T: Placed + Drop, A: Allocator + Copy> OwnedScanner<T, A> {
         //= At most two steps for each byte from the position on are to come. [also OwnedLeftmostScanner::leftmost_from]
         ensures steps { result.steps ≡ 2 * (length text.now - place) }
     {
-        Earliest::behind(&self.trie, &self.states, text, place)
+        Earliest::behind(&self.trie, &self.states, &self.keys, text, place)
     }
 
     /// Begins to search a text that comes in pieces, as [`stream`](crate::Scanner::stream) does.
@@ -215,6 +218,6 @@ impl<T: Placed + Drop, A: Allocator + Copy> OwnedScanner<T, A> {
         //= A stream of a scanner that owns its dictionary begins with nothing read.
         ensures { result ≡ record { tree = self.now; suffix = []; pending = []; read = 0; place = 0 } }
     {
-        Stream::new(&self.trie, &self.states)
+        Stream::new(&self.trie, &self.states, &self.keys)
     }
 }

@@ -5,7 +5,7 @@ ghost use Rattle.cedar_scan.specs.Words.{CostsNext, CostsStep, GivesNextFound, G
 ghost use Rattle.cedar_scan.specs.Words.{GoesOnByByte, IsAutomaton, IsCursor, slot_of_path};
 
 use crate::placed::Placed;
-use crate::state::State;
+use crate::state::{ListedKey, State};
 use crate::step::step;
 use cedar_slots::Ticks;
 use std::sync::ledger::Ledger;
@@ -17,7 +17,7 @@ pub(crate) struct Cursor {
     pub(crate) place: usize,
     /// The slot of the longest suffix of the text so far that leads to a node.
     pub(crate) state: usize,
-    /// The slot of the longest key that ends here and is still to be given, or 0.
+    /// The index of the longest key that ends here and is still to be given, or 0.
     pub(crate) pending: usize,
 }
 
@@ -34,16 +34,17 @@ pub(crate) struct FoundKey {
 pub(crate) fn read_byte<T: Placed, C: Ledger>(
     trie: &T,
     states: &[State],
+    keys: &[ListedKey],
     piece: &[u8],
     cursor: &mut Cursor,
     ticks: &mut Ticks<C>,
 )
-    requires automaton { IsAutomaton (T.tree trie.now) (slot_of_path states.now) states.now }
-    requires cursor { (before : List ℕ) × IsCursor (T.tree trie.now) (slot_of_path states.now) states.now before piece.now cursor.old }
+    requires automaton { IsAutomaton (T.tree trie.now) (slot_of_path states.now) states.now keys.now }
+    requires cursor { (before : List ℕ) × IsCursor (T.tree trie.now) (slot_of_path states.now) keys.now before piece.now cursor.old }
     requires inside { cursor.old.place < length piece.now }
     requires none { cursor.old.pending ≡ 0 }
-    ensures goes { GoesOnByByte (T.tree trie.now) (slot_of_path states.now) states.now piece.now cursor.old cursor.new }
-    ensures cost { CostsStep states.now cursor.old cursor.new ticks.old ticks.new }
+    ensures goes { GoesOnByByte (T.tree trie.now) (slot_of_path states.now) keys.now piece.now cursor.old cursor.new }
+    ensures cost { CostsStep (T.tree trie.now) states.now cursor.old cursor.new ticks.old ticks.new }
 {
     cursor.state = step(trie, states, cursor.state, piece[cursor.place], ticks);
     cursor.place += 1;
@@ -54,23 +55,24 @@ pub(crate) fn read_byte<T: Placed, C: Ledger>(
 pub(crate) fn take_found<T: Placed, C: Ledger>(
     trie: &T,
     states: &[State],
+    keys: &[ListedKey],
     piece: &[u8],
     cursor: &mut Cursor,
     ticks: &mut Ticks<C>,
 ) -> FoundKey
-    requires automaton { IsAutomaton (T.tree trie.now) (slot_of_path states.now) states.now }
-    requires cursor { (before : List ℕ) × IsCursor (T.tree trie.now) (slot_of_path states.now) states.now before piece.now cursor.old }
+    requires automaton { IsAutomaton (T.tree trie.now) (slot_of_path states.now) states.now keys.now }
+    requires cursor { (before : List ℕ) × IsCursor (T.tree trie.now) (slot_of_path states.now) keys.now before piece.now cursor.old }
     requires some { cursor.old.pending ≢ 0 }
-    ensures gives { GivesPending (T.tree trie.now) (slot_of_path states.now) states.now piece.now cursor.old result cursor.new }
+    ensures gives { GivesPending (T.tree trie.now) (slot_of_path states.now) keys.now piece.now cursor.old result cursor.new }
     ensures place { cursor.new.place ≡ cursor.old.place }
     ensures state { cursor.new.state ≡ cursor.old.state }
     ensures cost { ticks.new ≡ ticks.old + 1 }
 {
-    let found = states[cursor.pending];
+    let found = keys[cursor.pending];
     ticks.tick();
-    cursor.pending = states[found.failure as usize].output as usize;
+    cursor.pending = found.next as usize;
     FoundKey {
-        len: found.depth as usize,
+        len: found.len as usize,
         value: found.value,
     }
 }
@@ -79,20 +81,21 @@ pub(crate) fn take_found<T: Placed, C: Ledger>(
 pub(crate) fn next_found<T: Placed, C: Ledger>(
     trie: &T,
     states: &[State],
+    keys: &[ListedKey],
     piece: &[u8],
     cursor: &mut Cursor,
     ticks: &mut Ticks<C>,
 ) -> Option<FoundKey>
-    requires automaton { IsAutomaton (T.tree trie.now) (slot_of_path states.now) states.now }
-    requires cursor { (before : List ℕ) × IsCursor (T.tree trie.now) (slot_of_path states.now) states.now before piece.now cursor.old }
-    ensures gives { GivesNextFound (T.tree trie.now) (slot_of_path states.now) states.now piece.now cursor.old result cursor.new }
-    ensures cost { CostsNext states.now piece.now cursor.old result cursor.new ticks.old ticks.new }
+    requires automaton { IsAutomaton (T.tree trie.now) (slot_of_path states.now) states.now keys.now }
+    requires cursor { (before : List ℕ) × IsCursor (T.tree trie.now) (slot_of_path states.now) keys.now before piece.now cursor.old }
+    ensures gives { GivesNextFound (T.tree trie.now) (slot_of_path states.now) keys.now piece.now cursor.old result cursor.new }
+    ensures cost { CostsNext (T.tree trie.now) states.now piece.now cursor.old result cursor.new ticks.old ticks.new }
 {
     while cursor.pending == 0 {
         if cursor.place == piece.len() {
             return None;
         }
-        read_byte(trie, states, piece, cursor, ticks);
+        read_byte(trie, states, keys, piece, cursor, ticks);
     }
-    Some(take_found(trie, states, piece, cursor, ticks))
+    Some(take_found(trie, states, keys, piece, cursor, ticks))
 }

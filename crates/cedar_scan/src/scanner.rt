@@ -4,14 +4,14 @@ use crate::build::build;
 use crate::earliest::Earliest;
 use crate::overlapping::Overlapping;
 use crate::placed::Placed;
-use crate::state::State;
+use crate::state::{ListedKey, State};
 use crate::stream::Stream;
 use std::alloc::{AllocError, Allocator};
 use std::marker::Model;
 
 /// An automaton beside a dictionary, by which texts are searched for its keys in linear time. It borrows the dictionary, which stays as it
 /// is while the scanner lives. It has slots of its own, about one for each node and no more than the dictionary has up to that of its last
-/// node, and holds 28 bytes for each.
+/// node, and holds 20 bytes for each, and 12 for each key.
 ///
 /// Its links are those of Aho and Corasick ("Efficient string matching", 1975): from each node to the longest proper suffix of its path that
 /// leads to a node, and to the longest suffix that is a key.
@@ -21,6 +21,7 @@ use std::marker::Model;
 pub struct Scanner<'a, T: Placed, A: Allocator> {
     trie: &'a T,
     states: Vec<State, A>,
+    keys: Vec<ListedKey, A>,
 }
 
 impl<'a, T: Placed, A: Allocator> Model for Scanner<'a, T, A> {
@@ -33,15 +34,15 @@ impl<'a, T: Placed, A: Allocator> Model for Scanner<'a, T, A> {
 
     ghost view = { λ it. T.tree it.trie.now };
 
-    ghost invariant = { λ it. IsAutomaton (T.tree it.trie.now) (slot_of_path it.states.items) it.states.items };
+    ghost invariant = { λ it. IsAutomaton (T.tree it.trie.now) (slot_of_path it.states.items) it.states.items it.keys.items };
 }
 
 impl<'a, T: Placed, A: Allocator + Copy> Scanner<'a, T, A> {
     ghost use Rattle.std.specs.Prelude.{◌*◌, ◌≡◌, [], IfOk, length};
     ghost use Rattle.cedar_scan.specs.Words.{earliest, overlapping, StreamAt};
 
-    /// The automaton of a dictionary. It allocates its states from `alloc`, and until it returns lists of the dictionary's nodes and of their
-    /// slots, and what sorts of the nodes need.
+    /// The automaton of a dictionary. It allocates its states and keys from `alloc`, and until it returns lists of the dictionary's nodes and
+    /// of their slots, and what sorts of the nodes need.
     ///
     /// ```
     /// cedar.build(&[("he", 1), ("she", 2), ("hers", 3)])?;
@@ -54,9 +55,11 @@ impl<'a, T: Placed, A: Allocator + Copy> Scanner<'a, T, A> {
         //= A scanner is made of a dictionary's tree.
         ensures { IfOk result (λ scanner. scanner ≡ T.tree trie.now) }
     {
+        let parts = build(trie, alloc)?;
         Ok(Scanner {
             trie,
-            states: build(trie, alloc)?,
+            states: parts.states,
+            keys: parts.keys,
         })
     }
 
@@ -80,7 +83,7 @@ impl<'a, T: Placed, A: Allocator + Copy> Scanner<'a, T, A> {
         //= At most two steps for each byte of the text are to come.
         ensures steps { result.steps ≡ 2 * length text.now }
     {
-        Overlapping::new(self.trie, &self.states, text)
+        Overlapping::new(self.trie, &self.states, &self.keys, text)
     }
     /// Finds keys in a text that don't overlap, by their ends: of the keys that end first the longest, and so on from its end. This is the
     /// standard search of the crate aho-corasick. It returns an iterator, which allocates nothing.
@@ -100,7 +103,7 @@ impl<'a, T: Placed, A: Allocator + Copy> Scanner<'a, T, A> {
         //= At most two steps for each byte of the text are to come.
         ensures steps { result.steps ≡ 2 * length text.now }
     {
-        Earliest::new(self.trie, &self.states, text)
+        Earliest::new(self.trie, &self.states, &self.keys, text)
     }
 
     /// Begins to search a text that comes in pieces.
@@ -116,6 +119,6 @@ impl<'a, T: Placed, A: Allocator + Copy> Scanner<'a, T, A> {
         //= A stream begins with nothing read.
         ensures { result ≡ record { tree = self.now; suffix = []; pending = []; read = 0; place = 0 } }
     {
-        Stream::new(self.trie, &self.states)
+        Stream::new(self.trie, &self.states, &self.keys)
     }
 }

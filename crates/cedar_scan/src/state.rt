@@ -27,12 +27,8 @@ pub(crate) struct State {
     pub(crate) labels: u32,
     /// The slot of the longest proper suffix of its path that leads to a node.
     pub(crate) failure: u32,
-    /// The slot of the longest suffix of its path that is a key, or 0.
+    /// The index of the longest suffix of its path that is a key, or 0.
     pub(crate) output: u32,
-    /// How many bytes its path has.
-    pub(crate) depth: u32,
-    /// Its number, if it has one.
-    pub(crate) value: i32,
 }
 
 /// What a slot has where no node is.
@@ -42,6 +38,22 @@ pub(crate) const BLANK: State = State {
     labels: 0,
     failure: 0,
     output: 0,
-    depth: 0,
+};
+
+/// A key, as a scan gives it. The keys are in a list of their own, so that more states lie in one cache line.
+#[derive(Clone, Copy)]
+pub(crate) struct ListedKey {
+    /// How many bytes it has.
+    pub(crate) len: u32,
+    /// Its value.
+    pub(crate) value: i32,
+    /// The index of the longest proper suffix of it that is a key, or 0.
+    pub(crate) next: u32,
+}
+
+/// What is listed at index 0, which no key has.
+pub(crate) const NO_KEY: ListedKey = ListedKey {
+    len: 0,
     value: 0,
+    next: 0,
 };

@@ -2,12 +2,12 @@
 
 ghost use Rattle.std.specs.Prelude.{◌+◌, ◌<◌, ◌≡◌, ◌^◌, [], length};
 ghost use Rattle.cedar_scan.specs.Words.{CostsInPiece, IsAutomaton, IsBlankOf, IsStream};
-ghost use Rattle.cedar_scan.specs.Words.{keys_ending, NextInPiece, path_in, slot_of_path};
+ghost use Rattle.cedar_scan.specs.Words.{keys_from, NextInPiece, path_in, slot_of_path};
 ghost use Rattle.cedar_scan.specs.Words.{stream_code, StreamAt};
 
 use crate::placed::Placed;
 use crate::scan::{Cursor, next_found};
-use crate::state::State;
+use crate::state::{ListedKey, State};
 use cedar_slots::Ticks;
 use std::marker::{Brand, Model};
 use std::sync::ledger::{Blank, Ledger};
@@ -20,6 +20,7 @@ use std::sync::ledger::{Blank, Ledger};
 pub struct Stream<'a, T: Placed> {
     trie: &'a T,
     states: &'a [State],
+    keys: &'a [ListedKey],
     state: usize,
     pending: usize,
     read: usize,
@@ -33,24 +34,25 @@ impl<'a, T: Placed> Model for Stream<'a, T> {
 
     ghost view = { λ it. record {
       tree = T.tree it.trie.now;
-      suffix = path_in it.states.now it.state;
-      pending = keys_ending (T.tree it.trie.now) (path_in it.states.now it.pending);
+      suffix = path_in (T.tree it.trie.now) it.states.now it.state;
+      pending = keys_from it.keys.now it.pending;
       read = it.read;
       place = it.place;
     } };
 
-    ghost invariant = { λ it. IsStream (T.tree it.trie.now) (slot_of_path it.states.now) it.states.now it.state it.pending it.place };
+    ghost invariant = { λ it. IsStream (T.tree it.trie.now) (slot_of_path it.states.now) it.states.now it.keys.now it.state it.pending it.place };
 }
 
 impl<'a, T: Placed> Stream<'a, T> {
     // Before the first piece.
-    pub(crate) fn new(trie: &'a T, states: &'a [State]) -> Self
-        requires { IsAutomaton (T.tree trie.now) (slot_of_path states.now) states.now }
+    pub(crate) fn new(trie: &'a T, states: &'a [State], keys: &'a [ListedKey]) -> Self
+        requires { IsAutomaton (T.tree trie.now) (slot_of_path states.now) states.now keys.now }
         ensures { result ≡ record { tree = T.tree trie.now; suffix = []; pending = []; read = 0; place = 0 } }
     {
         Stream {
             trie,
             states,
+            keys,
             state: 0,
             pending: 0,
             read: 0,
@@ -104,7 +106,14 @@ impl<'a, T: Placed> Stream<'a, T> {
             state: self.state,
             pending: self.pending,
         };
-        let found = next_found(self.trie, self.states, &piece[from..], &mut cursor, ticks);
+        let found = next_found(
+            self.trie,
+            self.states,
+            self.keys,
+            &piece[from..],
+            &mut cursor,
+            ticks,
+        );
         let end = self.place + cursor.place as u64;
         self.state = cursor.state;
         self.pending = cursor.pending;

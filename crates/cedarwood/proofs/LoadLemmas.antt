@@ -92,14 +92,14 @@ pub loads_opened : (kind : LayoutKind) (slots limit : ℕ) (before left after : 
 loads_opened kind slots limit before left after failed result same loads = inr (after, failed, subst (λ o. LoadsBy table_in kind slots limit o after failed result) same loads)
 
 -- a load by path is one of the file that was opened
-pub loads_from : {T : Type 0} (kind : LayoutKind) (slots limit : ℕ) (remaining : T → Option (List ℕ)) (path : List ℕ) (opened : FileToRead T) (file : T) (result : Result Dictionary CedarPersistenceError)
-    → read_calls opened ≡ opened_to_read path ∷ [] → file ≡ file_to_read opened → LoadsOpened table_in kind slots limit (remaining file) result → LoadsFrom table_in kind slots limit remaining path result
+pub loads_from : {F T : Type 0} (kind : LayoutKind) (slots limit : ℕ) (remaining : T → Option (List ℕ)) (path : List ℕ) (opened : FileToRead F T) (file : T) (result : Result Dictionary CedarPersistenceError)
+    → read_calls opened ≡ opened_to_read path ∷ [] → file ≡ file_to_read opened → LoadsOpened table_in kind slots limit (remaining file) result → LoadsFrom F table_in kind slots limit remaining path result
 loads_from kind slots limit remaining path opened file result noted same loads =
     inr (opened, noted, subst (λ f. LoadsOpened table_in kind slots limit (remaining f) result) same loads)
 
 -- and of none, if the system hasn't opened it
-pub unopened : {T : Type 0} (kind : LayoutKind) (slots limit : ℕ) (remaining : T → Option (List ℕ)) (path : List ℕ) (result : Result Dictionary CedarPersistenceError) (gives : CedarPersistenceError)
-    → IsErrAnd result (λ e. e ≡ gives) → IsIo gives → LoadsFrom table_in kind slots limit remaining path result
+pub unopened : {F T : Type 0} (kind : LayoutKind) (slots limit : ℕ) (remaining : T → Option (List ℕ)) (path : List ℕ) (result : Result Dictionary CedarPersistenceError) (gives : CedarPersistenceError)
+    → IsErrAnd result (λ e. e ≡ gives) → IsIo gives → LoadsFrom F table_in kind slots limit remaining path result
 unopened kind slots limit remaining path (Ok d) gives told io = absurd told
 unopened kind slots limit remaining path (Err e) gives told io = inl (subst IsIo (sym told) io)
 

@@ -24,10 +24,10 @@ LoadsOpened table kind slots limit before result =
     IsErrAnd result (λ e. e ≡ AllocationFailed 8192)
     ⊎ ((after : Option (List ℕ)) × (failed : Bool) × LoadsBy table kind slots limit before after failed result)
 
--- what a load by path promises: the system hasn't opened the file, or a file was opened at this path, and the load does
--- with what was left in it what it promises of an open file (`LoadsOpened`)
-abbrev pub LoadsFrom : {T X : Type 0} → (X → Fields) → LayoutKind → ℕ → ℕ → (T → Option (List ℕ)) → List ℕ → Result X CedarPersistenceError → Type 0
-LoadsFrom table kind slots limit remaining path result = IsErrAnd result IsIo ⊎ OfFileAt remaining path (λ left. LoadsOpened table kind slots limit left result)
+-- what a load by path promises: the system hasn't opened the file, or a file was opened at this path among the files F, and
+-- the load does with what was left in it what it promises of an open file (`LoadsOpened`)
+abbrev pub LoadsFrom : {T X : Type 0} → (F : Type 0) → (X → Fields) → LayoutKind → ℕ → ℕ → (T → Option (List ℕ)) → List ℕ → Result X CedarPersistenceError → Type 0
+LoadsFrom F table kind slots limit remaining path result = IsErrAnd result IsIo ⊎ OfFileAt F remaining path (λ left. LoadsOpened table kind slots limit left result)
 
 -- a load of a table's own file in any version, under a limit of at least its need, gives that table again, or a list found no room
 abbrev pub OwnFilesLoad : Type 0

@@ -157,7 +157,7 @@ module _ (limit : ℕ) (is_reduced : Bool) (after : Option (List ℕ)) (failed :
       inr (inr (kind, subst (NamesLayout kind) same (long_named seen rest head taken long named), layout, (after, failed, all)))
 
 -- a load by path is one of the file that was opened
-pub loads_any_from : {T : Type 0} (limit : ℕ) (remaining : T → Option (List ℕ)) (path : List ℕ) (opened : FileToRead T) (file : T) (result : Result AnyCedar CedarPersistenceError)
-    → read_calls opened ≡ opened_to_read path ∷ [] → file ≡ file_to_read opened → LoadsAnyOpened limit (remaining file) result → LoadsAnyFrom limit remaining path result
+pub loads_any_from : {F T : Type 0} (limit : ℕ) (remaining : T → Option (List ℕ)) (path : List ℕ) (opened : FileToRead F T) (file : T) (result : Result AnyCedar CedarPersistenceError)
+    → read_calls opened ≡ opened_to_read path ∷ [] → file ≡ file_to_read opened → LoadsAnyOpened limit (remaining file) result → LoadsAnyFrom F limit remaining path result
 loads_any_from limit remaining path opened file result noted same loads =
     inr (opened, noted, subst (λ f. LoadsAnyOpened limit (remaining f) result) same loads)

@@ -41,7 +41,7 @@ LoadsAnyOpened limit before result =
     ⊎ ((kind : LayoutKind) × NamesLayout kind before × IfOk result (λ a. inner_layout a ≡ kind)
     × ((after : Option (List ℕ)) × (failed : Bool) × LoadsBy table_in kind most_slots limit before after failed result)))
 
--- what a load of either layout by path promises: the system hasn't opened the file, or a file was opened at this path, and
--- the load does with what was left in it what it promises of an open file (`LoadsAnyOpened`)
-abbrev pub LoadsAnyFrom : {T : Type 0} → ℕ → (T → Option (List ℕ)) → List ℕ → Result AnyCedar CedarPersistenceError → Type 0
-LoadsAnyFrom limit remaining path result = IsErrAnd result IsIo ⊎ OfFileAt remaining path (λ left. LoadsAnyOpened limit left result)
+-- what a load of either layout by path promises: the system hasn't opened the file, or a file was opened at this path among
+-- the files F, and the load does with what was left in it what it promises of an open file (`LoadsAnyOpened`)
+abbrev pub LoadsAnyFrom : {T : Type 0} → (F : Type 0) → ℕ → (T → Option (List ℕ)) → List ℕ → Result AnyCedar CedarPersistenceError → Type 0
+LoadsAnyFrom F limit remaining path result = IsErrAnd result IsIo ⊎ OfFileAt F remaining path (λ left. LoadsAnyOpened limit left result)

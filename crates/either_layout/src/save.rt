@@ -108,7 +108,7 @@ impl AnyCedar {
         &self,
         files: &F,
         path: &str,
-    ) -> Result<Saved, CedarPersistenceError>
+    ) -> Result<Saved<F>, CedarPersistenceError>
         //= A save of either layout to a path that succeeds did there what one of the dictionary's own call does, with exactly the bytes of
         //  its table. [also save_v1_0_to_path; by IsSavedAt]
         ensures saved { IfOk result (IsSavedAt path.now (table_bytes 1 (table_in self.now))) }
@@ -130,7 +130,7 @@ impl AnyCedar {
         &self,
         files: &F,
         path: &str,
-    ) -> Result<Saved, CedarPersistenceError>
+    ) -> Result<Saved<F>, CedarPersistenceError>
         ensures saved { IfOk result (IsSavedAt path.now (table_bytes 0 (table_in self.now))) }
         ensures err { IfErr result FailsToWrite }
         ensures file { OnOk result (IsTableFile 0 most_slots (table_in self.now) (table_bytes 0 (table_in self.now))) }

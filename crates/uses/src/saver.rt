@@ -15,7 +15,7 @@ pub fn keep<F: Files>(
     words: &Cedar<Global>,
     files: &F,
     path: &str,
-) -> Result<Option<PathCalls>, CedarPersistenceError>
+) -> Result<Option<PathCalls<F>>, CedarPersistenceError>
     //= Whatever crash comes, from now on the path leads to a file of exactly the dictionary's bytes.
     ensures { IfOk result (λ done. IfSome done (λ calls. IsThere (table_bytes 1 words.now.table) (path_calls calls))) }
 {

@@ -6,9 +6,8 @@ mod paths;
 mod replace;
 mod save;
 mod slice;
-mod unplaced;
 
-pub use outcome::{SaveFailed, Saved};
+pub use outcome::{SaveFailed, Saved, Unsaved};
 
 pub mod v1 {
     //! Version 1 of the file format, minor 0 and 1: its numbers, headers and fields.

@@ -43,10 +43,10 @@ impl<L: Layout, const SLOTS: usize, A: Allocator + Copy> Trie<L, SLOTS, A> {
         &self,
         files: &F,
         path: &str,
-    ) -> Result<Saved, CedarPersistenceError>
-        //= A save to a path that succeeds has given the name there to a new file of exactly the table's bytes, once they were on the disk,
-        //  and has then put the name on the disk. Or what is there isn't a file, and took exactly these bytes. [also
-        //  save_v1_0_to_path, save_to_path_noted, save_v1_0_to_path_noted; by IsSavedAt]
+    ) -> Result<Saved<F>, CedarPersistenceError>
+        //= A save to a path that succeeds has given the name there, among the files that it was given, to a new file of exactly the
+        //  table's bytes, once they were on the disk, and has then put the name on the disk. Or what is there isn't a file, and took
+        //  exactly these bytes. [also save_v1_0_to_path, save_to_path_noted, save_v1_0_to_path_noted; by IsSavedAt]
         ensures saved { IfOk result (IsSavedAt path.now (table_bytes 1 self.now.table)) }
 
         //= A save to a path fails only with `Io`, or with `AllocationFailed` of the 8192 bytes of its buffer. [also
@@ -71,12 +71,17 @@ impl<L: Layout, const SLOTS: usize, A: Allocator + Copy> Trie<L, SLOTS, A> {
     /// ```
     ///
     /// # Errors
-    /// As `save_to_path`, with the calls on a new file that was whole.
-    pub fn save_to_path_noted<F: Files>(&self, files: &F, path: &str) -> Result<Saved, SaveFailed>
+    /// As `save_to_path`, with what was done.
+    pub fn save_to_path_noted<F: Files>(
+        &self,
+        files: &F,
+        path: &str,
+    ) -> Result<Saved<F>, SaveFailed<F>>
         ensures saved { IfOk result (IsSavedAt path.now (table_bytes 1 self.now.table)) }
 
-        //= If it fails with the calls on a new file that is whole, nothing was done at the path; or the disk had the file's bytes before a
-        //  rename that failed, or before a sync of the folder that did. [also save_v1_0_to_path_noted; by IsUnsavedAt]
+        //= If it fails, it tells what was done: nothing was begun at the path; or a new file was made, and nothing was done at the path, or
+        //  the disk had the file's bytes before a rename that failed, or before a sync of the folder that did; or what is there isn't a
+        //  file. [also save_v1_0_to_path_noted; by IsUnsavedAt, IsUnsaved]
         ensures unplaced { IfErr result (IsUnsavedAt path.now (table_bytes 1 self.now.table)) }
         ensures err { IfErr result (λ failed. FailsToWrite failed.error) }
         ensures file { OnOk result (IsTableFile 1 SLOTS self.now.table (table_bytes 1 self.now.table)) }
@@ -97,7 +102,7 @@ impl<L: Layout, const SLOTS: usize, A: Allocator + Copy> Trie<L, SLOTS, A> {
         &self,
         files: &F,
         path: &str,
-    ) -> Result<Saved, CedarPersistenceError>
+    ) -> Result<Saved<F>, CedarPersistenceError>
         ensures saved { IfOk result (IsSavedAt path.now (table_bytes 0 self.now.table)) }
         ensures err { IfErr result FailsToWrite }
         ensures file { OnOk result (IsTableFile 0 SLOTS self.now.table (table_bytes 0 self.now.table)) }
@@ -124,7 +129,7 @@ impl<L: Layout, const SLOTS: usize, A: Allocator + Copy> Trie<L, SLOTS, A> {
         &self,
         files: &F,
         path: &str,
-    ) -> Result<Saved, SaveFailed>
+    ) -> Result<Saved<F>, SaveFailed<F>>
         ensures saved { IfOk result (IsSavedAt path.now (table_bytes 0 self.now.table)) }
         ensures unplaced { IfErr result (IsUnsavedAt path.now (table_bytes 0 self.now.table)) }
         ensures err { IfErr result (λ failed. FailsToWrite failed.error) }
@@ -160,11 +165,11 @@ impl<L: Layout, const SLOTS: usize, A: Allocator + Copy> Trie<L, SLOTS, A> {
         //  the limit that the load was given. [also load_from_path; by LacksByPath]
         ensures lacks { IfErr result (LacksByPath (layout_byte L.kind) SLOTS memory_limit) }
 
-        //= A load by path has opened a file at just that path, and does with it, from its first byte on, what a load from a reader promises:
-        //  a dictionary comes only with just the bytes of its table in that file, as far as they are known, and these decide the result; or
-        //  there was no memory for the buffer. Or the system hasn't opened it, and the load returns `Io`. No contract of the system's files
-        //  says which bytes these are. [also load_from_path; by LoadsFrom, LoadsOpened]
-        ensures loads { LoadsFrom (λ trie. trie.table) L.kind SLOTS memory_limit F.File.remaining path.now result }
+        //= A load by path has opened a file at just that path, among the files that it was given, and does with it, from its first byte on,
+        //  what a load from a reader promises: a dictionary comes only with just the bytes of its table in that file, as far as they are
+        //  known, and these decide the result; or there was no memory for the buffer. Or the system hasn't opened it, and the load returns
+        //  `Io`. No contract of the system's files says which bytes these are. [also load_from_path; by LoadsFrom, LoadsOpened]
+        ensures loads { LoadsFrom F (λ trie. trie.table) L.kind SLOTS memory_limit F.File.remaining path.now result }
         ensures unbounded { IfOk result (λ trie. trie.search_limit ≡ no_search_limit) }
     {
         let opened = open_to_read(files, path)?;
@@ -205,7 +210,7 @@ impl<L: Layout, const SLOTS: usize, A: Allocator + Copy> Trie<L, SLOTS, A> {
         requires limit { IsLimit SLOTS }
         ensures formed { IfOk result (λ trie. IsWellFormed SLOTS trie.table) }
         ensures lacks { IfErr result (LacksByPath (layout_byte L.kind) SLOTS default_load_limit) }
-        ensures loads { LoadsFrom (λ trie. trie.table) L.kind SLOTS default_load_limit F.File.remaining path.now result }
+        ensures loads { LoadsFrom F (λ trie. trie.table) L.kind SLOTS default_load_limit F.File.remaining path.now result }
         ensures unbounded { IfOk result (λ trie. trie.search_limit ≡ no_search_limit) }
     {
         Self::load_from_path_with_limit(alloc, files, path, DEFAULT_LOAD_MEMORY_LIMIT)

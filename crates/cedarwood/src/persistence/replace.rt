@@ -1,19 +1,22 @@
 //! Saves by path: a new file takes the place of the one of its name once it is whole.
 
-ghost use Rattle.std.specs.Prelude.{◌≡◌, ◌++◌, IfErr, IfOk, None, OnOk};
+ghost use Rattle.std.specs.Prelude.{◌≡◌, [], IfErr, IfOk, OnOk};
+ghost use Rattle.std.specs.Io.Buffered.{writer_buffer, writer_inner};
+ghost use Rattle.cedar_disk.specs.Beginnings.{unplaced_bytes, unplaced_path};
 ghost use Rattle.cedar_disk.specs.PathFiles.{path_calls};
 ghost use Rattle.cedar_disk.specs.SpecialFiles.{sent_calls, special_told};
-ghost use Rattle.cedar_disk.specs.Words.{IsPlaced, told_after};
+ghost use Rattle.cedar_disk.specs.Words.{address, IsPlaced, IsSentTo};
 ghost use Rattle.cedarwood.specs.Words.{AllocationFailed, Appends, FailsToWrite, IsSavedAt};
 ghost use Rattle.cedarwood.specs.Words.{IsTableFile, IsUnsavedAt, IsVersion, PassesAgain};
 ghost use Rattle.cedarwood.specs.Words.{table_bytes};
 
-use crate::persistence::unplaced::Unplaced;
-use crate::{CedarPersistenceError, Layout, SaveFailed, Saved, Trie, Watched};
-use cedar_disk::{PathCalls, Sent, Special, special_at};
+use crate::{CedarPersistenceError, Layout, SaveFailed, Saved, Trie, Unsaved, Watched};
+use cedar_disk::{
+    NotBegun, NotPlaced, PathCalls, Sent, Special, Unplaced, begin_beside, begin_special,
+};
 use cedar_file::write_table;
 use std::alloc::Allocator;
-use std::io::{self, BufWriter, Write};
+use std::io::{self, BufWriter, ErrorKind, Write};
 use std::rt::Files;
 
 /// How many bytes a buffer of a file has.
@@ -26,7 +29,7 @@ impl<L: Layout, const SLOTS: usize, A: Allocator + Copy> Trie<L, SLOTS, A> {
         files: &F,
         path: &str,
         minor: u16,
-    ) -> Result<Saved, SaveFailed>
+    ) -> Result<Saved<F>, SaveFailed<F>>
         requires version { IsVersion minor }
         ensures saved { IfOk result (IsSavedAt path.now (table_bytes minor self.now.table)) }
         ensures unplaced { IfErr result (IsUnsavedAt path.now (table_bytes minor self.now.table)) }
@@ -34,10 +37,13 @@ impl<L: Layout, const SLOTS: usize, A: Allocator + Copy> Trie<L, SLOTS, A> {
         ensures file { OnOk result (IsTableFile minor SLOTS self.now.table (table_bytes minor self.now.table)) }
         ensures passes { OnOk result (PassesAgain L.kind SLOTS minor self.now.table) }
     {
-        match special_at(files, path) {
-            Ok(Some(special)) => Ok(Saved::Sent(self.send(special, minor)?)),
+        match begin_special(files, path, self.table.allocator()) {
+            Ok(Some(special)) => Ok(Saved::Sent(self.send(special, path, minor)?)),
             Ok(None) => Ok(Saved::Placed(self.save_in_place(files, path, minor)?)),
-            Err(error) => Err(SaveFailed::before_write(CedarPersistenceError::Io(error))),
+            Err(failed) => Err(SaveFailed {
+                error: fault_of(&failed),
+                done: Unsaved::NotBegun(failed),
+            }),
         }
     }
 
@@ -47,7 +53,7 @@ impl<L: Layout, const SLOTS: usize, A: Allocator + Copy> Trie<L, SLOTS, A> {
         files: &F,
         path: &str,
         minor: u16,
-    ) -> Result<PathCalls, SaveFailed>
+    ) -> Result<PathCalls<F>, SaveFailed<F>>
         requires version { IsVersion minor }
         ensures saved { IfOk result (λ calls. IsPlaced path.now (table_bytes minor self.now.table) (path_calls calls)) }
         ensures unplaced { IfErr result (IsUnsavedAt path.now (table_bytes minor self.now.table)) }
@@ -55,74 +61,138 @@ impl<L: Layout, const SLOTS: usize, A: Allocator + Copy> Trie<L, SLOTS, A> {
         ensures file { OnOk result (IsTableFile minor SLOTS self.now.table (table_bytes minor self.now.table)) }
         ensures passes { OnOk result (PassesAgain L.kind SLOTS minor self.now.table) }
     {
-        let new = Unplaced::beside(files, path)?;
-        match self.write_buffered(new, minor) {
-            Ok(whole) => whole.put_in_place(),
-            Err(fault) => Err(SaveFailed::before_write(persistence_error(fault))),
+        match begin_beside(files, path, self.table.allocator()) {
+            Ok(new) => self.fill(new, path, minor),
+            Err(failed) => Err(SaveFailed {
+                error: fault_of(&failed),
+                done: Unsaved::NotBegun(failed),
+            }),
         }
     }
 
-    /// Writes the dictionary to what isn't a file, and returns what that took.
-    fn send<T: Write + Drop>(&self, special: Special<T>, minor: u16) -> Result<Sent, SaveFailed>
+    /// Writes the dictionary to a new file, which is to take the place of the one at a path.
+    fn fill<F: Files>(
+        &self,
+        new: BufWriter<Unplaced<'_, F>, A>,
+        _path: &str,
+        minor: u16,
+    ) -> Result<PathCalls<F>, SaveFailed<F>>
         requires version { IsVersion minor }
-        ensures sent { IfOk result (λ sent. told_after (sent_calls sent) ≡ special_told special ++ table_bytes minor self.now.table) }
-        ensures none { IfErr result (λ failed. failed.calls ≡ None) }
+        requires empty { unplaced_bytes (writer_inner new) ≡ [] }
+        requires path { unplaced_path (writer_inner new) ≡ _path.now }
+        requires buffer { writer_buffer new ≡ [] }
+        ensures saved { IfOk result (λ calls. IsPlaced _path.now (table_bytes minor self.now.table) (path_calls calls)) }
+        ensures unplaced { IfErr result (IsUnsavedAt _path.now (table_bytes minor self.now.table)) }
+        ensures err { IfErr result (λ failed. FailsToWrite failed.error) }
+        ensures file { OnOk result (IsTableFile minor SLOTS self.now.table (table_bytes minor self.now.table)) }
+        ensures passes { OnOk result (PassesAgain L.kind SLOTS minor self.now.table) }
+    {
+        match self.write_buffered(new, minor) {
+            Ok(whole) => put_in_place(whole),
+            Err(Unwritten { writer, error }) => Err(SaveFailed {
+                error: CedarPersistenceError::Io(error),
+                done: Unsaved::Made(writer.into_new().give_up()),
+            }),
+        }
+    }
+
+    /// Writes the dictionary to what is at a path and isn't a file, and returns what that took.
+    fn send<F: Files>(
+        &self,
+        special: BufWriter<Special<F>, A>,
+        _path: &str,
+        minor: u16,
+    ) -> Result<Sent<F>, SaveFailed<F>>
+        requires version { IsVersion minor }
+        requires told { special_told (writer_inner special) ≡ address _path.now }
+        requires buffer { writer_buffer special ≡ [] }
+        ensures sent { IfOk result (λ sent. IsSentTo _path.now (table_bytes minor self.now.table) (sent_calls sent)) }
+        ensures unplaced { IfErr result (IsUnsavedAt _path.now (table_bytes minor self.now.table)) }
         ensures err { IfErr result (λ failed. FailsToWrite failed.error) }
         ensures file { OnOk result (IsTableFile minor SLOTS self.now.table (table_bytes minor self.now.table)) }
         ensures passes { OnOk result (PassesAgain L.kind SLOTS minor self.now.table) }
     {
         match self.write_buffered(special, minor) {
             Ok(whole) => Ok(whole.into_sent()),
-            Err(fault) => Err(SaveFailed::before_write(persistence_error(fault))),
+            Err(Unwritten { writer, error }) => Err(SaveFailed {
+                error: CedarPersistenceError::Io(error),
+                done: Unsaved::Sent(writer.into_sent()),
+            }),
         }
     }
 
-    /// Writes the dictionary through a buffer, which it flushes, and returns the writer. After an error that is dropped.
-    fn write_buffered<W: Write + Drop>(&self, writer: W, minor: u16) -> Result<W, Unwritten>
+    /// Writes the dictionary through a buffer, which it flushes, and returns the writer.
+    fn write_buffered<W: Write + Drop>(
+        &self,
+        writer: BufWriter<W, A>,
+        minor: u16,
+    ) -> Result<W, Unwritten<W>>
         requires version { IsVersion minor }
-        ensures bytes { IfOk result (λ written. Appends (W.contents writer) (W.contents written) (table_bytes minor self.now.table)) }
+        requires buffer { writer_buffer writer ≡ [] }
+        ensures bytes { IfOk result (λ written. Appends (W.contents (writer_inner writer)) (W.contents written) (table_bytes minor self.now.table)) }
         ensures file { OnOk result (IsTableFile minor SLOTS self.now.table (table_bytes minor self.now.table)) }
         ensures passes { OnOk result (PassesAgain L.kind SLOTS minor self.now.table) }
     {
-        let Ok(buffered) = BufWriter::new(self.table.allocator(), writer) else {
-            return Err(Unwritten::NoBuffer);
-        };
-        let mut watched = Watched::new(buffered);
+        let mut watched = Watched::new(writer);
         if let Err(error) = write_table(&self.table, minor, &mut watched) {
-            return Err(fault_of(error));
+            return Err(out_of_buffer(watched.into_inner(), io_error(error)));
         }
         let mut buffered = watched.into_inner();
         if let Err(error) = buffered.flush() {
-            return Err(Unwritten::Io(error));
+            return Err(out_of_buffer(buffered, error));
         }
         let (written, _) = buffered.into_parts();
         Ok(written)
     }
 }
 
-/// Why a dictionary wasn't written. Text of a longer life, as that in the errors of a load, isn't in it: a call with a new file for its
-/// writer that could return such text wouldn't be proved.
+/// A writer to which a dictionary wasn't written whole, and why. Text of a longer life, as that in the errors of a load, isn't in it: a call
+/// with a new file for its writer that could return such text wouldn't be proved.
 #[derive(Drop)]
-enum Unwritten {
-    NoBuffer,
-    Io(io::Error),
+struct Unwritten<W> {
+    writer: W,
+    error: io::Error,
 }
 
-/// The fault of a save, which is the writer's.
-fn fault_of(error: CedarPersistenceError) -> Unwritten {
+/// Takes the writer out of its buffer. What that holds is lost.
+fn out_of_buffer<W: Write + Drop, A: Allocator>(
+    buffered: BufWriter<W, A>,
+    error: io::Error,
+) -> Unwritten<W> {
+    let (writer, _) = buffered.into_parts();
+    Unwritten { writer, error }
+}
+
+/// The writer's error, which is the only one of a save.
+fn io_error(error: CedarPersistenceError) -> io::Error {
     match error {
-        CedarPersistenceError::Io(error) => Unwritten::Io(error),
-        _ => Unwritten::NoBuffer,
+        CedarPersistenceError::Io(error) => error,
+        _ => ErrorKind::Other.into(),
     }
 }
 
-/// As an error of the dictionary's files.
-fn persistence_error(fault: Unwritten) -> CedarPersistenceError
+/// Gives a new file that is whole its place.
+fn put_in_place<F: Files>(whole: Unplaced<'_, F>) -> Result<PathCalls<F>, SaveFailed<F>>
+    ensures placed { IfOk result (λ calls. IsPlaced (unplaced_path whole.entry) (unplaced_bytes whole.entry) (path_calls calls)) }
+    ensures unplaced { IfErr result (IsUnsavedAt (unplaced_path whole.entry) (unplaced_bytes whole.entry)) }
+    ensures err { IfErr result (λ failed. FailsToWrite failed.error) }
+{
+    match whole.into_new().put_in_place() {
+        Ok(calls) => Ok(calls),
+        Err(NotPlaced { error, calls }) => Err(SaveFailed {
+            error: CedarPersistenceError::Io(error),
+            done: Unsaved::Made(calls),
+        }),
+    }
+}
+
+/// Why nothing was begun, as an error of the dictionary's files.
+fn fault_of<F>(failed: &NotBegun<F>) -> CedarPersistenceError
     ensures { FailsToWrite result }
 {
-    match fault {
-        Unwritten::NoBuffer => no_room(),
-        Unwritten::Io(error) => CedarPersistenceError::Io(error),
+    match &failed.error {
+        Some(error) => CedarPersistenceError::Io(*error),
+        None => no_room(),
     }
 }
 

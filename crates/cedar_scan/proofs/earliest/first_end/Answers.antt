@@ -4,7 +4,7 @@ use Rattle.cedar_scan.proofs.EarliestLemmas.{none_at_first, none_ends, none_more
 use Rattle.cedar_scan.proofs.earliest.first_end.Goals as goal
 
 pub loop-cursor-init : goal.loop-cursor-init
-loop-cursor-init g c = none_at_first (g.T.Placed.tree c.args.trie.now) (slot_of_path c.args.states.now) c.args.states.now c.requires c.args.text.now c.args.ticks.now
+loop-cursor-init g c = none_at_first (g.T.Placed.tree c.args.trie.now) (slot_of_path c.args.states.now) c.args.states.now c.args.keys.now c.requires c.args.text.now c.args.ticks.now
 
 pub read_byte-requires-clause-cursor : goal.read_byte-requires-clause-cursor
 read_byte-requires-clause-cursor g c = ([], c.loop-cursor.invariant.cursor)
@@ -16,7 +16,7 @@ pub returns-then-cursor-ne0-clause-gives : goal.returns-then-cursor-ne0-clause-g
 returns-then-cursor-ne0-clause-gives g c = λ offset.
     let now = c.loop-cursor.invariant in
     let next = c.read_byte.ensures.goes [] 0 now.cursor in
-    one_ends (g.T.Placed.tree c.args.trie.now) (slot_of_path c.args.states.now) c.args.states.now c.requires c.args.text.now c.args.ticks.now c.loop-cursor.cursor c.loop-cursor.ticks now c.loop-cursor-test.true c.read_byte.new.cursor
+    one_ends (g.T.Placed.tree c.args.trie.now) (slot_of_path c.args.states.now) c.args.states.now c.args.keys.now c.requires c.args.text.now c.args.ticks.now c.loop-cursor.cursor c.loop-cursor.ticks now c.loop-cursor-test.true c.read_byte.new.cursor
     (λ place. c.read_byte.ensures.goes [] place now.cursor) c.take_found-found.result c.take_found-found.new.cursor (c.take_found-found.ensures.gives [] 0 next.cursor) c.take_found-found.ensures.place offset
 
 pub returns-then-cursor-ne0-clause-cost : goal.returns-then-cursor-ne0-clause-cost
@@ -38,12 +38,12 @@ loop-cursor-smaller g c =
 pub loop-cursor-preserved : goal.loop-cursor-preserved
 loop-cursor-preserved g c =
     let now = c.loop-cursor.invariant in
-    none_more (g.T.Placed.tree c.args.trie.now) (slot_of_path c.args.states.now) c.args.states.now c.requires c.args.text.now c.args.ticks.now c.loop-cursor.cursor c.loop-cursor.ticks now c.loop-cursor-test.true c.read_byte.new.cursor
+    none_more (g.T.Placed.tree c.args.trie.now) (slot_of_path c.args.states.now) c.args.states.now c.args.keys.now c.requires c.args.text.now c.args.ticks.now c.loop-cursor.cursor c.loop-cursor.ticks now c.loop-cursor-test.true c.read_byte.new.cursor
     (λ place. c.read_byte.ensures.goes [] place now.cursor) c.if-cursor-ne0.false _ c.read_byte.ensures.cost
 
 pub returns-clause-gives : goal.returns-clause-gives
 returns-clause-gives g c = λ offset.
-    none_ends (g.T.Placed.tree c.args.trie.now) (slot_of_path c.args.states.now) c.args.states.now c.requires c.args.text.now c.args.ticks.now c.loop-cursor.cursor c.loop-cursor.ticks c.loop-cursor.invariant c.loop-cursor-test.false offset
+    none_ends (g.T.Placed.tree c.args.trie.now) (slot_of_path c.args.states.now) c.args.states.now c.args.keys.now c.requires c.args.text.now c.args.ticks.now c.loop-cursor.cursor c.loop-cursor.ticks c.loop-cursor.invariant c.loop-cursor-test.false offset
 
 pub returns-clause-cost : goal.returns-clause-cost
 returns-clause-cost g c =

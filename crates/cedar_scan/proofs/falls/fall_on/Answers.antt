@@ -1,6 +1,6 @@
 use Rattle.std.proofs.Common.{arith, refl, sym}
 use Rattle.cedar_scan.specs.Places.{placed_by}
-use Rattle.cedar_scan.proofs.FallLemmas.{ends_at_child, ends_at_root, fall_end, fall_inside, fall_range, falling, falls_down, falls_more, front_above, passes_byte, slot_inside, to_inside}
+use Rattle.cedar_scan.proofs.FallLemmas.{ends_at_child, ends_at_root, fall_end, fall_inside, fall_range, falling, falls_down, falls_more, front_above, passes_byte, to_inside}
 use Rattle.cedar_scan.proofs.falls.fall_on.Goals as goal
 
 pub returns-then-node-eq0 : goal.returns-then-node-eq0
@@ -14,9 +14,6 @@ loop-slot-init g c = falling (g.T.Placed.tree c.args.trie.now) (placed_by c.args
 
 pub bounds-falls-slot : goal.bounds-falls-slot
 bounds-falls-slot g c = fall_inside (g.T.Placed.tree c.args.trie.now) (placed_by c.args.places.now (g.T.Placed.slot_of c.args.trie.now)) c.args.states.now c.args.falls.now c.args.popped.now.items c.args.node c.requires.can c.requires.none c.loop-slot.slot c.loop-slot.popped.items c.loop-slot.invariant
-
-pub bounds-states-slot : goal.bounds-states-slot
-bounds-states-slot g c = slot_inside (g.T.Placed.tree c.args.trie.now) (placed_by c.args.places.now (g.T.Placed.slot_of c.args.trie.now)) c.args.states.now c.args.falls.now c.args.popped.now.items c.args.node c.requires.can c.requires.none c.loop-slot.slot c.loop-slot.popped.items c.loop-slot.invariant
 
 pub overflow_sub-front-in-loop-slot : goal.overflow_sub-front-in-loop-slot
 overflow_sub-front-in-loop-slot g c = front_above (g.T.Placed.tree c.args.trie.now) (placed_by c.args.places.now (g.T.Placed.slot_of c.args.trie.now)) c.args.states.now c.args.falls.now c.args.popped.now.items c.args.node c.requires.can c.requires.none c.loop-slot.slot c.loop-slot.popped.items c.loop-slot.invariant

@@ -25,7 +25,7 @@ pub returns-then-not-told-clause-cost : goal.returns-then-not-told-clause-cost
 returns-then-not-told-clause-cost g c =
     let end = ended (g.T.Placed.tree c.args.trie.now) (slot_of_path c.args.states.now) c.args.states.now c.args.falls.now c.args.popped.now c.requires.automaton c.args.text.now c.loop-cursor.cursor c.go_on-told.result c.go_on-told.new.cursor c.loop-cursor.ticks c.go_on-told.new.ticks c.go_on-told.ensures c.if-not-told.true in
     let so_far = c.loop-cursor.invariant.cost in
-    let same = ap (tests_left c.args.states.now c.args.text.now) end.1 in
+    let same = ap (tests_left (g.T.Placed.tree c.args.trie.now) c.args.states.now c.args.text.now) end.1 in
     let none = end.2 in
     omega (arith, so_far, same, none)
 

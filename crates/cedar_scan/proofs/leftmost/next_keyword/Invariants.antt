@@ -8,8 +8,8 @@ abbrev pub invariant-loop-cursor : goal.invariant-loop-cursor
 invariant-loop-cursor g l = record {
   cursor : IsKeywordCursor (g.T.Placed.tree l.trie) (slot_of_path l.states) l.states l.popped l.text l.cursor;
   keywords : keywords_left (g.T.Placed.tree l.trie) l.states l.popped l.text l.initial.cursor ≡ keywords_left (g.T.Placed.tree l.trie) l.states l.popped l.text l.cursor;
-  cost : l.ticks + tests_left l.states l.text l.cursor ≤ l.initial.ticks + tests_left l.states l.text l.initial.cursor;
+  cost : l.ticks + tests_left (g.T.Placed.tree l.trie) l.states l.text l.cursor ≤ l.initial.ticks + tests_left (g.T.Placed.tree l.trie) l.states l.text l.initial.cursor;
 }
 
 abbrev pub decreases-loop-cursor : goal.decreases-loop-cursor
-decreases-loop-cursor g l = tests_left l.states l.text l.cursor
+decreases-loop-cursor g l = tests_left (g.T.Placed.tree l.trie) l.states l.text l.cursor

@@ -12,11 +12,11 @@ abbrev bytes_of : List ℕ → ℕ → List ℕ
 bytes_of read first = take (length read - first) (drop first read)
 
 pub loop-byte-init : goal.loop-byte-init
-loop-byte-init g c = record { stands = sym c.requires.automaton.placing.root; cost = omega arith }
+loop-byte-init g c = record { stands = sym c.requires.automaton.1.placing.root; cost = omega arith }
 
 pub step-state-requires : goal.step-state-requires
 step-state-requires g c =
-    step_behind (g.T.Placed.tree c.args.trie.now) (slot_of_path c.args.states.now) c.args.states.now c.requires.automaton (take c.loop-byte.byte-index (bytes_of c.args.read.now c.saturating_sub-first.result)) c.loop-byte.state c.loop-byte.invariant.stands
+    step_behind (g.T.Placed.tree c.args.trie.now) (slot_of_path c.args.states.now) c.args.states.now c.requires.automaton.0 c.requires.automaton.1 (take c.loop-byte.byte-index (bytes_of c.args.read.now c.saturating_sub-first.result)) c.loop-byte.state c.loop-byte.invariant.stands
 
 pub loop-byte-preserved : goal.loop-byte-preserved
 loop-byte-preserved g c =
@@ -33,7 +33,7 @@ loop-byte-preserved g c =
     let same = ap length (held_goes_on t (take k bytes) (get_or bytes k 0)) in
     let long = ap (λ w. length (held_suffix t w)) next in
     record {
-      stands = held_behind t slots c.args.states.now c.requires.automaton bytes k c.step-state.result c.loop-byte-test.true goes;
+      stands = held_behind t slots c.args.states.now c.requires.automaton.0 c.requires.automaton.1 bytes k c.step-state.result c.loop-byte-test.true goes;
       cost = omega (arith, spent, so_far, same, long);
     }
 

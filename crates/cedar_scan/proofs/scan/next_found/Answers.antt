@@ -6,7 +6,7 @@ use Rattle.cedar_scan.proofs.scan.next_found.Goals as goal
 pub returns-then-cursor-piece-clause-gives : goal.returns-then-cursor-piece-clause-gives
 returns-then-cursor-piece-clause-gives g c = λ before offset at.
     let goes = c.loop-cursor.invariant.goes before offset at in
-    scanned (g.T.Placed.tree c.args.trie.now) (slot_of_path c.args.states.now) c.args.states.now before offset c.args.piece.now c.args.cursor.now c.loop-cursor.cursor c.requires.automaton goes.0 goes.1 c.loop-cursor-test.true c.if-cursor-piece.true
+    scanned (g.T.Placed.tree c.args.trie.now) (slot_of_path c.args.states.now) c.args.keys.now before offset c.args.piece.now c.args.cursor.now c.loop-cursor.cursor goes.0 goes.1 c.loop-cursor-test.true c.if-cursor-piece.true
 
 pub read_byte-requires-clause-cursor : goal.read_byte-requires-clause-cursor
 read_byte-requires-clause-cursor g c = (c.requires.cursor.0, (c.loop-cursor.invariant.goes c.requires.cursor.0 0 c.requires.cursor.1).0)
@@ -47,5 +47,5 @@ take_found-requires-clause-cursor g c = (c.requires.cursor.0, (c.loop-cursor.inv
 pub returns-clause-gives : goal.returns-clause-gives
 returns-clause-gives g c = λ before offset at.
     let goes = c.loop-cursor.invariant.goes before offset at in
-    given_first (g.T.Placed.tree c.args.trie.now) (slot_of_path c.args.states.now) c.args.states.now before offset c.args.piece.now c.args.cursor.now c.loop-cursor.cursor c.take_found.result c.take_found.new.cursor goes.1
+    given_first (g.T.Placed.tree c.args.trie.now) (slot_of_path c.args.states.now) c.args.keys.now before offset c.args.piece.now c.args.cursor.now c.loop-cursor.cursor c.take_found.result c.take_found.new.cursor goes.1
     (c.take_found.ensures.gives before offset goes.0).gives

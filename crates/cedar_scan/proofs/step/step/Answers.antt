@@ -1,7 +1,11 @@
 use Rattle.std.proofs.Common.{arith, refl, sym}
 use Rattle.cedar_scan.specs.Automata.{slot_of_path}
-use Rattle.cedar_scan.proofs.StepLemmas.{found_cost, goes_down, goes_on, root_cost, root_slot}
+use Rattle.cedar_scan.proofs.StepLemmas.{found_cost, found_slot, goes_down, goes_on, root_cost, root_slot}
 use Rattle.cedar_scan.proofs.step.step.Goals as goal
+
+pub returns-in-Some-clause-goes : goal.returns-in-Some-clause-goes
+returns-in-Some-clause-goes g c = λ u node at.
+    found_slot (g.T.Placed.tree c.args.trie.now) (slot_of_path c.args.states.now) c.args.states.now c.args.from c.args.label c.args.ticks.now c.loop-child.ticks u c.requires node at c.loop-child.slot (c.loop-child.invariant u node at) c.in-Some.child (sym c.in-Some.ensures)
 
 pub returns-in-Some-clause-cost : goal.returns-in-Some-clause-cost
 returns-in-Some-clause-cost g c = λ u node at.

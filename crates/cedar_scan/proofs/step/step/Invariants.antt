@@ -1,5 +1,5 @@
-use Rattle.std.proofs.Common.{◌≡◌, ℕ, List, true}
-use Rattle.cedar_scan.specs.Automata.{slot_of_path, state_at}
+use Rattle.std.proofs.Common.{◌≡◌, ℕ, List, length, true}
+use Rattle.cedar_scan.specs.Automata.{path_in, slot_of_path}
 use Rattle.cedar_scan.specs.Suffixes.{is_node}
 use Rattle.cedar_scan.proofs.StepLemmas.{IsOnWay}
 use Rattle.cedar_scan.proofs.step.step.Given as goal
@@ -10,4 +10,4 @@ invariant-loop-child g l =
     → IsOnWay (g.T.Placed.tree l.trie) (slot_of_path l.states) u l.label l.slot l.initial.ticks l.ticks
 
 abbrev pub decreases-loop-child : goal.decreases-loop-child
-decreases-loop-child g l = (state_at l.states l.slot).depth
+decreases-loop-child g l = length (path_in (g.T.Placed.tree l.trie) l.states l.slot)

@@ -12,7 +12,7 @@ returns-clause-gives g c =
     let t = g.T.Placed.tree s.trie.now in
     let new : KeywordsLeft = record {
       rest = keywords_left t s.states.now s.popped.now s.text.now c.next_keyword.new.cursor;
-      steps = tests_left s.states.now s.text.now c.next_keyword.new.cursor;
+      steps = tests_left t s.states.now s.text.now c.next_keyword.new.cursor;
     } in
     subst (λ (w : KeywordsLeft). YieldsFirst (λ (k : KeywordsLeft). k.rest) w c.next_keyword.result new) c.self.view_is c.next_keyword.ensures.gives
 

@@ -21,7 +21,7 @@ invariant_of-self-2 g c = (c.self.invariant.0, (c.in-Some.ensures.gives [] 0 c.s
 pub returns-clause-gives : goal.returns-clause-gives
 returns-clause-gives g c =
     let gives = c.in-Some.ensures.gives [] 0 c.self.invariant.1 in
-    let left = all_left (g.T.Placed.tree c.self.inside.trie.now) c.self.inside.states.now [] 0 c.self.inside.text.now c.next_found.new.cursor in
+    let left = all_left (g.T.Placed.tree c.self.inside.trie.now) c.self.inside.keys.now [] 0 c.self.inside.text.now c.next_found.new.cursor in
     let found = c.in-Some.found in
     let fits : FitsSigned w32 found.value = search rules in
     let place : 0 + c.next_found.new.cursor.place - found.len ≡ c.next_found.new.cursor.place - found.len = omega arith in

@@ -6,13 +6,19 @@ use Rattle.cedar_scan.proofs.ResumedLemmas.{ending_start}
 use Rattle.cedar_scan.proofs.owned.OwnedScanner.overlapping_from.Goals as goal
 
 pub uncounted_state-state-requires-clause-automaton : goal.uncounted_state-state-requires-clause-automaton
-uncounted_state-state-requires-clause-automaton g c = subst (λ (ss : List State). IsAutomaton (g.T.Placed.tree c.self.inside.trie) (slot_of_path ss) ss) (sym c.deref.ensures.value) c.self.invariant.0
+uncounted_state-state-requires-clause-automaton g c =
+    let keys = c.self.inside.keys.items in
+    (keys, subst (λ (ss : List State). IsAutomaton (g.T.Placed.tree c.self.inside.trie) (slot_of_path ss) ss keys) (sym c.deref.ensures.value) c.self.invariant.0)
 
 pub uncounted_state-state-requires-clause-height : goal.uncounted_state-state-requires-clause-height
 uncounted_state-state-requires-clause-height g c = subst (λ t. IsHeight t c.longest_len-longest.result) (sym c.self.view_is) c.longest_len-longest.ensures
 
 pub behind-requires-clause-automaton : goal.behind-requires-clause-automaton
-behind-requires-clause-automaton g c = subst (λ (ss : List State). IsAutomaton (g.T.Placed.tree c.self.inside.trie) (slot_of_path ss) ss) (sym c.deref-2.ensures.value) c.self.invariant.0
+behind-requires-clause-automaton g c =
+    let t = g.T.Placed.tree c.self.inside.trie in
+    let states = c.self.inside.states.items in
+    subst (λ (ss : List State). IsAutomaton t (slot_of_path ss) ss c.deref-3.result.now) (sym c.deref-2.ensures.value)
+    (subst (IsAutomaton t (slot_of_path states) states) (sym c.deref-3.ensures.value) c.self.invariant.0)
 
 pub behind-requires-clause-place : goal.behind-requires-clause-place
 behind-requires-clause-place g c = let low = c.min-start.ensures in omega (arith, low)

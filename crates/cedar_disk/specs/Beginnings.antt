@@ -1,0 +1,27 @@
+-- What is known of the writing of a whole file that was begun, or wasn't.
+use Rattle.std.specs.Prelude.{ℕ, List}
+use Rattle.std.specs.declared.io.traits.Read as read
+use Rattle.std.specs.declared.io.traits.Write as write
+use Rattle.std.specs.declared.io.traits.Seek as seek
+use Rattle.cedar_disk.specs.declared.begun.NotBegun.{NotBegun}
+use Rattle.cedar_disk.specs.declared.begun.Unplaced.{Unplaced}
+use Rattle.cedar_disk.specs.declared.whole.NewFile.{NewFile}
+use Rattle.cedar_disk.specs.Calls.{Call}
+use Rattle.cedar_disk.specs.NewFiles.{new_bytes, new_path}
+
+-- where nothing was begun
+abbrev pub not_begun_calls : {F : Type 0} → NotBegun F → List Call
+not_begun_calls failed = failed.history.calls
+
+module _ {F G D : Type 0} {r : read.Ghosts G} {w : write.Ghosts G} {s : seek.Ghosts G} {d : read.Ghosts D} where
+  -- a new file that is removed where it is dropped
+  abbrev pub unplaced_new : Unplaced F G D r w s d → NewFile F G D r w s d
+  unplaced_new new = new.file
+
+  -- the path whose place such a file is to take, as bytes
+  abbrev pub unplaced_path : Unplaced F G D r w s d → List ℕ
+  unplaced_path new = new_path (unplaced_new new)
+
+  -- what was written to such a file
+  abbrev pub unplaced_bytes : Unplaced F G D r w s d → List ℕ
+  unplaced_bytes new = new_bytes (unplaced_new new)
