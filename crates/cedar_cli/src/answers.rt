@@ -8,7 +8,7 @@ ghost use Rattle.cedar_cli.specs.Words.{pair_text, pairs_text, spaced_texts, tok
 ghost use Rattle.cedar_cli.specs.Words.{tokens_text, Writes, WritesBytes};
 
 use crate::script::ScriptError;
-use crate::write::{write_both, write_line, write_whole};
+use crate::write::{write_line, write_whole};
 use cedar_hex::encode_into;
 use cedar_words::{LongestPrefix, Segments};
 use cedarwood::{Entries, PrefixIter, PrefixPredictIter, Walked, Watched};
@@ -144,8 +144,10 @@ fn write_pair<W: Write>(writer: &mut Watched<W>, pair: (i32, usize)) -> Result<(
 {
     let (value, count) = pair;
     let mut figures = Buffer::new();
+    // A call for each part: then the one of a byte is a store.
     write_whole(writer, figures.format(value).as_bytes())?;
-    write_both(writer, b":", figures.format(count).as_bytes())
+    write_whole(writer, b":")?;
+    write_whole(writer, figures.format(count).as_bytes())
 }
 
 /// Writes the line of some tokens.

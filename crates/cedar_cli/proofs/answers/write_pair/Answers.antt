@@ -12,10 +12,17 @@ returns-in_err-write_whole g c =
     writes_same (ap (λ (text : List ℕ). text ++ (codes ":" ++ decimal c.args.pair.1)) figures)
     (breaks_first (codes ":" ++ decimal c.args.pair.1) c.from_residual.ensures.1 c.in_err-write_whole.ensures)
 
+pub returns-in_err-write_whole-2 : goal.returns-in_err-write_whole-2
+returns-in_err-write_whole-2 g c =
+    let fits : FitsSigned w32 c.args.pair.0 = search rules in
+    let figures : c.as_bytes.result.now ≡ signed_decimal c.args.pair.0 = c.as_bytes.ensures.value ∙ c.format.ensures.text ∙ ap signed_decimal (to_z-of_z w32 c.args.pair.0 fits) in
+    writes_same (ap (λ (text : List ℕ). text ++ (codes ":" ++ decimal c.args.pair.1)) figures)
+    (then_writes c.in_ok-write_whole.ensures (breaks_first (decimal c.args.pair.1) c.from_residual-in_err-write_whole-2.ensures.1 c.in_err-write_whole-2.ensures))
+
 pub returns : goal.returns
 returns g c =
     let fits : FitsSigned w32 c.args.pair.0 = search rules in
     let figures : c.as_bytes.result.now ≡ signed_decimal c.args.pair.0 = c.as_bytes.ensures.value ∙ c.format.ensures.text ∙ ap signed_decimal (to_z-of_z w32 c.args.pair.0 fits) in
     let count : c.as_bytes-2.result.now ≡ decimal c.args.pair.1 = c.as_bytes-2.ensures.value ∙ c.format-2.ensures.text in
     writes_same (ap₂ (λ (first second : List ℕ). first ++ (codes ":" ++ second)) figures count)
-    (then_writes c.in_ok-write_whole.ensures c.write_both.ensures)
+    (then_writes c.in_ok-write_whole.ensures (then_writes c.in_ok-write_whole-2.ensures c.write_whole-3.ensures))
