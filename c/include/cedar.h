@@ -800,8 +800,8 @@ size_t cedar_store_waiting(const cedar_store *s);
  * are in it too. A store that has failed in a change goes on then, with all that its dictionary has. It takes the time of all entries, and
  * memory for 4 MiB and the longest key. A crash at any moment leaves the old file or the new one, which represent the same dictionary.
  *
- * The new file is made beside the old one, under its name with `.cedar-compaction` behind it. It has its mode, and its owner if the system
- * allows it, and is locked. If a crash leaves it there, the next opening removes it. Returns:
+ * The new file is made beside the old one, under its name with `.cedar-compaction` behind it. It has its mode and its owner, as a file of
+ * cedar_replace_file has, and is locked. If a crash leaves it there, the next opening removes it. Returns:
  *
  * - CEDAR_OK; CEDAR_IS_CLOSED; CEDAR_STORE_READ_ONLY; CEDAR_STORE_LOCKED in a forked child.
  * - CEDAR_MEMORY and CEDAR_STORE_KEPT: the old file is there, and the store is as it was. After CEDAR_STORE_KEPT errno has the reason, as

@@ -106,8 +106,12 @@ class Files(unittest.TestCase):
         self.assertEqual((found.st_uid, found.st_gid), (NOBODY, NOBODY))
 
     def test_what_has_the_new_files_name_stays(self):
+        def of_somebody_else(name):
+            name.write_bytes(b"somebody else's")
+            name.chmod(0)
+
         d = Cedar({b"a": 1})
-        for make in (lambda name: name.mkdir(), lambda name: name.symlink_to("none"), lambda name: name.write_bytes(b"somebody else's")):
+        for make in (lambda name: name.mkdir(), lambda name: name.symlink_to("none"), of_somebody_else):
             for name in ("words.cedar.new", "words.cedar.1.new"):
                 make(self.path.with_name(name))
             before = [self.path.with_name(name).lstat() for name in self.names() if name != self.path.name]

@@ -458,6 +458,10 @@ void places(const dictionary &d, const std::string &path) {
     CHECK(look(path).st_mode == (S_IFREG | 0604) && rmdir(beside.c_str()) == 0 && symlink(path.c_str(), beside.c_str()) == 0);
     d.save_to_path(path);
     CHECK(S_ISREG(look(path).st_mode) && S_ISLNK(look(beside).st_mode) && std::remove(beside.c_str()) == 0);
+    std::ofstream(beside) << "of somebody else";
+    CHECK(chmod(beside.c_str(), 0) == 0); // nobody but the superuser may open it
+    d.save_to_path(path);
+    CHECK(look(beside).st_mode == S_IFREG && look(beside).st_size == 16 && std::remove(beside.c_str()) == 0);
     CHECK(symlink(path.c_str(), link.c_str()) == 0);
     dictionary(d.kind()).save_to_path(link);
     CHECK(S_ISREG(look(link).st_mode) && dictionary::load_from_path(path).size() == d.size() && std::remove(link.c_str()) == 0);
