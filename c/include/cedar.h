@@ -807,7 +807,8 @@ size_t cedar_store_waiting(const cedar_store *s);
  * - CEDAR_MEMORY and CEDAR_STORE_KEPT: the old file is there, and the store is as it was. After CEDAR_STORE_KEPT errno has the reason, as
  *   ENOSPC; EEXIST if there is a folder or a link of that name; ESTALE if the path has another file by now.
  * - CEDAR_STORE_DEVICE if the new file couldn't be given the name, or its folder couldn't be put on the disk: errno has the reason. The
- *   path has one of both files. The store has failed, and later calls of cedar_store_compact return CEDAR_STORE_FAILED. */
+ *   path has one of both files. The store has failed, and later calls of cedar_store_compact return CEDAR_STORE_FAILED: open it again, and
+ *   compact it before anything else. */
 uint32_t cedar_store_compact(cedar_store *s);
 
 /* Sets when changes compact the file by themselves: if it has more than factor times the bytes that it would have behind a compaction, and

@@ -701,8 +701,9 @@ public:
     std::size_t waiting() const noexcept { return cedar_store_waiting(&inside_); }
 
     /// Replaces the file by one that has the entries alone. A store that has failed in a change goes on then, with all that the dictionary
-    /// has. cedar.h says how it is done. After a std::system_error, if failed() isn't true then, or was true before, the old file is
-    /// there and the store is as it was; otherwise the new file couldn't be given the name, and the store has failed for good.
+    /// has. cedar.h says how it is done. After a std::system_error the old file is there and the store is as it was, unless the new file
+    /// couldn't be given the name or its folder couldn't be put on the disk. Then the store has failed for good, and compact() throws
+    /// CEDAR_STORE_FAILED from then on: open it again, and compact it before anything else.
     void compact() { check(cedar_store_compact(&inside_), 0); }
 
     /// Sets when changes compact the file by themselves, last: if it has more than factor times the bytes that it would have behind a

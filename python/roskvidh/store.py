@@ -148,8 +148,8 @@ class Store(Words[K]):
     def compact(self) -> None:
         """Replaces the file by one that has the entries alone. A store that has failed in a change goes on then, with all that it holds.
 
-        After an OSError the old file is there, and the store is as it was, unless the new file couldn't be given the name: then the store
-        has failed for good.
+        After an OSError the old file is there, and the store is as it was, unless the new file couldn't be given the name or its folder
+        couldn't be put on the disk. Then the store has failed for good: open it again, and compact it before anything else.
 
         >>> import os, tempfile
         >>> with tempfile.TemporaryDirectory() as folder, Store(os.path.join(folder, "words.store")) as s:
