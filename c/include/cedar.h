@@ -454,11 +454,12 @@ enum {
     CEDAR_LEFTMOST_FIRST = 3    /* the same, of those that begin first the one with the least value, and of several with it the shortest */
 };
 
-/* Opens *s with a scanner of *d for one of these searches. If *s is open, the new scanner replaces the old one. It takes about 28
- * bytes for each node of the dictionary, or 40 for leftmost keys, and never more than that for each of the dictionary's slots up to that
- * of its last node, besides the copy of the dictionary. For leftmost keys it also takes 12 bytes for each key that a path of the
- * dictionary gives where it can't go on: a few in most dictionaries, and 6 m^2 bytes at most for a key of m bytes. While it is made it
- * takes two lists of 24 bytes for each node, lists of 12 bytes for each slot of the dictionary, and what sorts of the nodes need.
+/* Opens *s with a scanner of *d for one of these searches. If *s is open, the new scanner replaces the old one. It takes about 20
+ * bytes for each node of the dictionary, or 36 for leftmost keys, and never more than that for each of the dictionary's slots up to that
+ * of its last node, besides the copy of the dictionary. It also takes 12 bytes for each key; for leftmost keys instead 12 bytes for each
+ * key that a path of the dictionary gives where it can't go on: a few in most dictionaries, and 6 m^2 bytes at most for a key of m bytes.
+ * While it is made it takes two lists of 24 bytes for each node, lists of 12 bytes for each slot of the dictionary, and what sorts of the
+ * nodes need.
  * Returns CEDAR_OK; CEDAR_IS_CLOSED if *d is closed; CEDAR_UNKNOWN_SEARCH; or CEDAR_MEMORY. After an error *s is as it was. */
 uint32_t cedar_scanner_new(const cedar_dictionary *d, uint32_t search, cedar_scanner *s);
 
