@@ -11,13 +11,17 @@ use crate::held::held_beside;
 use cedar_disk::{FileDevice, LockFile, OpenError};
 use cedar_journal::{Device, DeviceError, Extent, HEADER_LEN, extent_of};
 use std::alloc::{AllocError, Allocator};
-use std::fs;
+use std::fs::{self, Permissions};
 use std::io::{self, ErrorKind};
+use std::os::unix::fs::PermissionsExt;
 use std::path::PathBuf;
 use std::rt::Files;
 
 /// How many files beside a store's may keep what was cut off it.
 pub(crate) const MOST_KEPT: usize = 100;
+
+/// What such a file takes of the mode of the store's: not set-user-ID and set-group-ID, since it doesn't get that one's owner and group.
+const KEPT_MODE_BITS: u32 = 0o1777;
 
 /// A file beside a store's. It is on the disk, and locked until this is dropped.
 #[derive(Drop)]
@@ -179,10 +183,11 @@ where
     }
 }
 
-/// Gives the file of this name the permissions of the one at a path, as far as the system allows it.
+/// Gives the file of this name the permissions of the one at a path, as far as the system allows it, but for set-user-ID and set-group-ID.
 fn look_like<F: Files>(files: &F, path: &str, name: &str) {
     if let Ok(looks) = fs::metadata(files, path) {
-        let _ = fs::set_permissions(files, name, looks.permissions());
+        let mode = looks.permissions().mode() & KEPT_MODE_BITS;
+        let _ = fs::set_permissions(files, name, Permissions::from_mode(mode));
     }
 }
 
