@@ -109,8 +109,10 @@ impl<'a, F: Files> NewFile<'a, F> {
 
     /// Removes it: for a save that failed. Nothing else is touched. Returns what was done.
     pub fn give_up(self) -> PathCalls<F>
-        //= A new file that is given up wasn't to be given the name at the path.
+        //= A new file that is given up wasn't to be given the name at the path, and what is returned are the calls on it until then. [with
+        //  calls]
         ensures unasked { asked_after (path_calls result) ≡ false }
+        ensures calls { path_calls result ≡ new_calls self.entry }
     {
         self.file.remove(self.files, self.name.as_str(), self.path);
         let NewFile { file, .. } = self;
@@ -139,7 +141,8 @@ impl<'a, F: Files> NewFile<'a, F> {
 
     /// Removes it, and returns why.
     fn remove_after(self, error: io::Error) -> NotPlaced<F>
-        ensures { asked_after (path_calls result.calls) ≡ false }
+        ensures unasked { asked_after (path_calls result.calls) ≡ false }
+        ensures calls { path_calls result.calls ≡ new_calls self.entry }
     {
         NotPlaced {
             error,
