@@ -5,6 +5,7 @@ ghost use Rattle.cedarwood.specs.Words.{default_load_limit, FailsToWrite, IfErr,
 ghost use Rattle.cedarwood.specs.Words.{IsSavedAt, IsTableFile, IsUnsavedAt, IsWellFormed};
 ghost use Rattle.cedarwood.specs.Words.{LacksByPath, layout_byte, LoadsFrom, LoadsOpened};
 ghost use Rattle.cedarwood.specs.Words.{no_search_limit, OnOk, PassesAgain, table_bytes};
+ghost use Rattle.cedarwood.specs.Words.{TellsError};
 
 use crate::persistence::replace::no_room;
 use crate::{
@@ -84,6 +85,10 @@ impl<L: Layout, const SLOTS: usize, A: Allocator + Copy> Trie<L, SLOTS, A> {
         //  file. [also save_v1_0_to_path_noted; by IsUnsavedAt, IsUnsaved]
         ensures unplaced { IfErr result (IsUnsavedAt path.now (table_bytes 1 self.now.table)) }
         ensures err { IfErr result (λ failed. FailsToWrite failed.error) }
+
+        //= Its error is that of what was done: of the system once something was made or opened there; and else why nothing was begun, where
+        //  want of memory is only that of the buffer. [also save_v1_0_to_path_noted; by TellsError, IsErrorOf]
+        ensures told { IfErr result TellsError }
         ensures file { OnOk result (IsTableFile 1 SLOTS self.now.table (table_bytes 1 self.now.table)) }
         ensures passes { OnOk result (PassesAgain L.kind SLOTS 1 self.now.table) }
     {
@@ -133,6 +138,7 @@ impl<L: Layout, const SLOTS: usize, A: Allocator + Copy> Trie<L, SLOTS, A> {
         ensures saved { IfOk result (IsSavedAt path.now (table_bytes 0 self.now.table)) }
         ensures unplaced { IfErr result (IsUnsavedAt path.now (table_bytes 0 self.now.table)) }
         ensures err { IfErr result (λ failed. FailsToWrite failed.error) }
+        ensures told { IfErr result TellsError }
         ensures file { OnOk result (IsTableFile 0 SLOTS self.now.table (table_bytes 0 self.now.table)) }
         ensures passes { OnOk result (PassesAgain L.kind SLOTS 0 self.now.table) }
     {
