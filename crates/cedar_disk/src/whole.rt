@@ -87,8 +87,9 @@ impl<'a, F: Files> NewFile<'a, F> {
         })
     }
 
-    /// Gives it the place: first the old file's owner, as far as the system allows it, and permissions; then it is synced, renamed to the
-    /// path, and the folder is synced. A link at the path is replaced, and not what it leads to.
+    /// Gives it the place: first the old file's owner and group, as far as the system allows it, and its permissions, but set-user-ID and
+    /// set-group-ID only with both; then it is synced, renamed to the path, and the folder is synced. A link at the path is replaced, and
+    /// not what it leads to.
     ///
     /// # Errors
     /// That of the call that failed. If the file doesn't have the name, what was at the path is there still, and the new file is removed. If

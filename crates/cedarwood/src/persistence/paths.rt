@@ -20,9 +20,9 @@ use std::rt::Files;
 impl<L: Layout, const SLOTS: usize, A: Allocator + Copy> Trie<L, SLOTS, A> {
     /// Writes the dictionary's file as `save_to_writer` does, and replaces the one at `path` by it. A new file is made beside that one: `path`
     /// with `.new` after it, or with `.1.new` to `.99.new` where a name is taken (of a name that would be too long the first bytes come
-    /// before that). It is written through a buffer of 8192 bytes, flushed, and given the old file's mode, and its owner where the system
-    /// allows that. Once it is on the disk it is renamed, and its folder is synced. The buffer comes from the dictionary's own allocator;
-    /// nothing else is allocated.
+    /// before that). It is written through a buffer of 8192 bytes, flushed, and given the old file's owner and group where the system
+    /// allows that, and its mode, but set-user-ID and set-group-ID only with both. Once it is on the disk it is renamed, and its folder is
+    /// synced. The buffer comes from the dictionary's own allocator; nothing else is allocated.
     ///
     /// So whatever crash comes, the file at `path` is the old one or the new one, whole; after `Ok` it is the new one. If several programs
     /// save to one path, it is the file of one of them. After an error the old file is as it was, and the new one is removed if that is
