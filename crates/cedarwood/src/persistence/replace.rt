@@ -158,7 +158,7 @@ struct Unwritten<W> {
     error: io::Error,
 }
 
-/// Takes the writer out of its buffer. What that holds is lost.
+/// Takes the writer out of its buffer. Bytes that are still in the buffer are lost.
 fn out_of_buffer<W: Write + Drop, A: Allocator>(
     buffered: BufWriter<W, A>,
     error: io::Error,
@@ -167,7 +167,7 @@ fn out_of_buffer<W: Write + Drop, A: Allocator>(
     Unwritten { writer, error }
 }
 
-/// The writer's error, which is the only one of a save.
+/// The writer's error: `write_table` fails with no other.
 fn io_error(error: CedarPersistenceError) -> io::Error {
     match error {
         CedarPersistenceError::Io(error) => error,
