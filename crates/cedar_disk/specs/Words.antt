@@ -5,7 +5,7 @@ pub use Rattle.cedar_disk.specs.Calls.{folder_sync_call, full_in, is_locked_afte
 pub use Rattle.cedar_disk.specs.Calls.{is_usable_after, LeftSince, lock_call, MayLeave, open_call}
 pub use Rattle.cedar_disk.specs.Calls.{overlay, refused_call, rename_call, seen_after}
 pub use Rattle.cedar_disk.specs.Calls.{sync_call, took_name, truncate_call}
-pub use Rattle.cedar_disk.specs.Errors.{TellsKind}
+pub use Rattle.cedar_disk.specs.Errors.{IsUnlocked, TellsKind}
 pub use Rattle.cedar_disk.specs.Laws.{counts_now, only_now}
 pub use Rattle.cedar_disk.specs.Names.{compaction_path, HasNoSlash, LiesBeside, LiesIn, mark_of}
 pub use Rattle.cedar_disk.specs.Names.{new_suffix}

@@ -1,8 +1,8 @@
 //! How a file is found, opened and read.
 
-ghost use Rattle.std.specs.Prelude.{◌≡◌, IfOk, IfSome};
+ghost use Rattle.std.specs.Prelude.{◌≡◌, IfErr, IfOk, IfSome};
 ghost use Rattle.cedar_disk.specs.OpenedFiles.{file_to_read, OfFileAt};
-ghost use Rattle.cedar_disk.specs.Words.{Memory, TellsKind};
+ghost use Rattle.cedar_disk.specs.Words.{IsUnlocked, Memory, TellsKind};
 
 use crate::LockFile;
 use crate::opening::{FileToRead, open_to_read};
@@ -93,6 +93,8 @@ pub fn read_file<F: Files, A: Allocator>(
     //= What is read of a file by its path is all that was left, where that is known, in a file that was opened at this path, among the
     //  files that were given, to be read. [by OfFileAt]
     ensures bytes { IfOk result (λ bytes. OfFileAt F F.File.remaining path.now (λ left. IfSome left (λ all. bytes.items ≡ all))) }
+    //= A file that is only looked at is never told to be locked. [by IsUnlocked]
+    ensures err { IfErr result IsUnlocked }
 {
     read_opened(open_to_read(files, path)?, alloc)
 }
@@ -103,6 +105,7 @@ fn read_opened<F, T: Read + OpenFile + Drop, A: Allocator>(
     alloc: A,
 ) -> Result<Vec<u8, A>, OpenError>
     ensures bytes { IfOk result (λ bytes. IfSome (T.remaining (file_to_read opened)) (λ left. bytes.items ≡ left)) }
+    ensures err { IfErr result IsUnlocked }
 {
     let mut file = opened.into_file();
     if !file.metadata()?.is_file() {

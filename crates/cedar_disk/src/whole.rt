@@ -87,8 +87,9 @@ impl<'a, F: Files> NewFile<'a, F> {
         })
     }
 
-    /// Gives it the place: first the old file's owner, as far as the system allows it, and permissions; then it is synced, renamed to the
-    /// path, and the folder is synced. A link at the path is replaced, and not what it leads to.
+    /// Gives it the place: first the old file's owner and group, as far as the system allows it, and its permissions, but set-user-ID and
+    /// set-group-ID only with both; then it is synced, renamed to the path, and the folder is synced. A link at the path is replaced, and
+    /// not what it leads to.
     ///
     /// # Errors
     /// That of the call that failed. If the file doesn't have the name, what was at the path is there still, and the new file is removed. If
@@ -109,8 +110,10 @@ impl<'a, F: Files> NewFile<'a, F> {
 
     /// Removes it: for a save that failed. Nothing else is touched. Returns what was done.
     pub fn give_up(self) -> PathCalls<F>
-        //= A new file that is given up wasn't to be given the name at the path.
+        //= A new file that is given up wasn't to be given the name at the path, and what is returned are the calls on it until then. [with
+        //  calls]
         ensures unasked { asked_after (path_calls result) ≡ false }
+        ensures calls { path_calls result ≡ new_calls self.entry }
     {
         self.file.remove(self.files, self.name.as_str(), self.path);
         let NewFile { file, .. } = self;
@@ -139,7 +142,8 @@ impl<'a, F: Files> NewFile<'a, F> {
 
     /// Removes it, and returns why.
     fn remove_after(self, error: io::Error) -> NotPlaced<F>
-        ensures { asked_after (path_calls result.calls) ≡ false }
+        ensures unasked { asked_after (path_calls result.calls) ≡ false }
+        ensures calls { path_calls result.calls ≡ new_calls self.entry }
     {
         NotPlaced {
             error,

@@ -1,5 +1,5 @@
 -- Why a store wasn't opened whose opening keeps what it cuts, and what that leaves.
-use Rattle.std.specs.Prelude.{ℕ, List}
+use Rattle.std.specs.Prelude.{◌<◌, ℕ, List}
 use Rattle.cedar_store.specs.Causes.{IsBeforeWrites}
 use Rattle.cedar_store.specs.Promises.{IsOpenCause}
 use Rattle.cedar_salvage.specs.declared.keep.KeepError.{KeepError}
@@ -11,6 +11,12 @@ use Rattle.cedar_salvage.specs.declared.opening.OpeningError.TheVariants.{Keep, 
 abbrev pub IsReadable : KeepError → Type 0
 IsReadable Unread = ⊥
 IsReadable _ = Unit {0}
+
+-- why what an opening would cut off wasn't kept: if the store's device couldn't be read, a call of it has failed.
+-- `before` and `now` are how often it has
+abbrev pub KeepCause : ℕ → ℕ → KeepError → Type 0
+KeepCause before now Unread = before < now
+KeepCause before now _ = Unit {0}
 
 -- the opening was tried, and failed
 abbrev pub IsOfOpening : OpeningError → Type 0
@@ -28,7 +34,7 @@ abbrev pub IsUnfailed : OpeningError → Type 0
 IsUnfailed (Keep e) = IsReadable e
 IsUnfailed (Open e) = IsBeforeWrites e
 
--- why the opening failed, if it was tried (`IsOpenCause`)
+-- why nothing was kept (`KeepCause`), or why the opening failed, if it was tried (`IsOpenCause`)
 abbrev pub IsOpeningCause : {D : Type 0} → (D → List ℕ) → (D → ℕ) → (D → ℕ) → D → D → OpeningError → Type 0
-IsOpeningCause seen faults full old new (Keep e) = Unit {0}
+IsOpeningCause seen faults full old new (Keep e) = KeepCause (faults old) (faults new) e
 IsOpeningCause seen faults full old new (Open e) = IsOpenCause seen faults full old new e

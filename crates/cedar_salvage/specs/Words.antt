@@ -11,7 +11,7 @@ pub use Rattle.cedar_store.specs.Files.{format_named, IsCorrupt, state_of}
 pub use Rattle.cedar_store.specs.Promises.{IsCounted, IsReadyStore}
 pub use Rattle.cedarwood.specs.Words.{key_fault}
 pub use Rattle.cedar_salvage.specs.Openings.{IsBeforeWriting, IsOfOpening, IsOpeningCause}
-pub use Rattle.cedar_salvage.specs.Openings.{IsReadable, IsUnfailed}
+pub use Rattle.cedar_salvage.specs.Openings.{IsReadable, IsUnfailed, KeepCause}
 pub use Rattle.cedar_salvage.specs.Restoring.{IsOfFile, IsOfRoom, LeavesEitherRecords}
 pub use Rattle.cedar_salvage.specs.Restoring.{restore_error, RestoreCause}
 pub use Rattle.cedar_salvage.specs.Whole.{cuts_records, CutsNone, first_changes, found_in, found_of}

@@ -1,7 +1,7 @@
 //! What an earlier call has kept beside a store's file.
 
-ghost use Rattle.std.specs.Prelude.{◌++◌, ◌≡◌, false, IfOk, IfSome, true};
-ghost use Rattle.cedar_salvage.specs.Words.{MayLeave, Only, seen_after};
+ghost use Rattle.std.specs.Prelude.{◌++◌, ◌≡◌, false, IfErr, IfOk, IfSome, true};
+ghost use Rattle.cedar_salvage.specs.Words.{IsReadable, MayLeave, Only, seen_after};
 ghost use Rattle.cedar_disk.specs.FileDevices.{device_calls};
 
 use crate::keep::{KeepError, Kept, MOST_KEPT, name_beside};
@@ -23,6 +23,7 @@ where
     F::File: LockFile,
     ensures filled { IfOk result (λ held. IfSome held (λ kept. seen_after (device_calls kept.device) ≡ header.now ++ bytes.now)) }
     ensures durable { IfOk result (λ held. IfSome held (λ kept. Only (seen_after (device_calls kept.device)) (MayLeave (device_calls kept.device)))) }
+    ensures err { IfErr result IsReadable }
 {
     for number in 0..MOST_KEPT {
         let path = name_beside(alloc, path, number)?;
@@ -55,6 +56,7 @@ where
     F::File: LockFile,
     ensures filled { IfOk result (λ held. IfSome held (λ device. seen_after (device_calls device) ≡ header.now ++ bytes.now)) }
     ensures durable { IfOk result (λ held. IfSome held (λ device. Only (seen_after (device_calls device)) (MayLeave (device_calls device)))) }
+    ensures err { IfErr result IsReadable }
 {
     let mut device = match FileDevice::open_existing(files, alloc, path) {
         Ok(device) => device,

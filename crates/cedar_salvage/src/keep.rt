@@ -1,9 +1,10 @@
 //! What an opening would cut off a store's file, kept beside it.
 
-ghost use Rattle.std.specs.Prelude.{◌+◌, ◌++◌, ◌≡◌, ◌≤◌, [], drop, IfErr, IfNone, IfOk, IfSome};
-ghost use Rattle.std.specs.Prelude.{length, List, OnOk, take};
-ghost use Rattle.cedar_salvage.specs.Words.{CutsNone, Elapses, IsCutOf, IsReadable, MayLeave};
-ghost use Rattle.cedar_salvage.specs.Words.{Memory, Only, seen_after};
+ghost use Rattle.std.specs.Prelude.{◌+◌, ◌++◌, ◌≡◌, ◌≤◌, [], bit_and, drop, IfErr, IfNone, IfOk};
+ghost use Rattle.std.specs.Prelude.{IfSome, length, List, OnOk, take};
+ghost use Rattle.std.specs.Fs.{metadata_mode, permissions_mode};
+ghost use Rattle.cedar_salvage.specs.Words.{CutsNone, Elapses, IsCutOf, IsReadable, KeepCause};
+ghost use Rattle.cedar_salvage.specs.Words.{MayLeave, Memory, Only, seen_after};
 ghost use Rattle.cedar_disk.specs.FileDevices.{device_calls};
 
 use crate::cut::may_cut_records;
@@ -11,13 +12,17 @@ use crate::held::held_beside;
 use cedar_disk::{FileDevice, LockFile, OpenError};
 use cedar_journal::{Device, DeviceError, Extent, HEADER_LEN, extent_of};
 use std::alloc::{AllocError, Allocator};
-use std::fs;
+use std::fs::{self, Metadata, Permissions};
 use std::io::{self, ErrorKind};
+use std::os::unix::fs::PermissionsExt;
 use std::path::PathBuf;
 use std::rt::Files;
 
 /// How many files beside a store's may keep what was cut off it.
 pub(crate) const MOST_KEPT: usize = 100;
+
+/// What such a file takes of the mode of the store's: not set-user-ID and set-group-ID, since it doesn't get that one's owner and group.
+const KEPT_MODE_BITS: u32 = 0o1777;
 
 /// A file beside a store's. It is on the disk, and locked until this is dropped.
 #[derive(Drop)]
@@ -83,11 +88,14 @@ where
     ensures done { OnOk result (D.faults device.new ≡ D.faults device.old) }
     ensures unfailed { IfErr result (λ error. IsReadable error → D.faults device.new ≡ D.faults device.old) }
     ensures room { D.full device.new ≡ D.full device.old }
+    //= `Unread` is returned only if a call of its device has failed. [by KeepCause]
+    ensures cause { IfErr result (KeepCause (D.faults device.old) (D.faults device.new)) }
 {
     let bytes = match device.read(alloc) {
         Ok(bytes) => bytes,
         Err(DeviceError::Memory) => return Err(KeepError::Memory),
-        Err(_) => return Err(KeepError::Unread),
+        Err(DeviceError::NoRoom) => return Err(KeepError::Unread), // A read asks for no room.
+        Err(DeviceError::Failed) => return Err(KeepError::Unread),
     };
     let Some(end) = cut_at(&bytes) else {
         return Ok(None);
@@ -119,7 +127,9 @@ fn behind_link<F: Files, A: Allocator>(
     alloc: A,
     files: &F,
     path: &str,
-) -> Result<Option<PathBuf<A>>, KeepError> {
+) -> Result<Option<PathBuf<A>>, KeepError>
+    ensures err { IfErr result IsReadable }
+{
     match fs::symlink_metadata(files, path) {
         Ok(found) if found.is_symlink() => {}
         _ => return Ok(None),
@@ -143,6 +153,7 @@ where
     F::File: LockFile,
     ensures filled { IfOk result (λ kept. seen_after (device_calls kept.device) ≡ header.now ++ bytes.now) }
     ensures durable { IfOk result (λ kept. Only (seen_after (device_calls kept.device)) (MayLeave (device_calls kept.device))) }
+    ensures err { IfErr result IsReadable }
 {
     match behind_link(alloc, &files, path)? {
         Some(real) => keep_beside(alloc, files, real.as_str(), header, bytes),
@@ -162,6 +173,7 @@ where
     F::File: LockFile,
     ensures filled { IfOk result (λ kept. seen_after (device_calls kept.device) ≡ header.now ++ bytes.now) }
     ensures durable { IfOk result (λ kept. Only (seen_after (device_calls kept.device)) (MayLeave (device_calls kept.device))) }
+    ensures err { IfErr result IsReadable }
 {
     if let Some(held) = held_beside(alloc, files, path, header, bytes)? {
         return Ok(held);
@@ -179,11 +191,18 @@ where
     }
 }
 
-/// Gives the file of this name the permissions of the one at a path, as far as the system allows it.
+/// Gives the file of this name the permissions of the one at a path, as far as the system allows it, but for set-user-ID and set-group-ID.
 fn look_like<F: Files>(files: &F, path: &str, name: &str) {
     if let Ok(looks) = fs::metadata(files, path) {
-        let _ = fs::set_permissions(files, name, looks.permissions());
+        let _ = fs::set_permissions(files, name, kept_permissions(&looks));
     }
+}
+
+/// Returns the permissions of a file that keeps what was cut off one of these looks.
+fn kept_permissions(looks: &Metadata) -> Permissions
+    ensures { permissions_mode result ≡ bit_and (metadata_mode looks.now) 0o1777 }
+{
+    Permissions::from_mode(looks.permissions().mode() & KEPT_MODE_BITS)
 }
 
 /// Makes a new file beside one, at the first name that is free.
@@ -195,6 +214,7 @@ fn make_beside<F: Files + Copy + Drop, A: Allocator + Copy>(
 where
     F::File: LockFile,
     ensures empty { IfOk result (λ kept. seen_after (device_calls kept.device) ≡ []) }
+    ensures err { IfErr result IsReadable }
 {
     for number in 0..MOST_KEPT {
         let path = name_beside(alloc, path, number)?;

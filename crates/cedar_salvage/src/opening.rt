@@ -102,8 +102,8 @@ where
     ensures untouched { IfErr result (λ e. IsBeforeWriting e.error → LeavesOnly D.moment D.left_since device e.device (λ c. c ≡ D.seen device)) }
     ensures seen { IfErr result (λ e. IsBeforeWriting e.error → D.seen e.device ≡ D.seen device) }
 
-    //= An opening that fails does so for the reasons of `Store::open`. If the error isn't the device's, no call of the device has failed.
-    //  [with unfailed]
+    //= An opening that fails does so for the reasons of `Store::open`, or since nothing could be kept; and then for `Unread` only if a call of
+    //  the device has failed. If the error isn't the device's, none has. [with unfailed; by IsOpeningCause, KeepCause]
     ensures cause { IfErr result (λ e. IsOpeningCause D.seen D.faults D.full device e.device e.error) }
     ensures unfailed { IfErr result (λ e. IsUnfailed e.error → D.faults e.device ≡ D.faults device) }
 

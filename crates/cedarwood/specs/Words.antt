@@ -10,7 +10,7 @@ pub use Rattle.cedar_format.specs.Format.{CountsWithin, header_answer, IsVersion
 pub use Rattle.cedar_format.specs.Reading.{IsIo, LacksNoMore, TellsBreaks}
 pub use Rattle.cedar_format.specs.Tables.{header_of, IsTableFile, table_bytes}
 pub use Rattle.cedar_format.specs.WatchedDevice.{device_of, has_failed}
-pub use Rattle.cedar_format.specs.declared.error.CedarPersistenceError.TheVariants.{AllocationFailed}
+pub use Rattle.cedar_format.specs.declared.error.CedarPersistenceError.TheVariants.{AllocationFailed, Io}
 pub use Rattle.cedar_format.specs.Watched.{Watched}
 pub use Rattle.cedar_model.specs.Meaning.Marks.{marks, MarksCut, MarksPut}
 pub use Rattle.cedar_model.specs.Meaning.WellFormed.{cells_in, IsWellFormed, tree_of}
@@ -57,7 +57,7 @@ pub use Rattle.cedarwood.specs.OnTable.{dictionary_of, IsOnTable}
 pub use Rattle.cedarwood.specs.RangeWalks.{entries_between, entries_left_before, GivesBetween}
 pub use Rattle.cedarwood.specs.RangeWalks.{GivesRange, IsEnd, IsRangePlace}
 pub use Rattle.cedarwood.specs.Room.{LacksRoom, SetsSearchLimit}
-pub use Rattle.cedarwood.specs.Saves.{IsSavedAt, IsUnsaved, IsUnsavedAt}
+pub use Rattle.cedarwood.specs.Saves.{IsErrorOf, IsSavedAt, IsUnsaved, IsUnsavedAt, TellsError}
 pub use Rattle.cedarwood.specs.Saving.{FailsToWrite, PassesAgain}
 pub use Rattle.cedarwood.specs.Shown.{entry_error_text, error_text, refused_pair_text, shown_text}
 pub use Rattle.cedarwood.specs.Shrinking.{ArePlaces, entry_of, IsEntryPlace, IsMadeOf, IsPutBack}

@@ -5,6 +5,7 @@ ghost use Rattle.cedarwood.specs.Words.{default_load_limit, FailsToWrite, IfErr,
 ghost use Rattle.cedarwood.specs.Words.{IsSavedAt, IsTableFile, IsUnsavedAt, IsWellFormed};
 ghost use Rattle.cedarwood.specs.Words.{LacksByPath, layout_byte, LoadsFrom, LoadsOpened};
 ghost use Rattle.cedarwood.specs.Words.{no_search_limit, OnOk, PassesAgain, table_bytes};
+ghost use Rattle.cedarwood.specs.Words.{TellsError};
 
 use crate::persistence::replace::no_room;
 use crate::{
@@ -19,9 +20,9 @@ use std::rt::Files;
 impl<L: Layout, const SLOTS: usize, A: Allocator + Copy> Trie<L, SLOTS, A> {
     /// Writes the dictionary's file as `save_to_writer` does, and replaces the one at `path` by it. A new file is made beside that one: `path`
     /// with `.new` after it, or with `.1.new` to `.99.new` where a name is taken (of a name that would be too long the first bytes come
-    /// before that). It is written through a buffer of 8192 bytes, flushed, and given the old file's mode, and its owner where the system
-    /// allows that. Once it is on the disk it is renamed, and its folder is synced. The buffer comes from the dictionary's own allocator;
-    /// nothing else is allocated.
+    /// before that). It is written through a buffer of 8192 bytes, flushed, and given the old file's owner and group where the system
+    /// allows that, and its mode, but set-user-ID and set-group-ID only with both. Once it is on the disk it is renamed, and its folder is
+    /// synced. The buffer comes from the dictionary's own allocator; nothing else is allocated.
     ///
     /// So whatever crash comes, the file at `path` is the old one or the new one, whole; after `Ok` it is the new one. If several programs
     /// save to one path, it is the file of one of them. After an error the old file is as it was, and the new one is removed if that is
@@ -84,6 +85,10 @@ impl<L: Layout, const SLOTS: usize, A: Allocator + Copy> Trie<L, SLOTS, A> {
         //  file. [also save_v1_0_to_path_noted; by IsUnsavedAt, IsUnsaved]
         ensures unplaced { IfErr result (IsUnsavedAt path.now (table_bytes 1 self.now.table)) }
         ensures err { IfErr result (λ failed. FailsToWrite failed.error) }
+
+        //= Its error is that of what was done: of the system once something was made or opened there; and else why nothing was begun, where
+        //  want of memory is only that of the buffer. [also save_v1_0_to_path_noted; by TellsError, IsErrorOf]
+        ensures told { IfErr result TellsError }
         ensures file { OnOk result (IsTableFile 1 SLOTS self.now.table (table_bytes 1 self.now.table)) }
         ensures passes { OnOk result (PassesAgain L.kind SLOTS 1 self.now.table) }
     {
@@ -133,6 +138,7 @@ impl<L: Layout, const SLOTS: usize, A: Allocator + Copy> Trie<L, SLOTS, A> {
         ensures saved { IfOk result (IsSavedAt path.now (table_bytes 0 self.now.table)) }
         ensures unplaced { IfErr result (IsUnsavedAt path.now (table_bytes 0 self.now.table)) }
         ensures err { IfErr result (λ failed. FailsToWrite failed.error) }
+        ensures told { IfErr result TellsError }
         ensures file { OnOk result (IsTableFile 0 SLOTS self.now.table (table_bytes 0 self.now.table)) }
         ensures passes { OnOk result (PassesAgain L.kind SLOTS 0 self.now.table) }
     {

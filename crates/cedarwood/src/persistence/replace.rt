@@ -1,14 +1,14 @@
 //! Saves by path: a new file takes the place of the one of its name once it is whole.
 
-ghost use Rattle.std.specs.Prelude.{◌≡◌, [], IfErr, IfOk, OnOk};
+ghost use Rattle.std.specs.Prelude.{◌≡◌, [], IfErr, IfOk, MatchOption, OnOk};
 ghost use Rattle.std.specs.Io.Buffered.{writer_buffer, writer_inner};
 ghost use Rattle.cedar_disk.specs.Beginnings.{unplaced_bytes, unplaced_path};
 ghost use Rattle.cedar_disk.specs.PathFiles.{path_calls};
 ghost use Rattle.cedar_disk.specs.SpecialFiles.{sent_calls, special_told};
 ghost use Rattle.cedar_disk.specs.Words.{address, IsPlaced, IsSentTo};
-ghost use Rattle.cedarwood.specs.Words.{AllocationFailed, Appends, FailsToWrite, IsSavedAt};
+ghost use Rattle.cedarwood.specs.Words.{AllocationFailed, Appends, FailsToWrite, Io, IsSavedAt};
 ghost use Rattle.cedarwood.specs.Words.{IsTableFile, IsUnsavedAt, IsVersion, PassesAgain};
-ghost use Rattle.cedarwood.specs.Words.{table_bytes};
+ghost use Rattle.cedarwood.specs.Words.{table_bytes, TellsError};
 
 use crate::{CedarPersistenceError, Layout, SaveFailed, Saved, Trie, Unsaved, Watched};
 use cedar_disk::{
@@ -34,6 +34,7 @@ impl<L: Layout, const SLOTS: usize, A: Allocator + Copy> Trie<L, SLOTS, A> {
         ensures saved { IfOk result (IsSavedAt path.now (table_bytes minor self.now.table)) }
         ensures unplaced { IfErr result (IsUnsavedAt path.now (table_bytes minor self.now.table)) }
         ensures err { IfErr result (λ failed. FailsToWrite failed.error) }
+        ensures told { IfErr result TellsError }
         ensures file { OnOk result (IsTableFile minor SLOTS self.now.table (table_bytes minor self.now.table)) }
         ensures passes { OnOk result (PassesAgain L.kind SLOTS minor self.now.table) }
     {
@@ -58,6 +59,7 @@ impl<L: Layout, const SLOTS: usize, A: Allocator + Copy> Trie<L, SLOTS, A> {
         ensures saved { IfOk result (λ calls. IsPlaced path.now (table_bytes minor self.now.table) (path_calls calls)) }
         ensures unplaced { IfErr result (IsUnsavedAt path.now (table_bytes minor self.now.table)) }
         ensures err { IfErr result (λ failed. FailsToWrite failed.error) }
+        ensures told { IfErr result TellsError }
         ensures file { OnOk result (IsTableFile minor SLOTS self.now.table (table_bytes minor self.now.table)) }
         ensures passes { OnOk result (PassesAgain L.kind SLOTS minor self.now.table) }
     {
@@ -84,6 +86,7 @@ impl<L: Layout, const SLOTS: usize, A: Allocator + Copy> Trie<L, SLOTS, A> {
         ensures saved { IfOk result (λ calls. IsPlaced _path.now (table_bytes minor self.now.table) (path_calls calls)) }
         ensures unplaced { IfErr result (IsUnsavedAt _path.now (table_bytes minor self.now.table)) }
         ensures err { IfErr result (λ failed. FailsToWrite failed.error) }
+        ensures told { IfErr result TellsError }
         ensures file { OnOk result (IsTableFile minor SLOTS self.now.table (table_bytes minor self.now.table)) }
         ensures passes { OnOk result (PassesAgain L.kind SLOTS minor self.now.table) }
     {
@@ -109,6 +112,7 @@ impl<L: Layout, const SLOTS: usize, A: Allocator + Copy> Trie<L, SLOTS, A> {
         ensures sent { IfOk result (λ sent. IsSentTo _path.now (table_bytes minor self.now.table) (sent_calls sent)) }
         ensures unplaced { IfErr result (IsUnsavedAt _path.now (table_bytes minor self.now.table)) }
         ensures err { IfErr result (λ failed. FailsToWrite failed.error) }
+        ensures told { IfErr result TellsError }
         ensures file { OnOk result (IsTableFile minor SLOTS self.now.table (table_bytes minor self.now.table)) }
         ensures passes { OnOk result (PassesAgain L.kind SLOTS minor self.now.table) }
     {
@@ -154,7 +158,7 @@ struct Unwritten<W> {
     error: io::Error,
 }
 
-/// Takes the writer out of its buffer. What that holds is lost.
+/// Takes the writer out of its buffer. Bytes that are still in the buffer are lost.
 fn out_of_buffer<W: Write + Drop, A: Allocator>(
     buffered: BufWriter<W, A>,
     error: io::Error,
@@ -163,7 +167,7 @@ fn out_of_buffer<W: Write + Drop, A: Allocator>(
     Unwritten { writer, error }
 }
 
-/// The writer's error, which is the only one of a save.
+/// The writer's error: `write_table` fails with no other.
 fn io_error(error: CedarPersistenceError) -> io::Error {
     match error {
         CedarPersistenceError::Io(error) => error,
@@ -176,6 +180,7 @@ fn put_in_place<F: Files>(whole: Unplaced<'_, F>) -> Result<PathCalls<F>, SaveFa
     ensures placed { IfOk result (λ calls. IsPlaced (unplaced_path whole.entry) (unplaced_bytes whole.entry) (path_calls calls)) }
     ensures unplaced { IfErr result (IsUnsavedAt (unplaced_path whole.entry) (unplaced_bytes whole.entry)) }
     ensures err { IfErr result (λ failed. FailsToWrite failed.error) }
+    ensures told { IfErr result TellsError }
 {
     match whole.into_new().put_in_place() {
         Ok(calls) => Ok(calls),
@@ -188,7 +193,8 @@ fn put_in_place<F: Files>(whole: Unplaced<'_, F>) -> Result<PathCalls<F>, SaveFa
 
 /// Why nothing was begun, as an error of the dictionary's files.
 fn fault_of<F>(failed: &NotBegun<F>) -> CedarPersistenceError
-    ensures { FailsToWrite result }
+    ensures err { FailsToWrite result }
+    ensures told { MatchOption failed.now.error (result ≡ AllocationFailed 8192) (λ cause. result ≡ Io cause) }
 {
     match &failed.error {
         Some(error) => CedarPersistenceError::Io(*error),
