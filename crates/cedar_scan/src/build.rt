@@ -66,8 +66,8 @@ fn failure_of<T: Placed, C: Ledger>(
     step(trie, states, above, node.label, ticks)
 }
 
-/// Lists the key that a node is, if it is one, which goes on with the longest one that is shorter. Returns the index of the longest key that
-/// ends where the node's path does.
+/// Lists the key that a node is, if it is one, with a link to the longest key that is a proper suffix of it: `shorter` is that one's index.
+/// Returns the index of the longest key that ends where the node's path does.
 fn list_key<A: Allocator>(
     keys: &mut Vec<ListedKey, A>,
     node: PlacedNode,
@@ -197,7 +197,7 @@ fn build_with<T: Placed, C: Ledger, A: Allocator + Copy>(
 }
 
 /// Makes the automaton of a dictionary: a state for each slot up to the last one of a node, and a list of the keys. It allocates these, and
-/// until it returns lists of the nodes and of their slots, and what a sort of the nodes needs.
+/// until it returns lists of the nodes and of their slots, and what sorts of the nodes need.
 pub(crate) fn build<T: Placed, A: Allocator + Copy>(
     trie: &T,
     alloc: A,

@@ -179,8 +179,8 @@ pub(crate) struct KeywordParts<A: Allocator> {
     pub(crate) popped: Vec<Popped, A>,
 }
 
-/// Makes the automaton of a dictionary for keywords. It allocates its parts, and until it returns a list of the nodes and what a sort of it
-/// needs.
+/// Makes the automaton of a dictionary for keywords. It allocates its parts, and until it returns lists of the nodes and of their slots, and
+/// what sorts of the nodes need.
 pub(crate) fn build_parts<T: Placed, A: Allocator + Copy>(
     trie: &T,
     alloc: A,

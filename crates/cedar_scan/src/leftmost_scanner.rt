@@ -42,7 +42,7 @@ impl<'a, T: Placed, A: Allocator + Copy> LeftmostScanner<'a, T, A> {
     ghost use Rattle.cedar_scan.specs.Words.{leftmost, LeftmostKeys};
 
     /// The automaton of a dictionary, for a kind of match. It allocates from `alloc`, and until it returns lists of the dictionary's nodes
-    /// and what sorts of them need.
+    /// and of their slots, and what sorts of the nodes need.
     ///
     /// ```
     /// cedar.build(&[("he", 1), ("her", 2), ("ero", 3)])?;

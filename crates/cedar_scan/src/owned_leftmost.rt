@@ -65,7 +65,7 @@ impl<T: Placed + Drop, A: Allocator + Copy> OwnedLeftmostScanner<T, A> {
     ghost use Rattle.cedar_scan.specs.Words.{IsHeight, leftmost_from, LeftmostKeys};
 
     /// The automaton of a dictionary, which it takes, for a kind of match. It allocates from `alloc`, and until it returns lists of the
-    /// dictionary's nodes and what sorts of them need.
+    /// dictionary's nodes and of their slots, and what sorts of the nodes need.
     ///
     /// ```
     /// cedar.build(&[("he", 1), ("her", 2), ("ero", 3)])?;
