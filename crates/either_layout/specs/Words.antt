@@ -7,7 +7,7 @@ pub use Rattle.cedarwood.specs.Words.{held_in_turn, IsBuild, IsCleared, IsEmpty,
 pub use Rattle.cedarwood.specs.Words.{IsErasures, IsIo, IsMarked, IsOnTable, IsRefusedBuild}
 pub use Rattle.cedarwood.specs.Words.{IsSavedAt, IsShrunk, IsSorted, IsSound, IsTableFile}
 pub use Rattle.cedarwood.specs.Words.{IsUpdate, IsUpdates, IsValid, IsWellFormed, keys_erased}
-pub use Rattle.cedarwood.specs.Words.{keys_of}
+pub use Rattle.cedarwood.specs.Words.{IsLimit, keys_of}
 pub use Rattle.cedarwood.specs.Words.{LacksRoom, last_entry, LoadsBy, longest_front, MarksCut}
 pub use Rattle.cedarwood.specs.Words.{most_slots, no_search_limit, number_at, outcome}
 pub use Rattle.cedarwood.specs.Words.{PassesAgain, predict, prefixes, reduced_layout}

@@ -2,14 +2,14 @@
 
 ghost use Rattle.std.specs.Prelude.{◌≡◌, false, IfErr, IfOk, List, Option, Some, slice_get, ℕ};
 ghost use Rattle.either_layout.specs.Words.{file_layout, inner_dictionary, inner_layout};
-ghost use Rattle.either_layout.specs.Words.{IsWellFormed, LacksInEither, layout_for, LoadsAnyFrom};
-ghost use Rattle.either_layout.specs.Words.{LoadsAnyOpened, LoadsBy, most_slots};
+ghost use Rattle.either_layout.specs.Words.{IsLimit, IsWellFormed, LacksInEither, layout_for};
+ghost use Rattle.either_layout.specs.Words.{LoadsAnyFrom, LoadsAnyOpened, LoadsBy, most_slots};
 ghost use Rattle.either_layout.specs.Words.{names_reduced_layout, no_search_limit, table_in};
 ghost use Rattle.either_layout.specs.Words.{TellsBreaks};
 
 use crate::AnyCedar;
 use cedar_disk::open_to_read;
-use cedarwood::{Cedar, CedarPersistenceError, ReducedCedar, Source, Watched};
+use cedarwood::{Cedar, CedarPersistenceError, Layout, ReducedCedar, Source, Trie, Watched};
 use std::alloc::Global;
 use std::io::{BufReader, Cursor, Read};
 use std::rt::Files;
@@ -79,6 +79,7 @@ impl AnyCedar {
     /// # Errors
     /// As [`Trie::load_counted`](cedarwood::Trie::load_counted) of that layout. A file that names neither layout is refused as by the
     /// default one: with `LayoutMismatch`, unless something before that byte is wrong.
+    #[tactic(auto, using(cedarwood::proofs::DictionaryLemmas::default_limit))]
     pub fn load_any(
         alloc: Global,
         bytes: &[u8],
@@ -90,8 +91,18 @@ impl AnyCedar {
         ensures layout { IfOk result (λ a. inner_layout a ≡ file_layout bytes.now) }
         ensures unbounded { IfOk result (λ a. (inner_dictionary a).search_limit ≡ no_search_limit) }
     {
-        let mut left = bytes;
-        AnyCedar::load_as(alloc, names_reduced(bytes), &mut left, memory_limit)
+        let is_reduced = names_reduced(bytes);
+        if is_reduced {
+            match load_bytes(alloc, bytes, memory_limit) {
+                Ok(cedar) => Ok(AnyCedar::Reduced(cedar)),
+                Err(error) => Err(error),
+            }
+        } else {
+            match load_bytes(alloc, bytes, memory_limit) {
+                Ok(cedar) => Ok(AnyCedar::Default(cedar)),
+                Err(error) => Err(error),
+            }
+        }
     }
 
     /// Loads the dictionary that was saved in a file, of the layout that the file names, through a buffer of 8192 bytes, if its table needs
@@ -152,4 +163,19 @@ impl AnyCedar {
         let mut whole = Watched::new(Cursor::new(head).chain(reader.into_inner()));
         AnyCedar::load_as(alloc, is_reduced, &mut whole, memory_limit)
     }
+}
+
+/// The dictionary of a layout that a file's bytes are of, if they are of one. What is left of the bytes is in a variable of its own, and so in
+/// registers: a load from a reader that is lent takes a quarter to a third more instructions.
+fn load_bytes<L: Layout, const SLOTS: usize>(
+    alloc: Global,
+    bytes: &[u8],
+    memory_limit: usize,
+) -> Result<Trie<L, SLOTS, Global>, CedarPersistenceError>
+    requires limit { IsLimit SLOTS }
+    ensures loads { (left : Option (List ℕ)) × LoadsBy (λ trie. trie.table) L.kind SLOTS memory_limit (Some bytes.now) left false result }
+    ensures unbounded { IfOk result (λ trie. trie.search_limit ≡ no_search_limit) }
+{
+    let mut left = bytes;
+    Trie::load_from_reader_with_limit(alloc, &mut left, memory_limit)
 }
