@@ -96,7 +96,7 @@ fn read_file<A: Allocator, D: Device>(alloc: A, device: &mut D) -> Result<Vec<u8
 
 impl<T: Made<A>, A: Allocator + Copy, D: Device> Store<T, A, D> {
     /// Opens a file that a crash may have left: makes its changes again, and cuts the file after the whole records, if more follows than a
-    /// closed gate. A new file gets its header.
+    /// closed gate. What it cuts is lost, unless it is kept before, as `keep_and_open` of `cedar_salvage` does. A new file gets its header.
     ///
     /// # Errors
     /// With the device: `Foreign` if the file is of another kind, `Damaged` if a record is damaged, `Corrupt` if one is not a change,

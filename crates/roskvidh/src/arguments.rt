@@ -16,7 +16,8 @@ const NOTES: &str = "\
 Words are UTF-8. In arguments, lists and answers \\xHH stands for a byte, as \\x09 for a tab and \\x5c for a backslash.
 An answer's line is a word, a tab and its number. Only answers go to standard output.
 
-Status: 0 done, 1 nothing was found, 2 wrong arguments, 3 a fault of a file, of the input or output, or of memory.
+Status: 0 done, 1 nothing was found, 2 wrong arguments, 3 a fault of a file, of the input or output, or of memory, 4 another program
+has the store open.
 
 Example:
   roskvidh build words.tsv -o words.cedar
