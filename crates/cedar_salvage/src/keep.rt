@@ -234,11 +234,18 @@ pub(crate) fn name_beside<A: Allocator>(
     alloc: A,
     path: &str,
     number: usize,
-) -> Result<String<A>, AllocError> {
-    if number == 0 {
-        return format!(in alloc; "{path}.cut");
+) -> Result<String<A>, KeepError>
+    ensures err { IfErr result IsReadable }
+{
+    let name = if number == 0 {
+        format!(in alloc; "{path}.cut")
+    } else {
+        format!(in alloc; "{path}.{number}.cut")
+    };
+    match name {
+        Ok(name) => Ok(name),
+        Err(AllocError) => Err(KeepError::Memory),
     }
-    format!(in alloc; "{path}.{number}.cut")
 }
 
 /// Writes a header and some bytes to an empty device. They are on the disk then.
