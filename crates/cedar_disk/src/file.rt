@@ -1,11 +1,14 @@
 //! A file of the operating system as a device.
 
-ghost use Rattle.std.specs.Prelude.{◌≡◌, ◌∷◌, [], false, length, IfOk, true};
-ghost use Rattle.cedar_disk.specs.Words.{counts_now, faults_in, ForSome, full_in, is_locked_after};
-ghost use Rattle.cedar_disk.specs.Words.{is_named_after, LeftSince, MayLeave, Only, only_now};
-ghost use Rattle.cedar_disk.specs.Words.{opened_any, opened_as, opened_existing, opened_new};
-ghost use Rattle.cedar_disk.specs.Words.{seen_after, way_of};
+ghost use Rattle.std.specs.Prelude.{◌≡◌, ◌≤◌, ◌∷◌, [], false, IfOk, IsErrOf, length, List, OnOk, take};
+ghost use Rattle.std.specs.Prelude.{true, ℕ};
+ghost use Rattle.cedar_disk.specs.Words.{counts_now, Cut, faults_in, Follows, ForSome, full_in};
+ghost use Rattle.cedar_disk.specs.Words.{HasCauseIn, is_locked_after, is_named_after, LeftSince};
+ghost use Rattle.cedar_disk.specs.Words.{MayLeave, Only, only_now, opened_any, opened_as};
+ghost use Rattle.cedar_disk.specs.Words.{opened_existing, opened_new, seen_after, TimePasses, Torn};
+ghost use Rattle.cedar_disk.specs.Words.{way_of};
 ghost use Rattle.cedar_disk.specs.Accounts.{calls_of};
+ghost use Rattle.cedar_journal.specs.Device.{HasReadCause, Holds};
 
 use crate::noted::Place;
 use crate::opening::Wanted;
@@ -121,7 +124,7 @@ impl<F: Files + Drop, A: Allocator + Copy> FileDevice<F, A> {
 }
 
 impl<F: Files + Drop, A: Allocator + Copy> Device for FileDevice<F, A> {
-    ghost use Rattle.cedar_disk.specs.FileDevices.{device_calls};
+    ghost use Rattle.cedar_disk.specs.FileDevices.{device_calls, device_opening};
 
     //= A file of the operating system is a device. The list of its calls, each noted with its result, gives what a read returns, and what a
     //  crash may leave, and counts its failures and the writes that found no room. [with may_leave, moment, left_since, faults, full]
@@ -141,14 +144,36 @@ impl<F: Files + Drop, A: Allocator + Copy> Device for FileDevice<F, A> {
 
     ghost only_now = { λ device. only_now (device_calls device) };
 
-    fn read<B: Allocator>(&mut self, alloc: B) -> Result<Vec<u8, B>, DeviceError> {
+    fn read<B: Allocator>(&mut self, alloc: B) -> Result<Vec<u8, B>, DeviceError>
+        //= Each call of such a device does what the trait says. [with seen, crash, time, cause, room; also write_at.written,
+        //  write_at.no_room, write_at.crash, write_at.time, write_at.cause, write_over.written, write_over.crash, write_over.time,
+        //  write_over.cause, write_over.roomy, cut.cut, cut.crash, cut.time, cut.cause, cut.roomy, sync.durable, sync.seen, sync.crash,
+        //  sync.time, sync.cause, sync.roomy]
+        ensures bytes { IfOk result (λ bytes. bytes.items ≡ seen_after (device_calls self.old)) }
+        ensures seen { seen_after (device_calls self.new) ≡ seen_after (device_calls self.old) }
+        ensures crash { (c : List ℕ) → MayLeave (device_calls self.new) c → MayLeave (device_calls self.old) c }
+        ensures time { TimePasses (device_calls self.old) (device_calls self.new) }
+        ensures cause { HasReadCause (faults_in (device_calls self.old)) (faults_in (device_calls self.new)) result }
+        ensures room { full_in (device_calls self.new) ≡ full_in (device_calls self.old) }
+        //= It remains the file that was opened: at which path, and whether as a new one, stays. [also write_at, write_over, cut, sync]
+        ensures opening { device_opening self.new ≡ device_opening self.old }
+    {
         match &self.held {
             Some(bytes) => Ok(bytes.to_vec(alloc)?),
             None => Err(self.account.refuse()),
         }
     }
 
-    fn write_at(&mut self, at: usize, bytes: &[u8]) -> Result<(), DeviceError> {
+    fn write_at(&mut self, at: usize, bytes: &[u8]) -> Result<(), DeviceError>
+        requires { at ≤ length (seen_after (device_calls self.old)) }
+        ensures written { OnOk result (Holds (seen_after (device_calls self.old)) at bytes.now (seen_after (device_calls self.new))) }
+        ensures no_room { IsErrOf result DeviceError.NoRoom
+            → Torn at (length bytes.now) (seen_after (device_calls self.old)) (seen_after (device_calls self.new)) }
+        ensures crash { Follows (Torn at (length bytes.now)) (MayLeave (device_calls self.old)) (MayLeave (device_calls self.new)) }
+        ensures time { TimePasses (device_calls self.old) (device_calls self.new) }
+        ensures cause { HasCauseIn (device_calls self.old) (device_calls self.new) result }
+        ensures opening { device_opening self.new ≡ device_opening self.old }
+    {
         if !self.account.is_usable() {
             return Err(self.account.refuse());
         }
@@ -156,7 +181,15 @@ impl<F: Files + Drop, A: Allocator + Copy> Device for FileDevice<F, A> {
         self.account.write(at, bytes)
     }
 
-    fn write_over(&mut self, at: usize, bytes: &[u8]) -> Result<(), DeviceError> {
+    fn write_over(&mut self, at: usize, bytes: &[u8]) -> Result<(), DeviceError>
+        requires { at ≤ length (seen_after (device_calls self.old)) }
+        ensures written { OnOk result (Holds (seen_after (device_calls self.old)) at bytes.now (seen_after (device_calls self.new))) }
+        ensures crash { Follows (Torn at (length bytes.now)) (MayLeave (device_calls self.old)) (MayLeave (device_calls self.new)) }
+        ensures time { TimePasses (device_calls self.old) (device_calls self.new) }
+        ensures cause { HasCauseIn (device_calls self.old) (device_calls self.new) result }
+        ensures roomy { IsErrOf result DeviceError.NoRoom → ⊥ }
+        ensures opening { device_opening self.new ≡ device_opening self.old }
+    {
         if !self.account.is_usable() {
             return Err(self.account.refuse());
         }
@@ -164,7 +197,15 @@ impl<F: Files + Drop, A: Allocator + Copy> Device for FileDevice<F, A> {
         self.account.write_over(at, bytes)
     }
 
-    fn cut(&mut self, len: usize) -> Result<(), DeviceError> {
+    fn cut(&mut self, len: usize) -> Result<(), DeviceError>
+        requires { len ≤ length (seen_after (device_calls self.old)) }
+        ensures cut { OnOk result (seen_after (device_calls self.new) ≡ take len (seen_after (device_calls self.old))) }
+        ensures crash { Follows (Cut len) (MayLeave (device_calls self.old)) (MayLeave (device_calls self.new)) }
+        ensures time { TimePasses (device_calls self.old) (device_calls self.new) }
+        ensures cause { HasCauseIn (device_calls self.old) (device_calls self.new) result }
+        ensures roomy { IsErrOf result DeviceError.NoRoom → ⊥ }
+        ensures opening { device_opening self.new ≡ device_opening self.old }
+    {
         if !self.account.is_usable() {
             return Err(self.account.refuse());
         }
@@ -172,7 +213,15 @@ impl<F: Files + Drop, A: Allocator + Copy> Device for FileDevice<F, A> {
         self.account.cut(len)
     }
 
-    fn sync(&mut self) -> Result<(), DeviceError> {
+    fn sync(&mut self) -> Result<(), DeviceError>
+        ensures durable { OnOk result (Only (seen_after (device_calls self.old)) (MayLeave (device_calls self.new))) }
+        ensures seen { seen_after (device_calls self.new) ≡ seen_after (device_calls self.old) }
+        ensures crash { (c : List ℕ) → MayLeave (device_calls self.new) c → MayLeave (device_calls self.old) c }
+        ensures time { TimePasses (device_calls self.old) (device_calls self.new) }
+        ensures cause { HasCauseIn (device_calls self.old) (device_calls self.new) result }
+        ensures roomy { IsErrOf result DeviceError.NoRoom → ⊥ }
+        ensures opening { device_opening self.new ≡ device_opening self.old }
+    {
         if !self.account.is_usable() {
             return Err(self.account.refuse());
         }

@@ -7,8 +7,9 @@
 //! The trait `Files` says nothing of its calls, so a type of one's own may answer a rename and make none. What is noted has the type of the
 //! files that the calls were made on. So where that is a type parameter, no calls on a type of one's own are taken for calls on it.
 
-ghost use Rattle.std.specs.Prelude.{◌≡◌, ◌≤◌, ◌<◌, ◌^◌, ◌∷◌, [], false, IfOk, IfSome};
+ghost use Rattle.std.specs.Prelude.{◌≡◌, ◌≤◌, ◌<◌, ◌^◌, ◌∷◌, [], bit_and, false, IfOk, IfSome};
 ghost use Rattle.std.specs.Prelude.{is_ok, length, OnErr, OnOk, true};
+ghost use Rattle.std.specs.Fs.{metadata_mode, permissions_mode};
 ghost use Rattle.cedar_disk.specs.NotedFiles.{is_beside, made_as, noted_calls};
 ghost use Rattle.cedar_disk.specs.OpenedFiles.{folder_calls, found_path};
 ghost use Rattle.cedar_disk.specs.Words.{call_with, compaction_path, folder_sync_call};
@@ -340,13 +341,7 @@ impl<F: Files> Noted<F> {
             Ok(made) => keep_owner(files, name, &made, other),
             Err(_) => false,
         };
-        let kept = if is_kept {
-            MODE_BITS
-        } else {
-            MODE_BITS_OF_ANY_OWNER
-        };
-        let mode = other.permissions().mode() & kept;
-        match self.file.set_permissions(Permissions::from_mode(mode)) {
+        match self.file.set_permissions(permissions_like(other, is_kept)) {
             Err(error) if error.kind() == io::ErrorKind::Unsupported => Ok(()),
             answer => answer,
         }
@@ -483,6 +478,19 @@ impl<F: Files> Noted<F> {
             among: PhantomData,
         }
     }
+}
+
+// The permissions of a file that is to look like another one. Whether it could have that one's owner and group decides whether it may run
+// as these.
+fn permissions_like(other: &Metadata, is_kept: bool) -> Permissions
+    ensures kept { is_kept ≡ true → permissions_mode result ≡ bit_and (metadata_mode other.now) 0o7777 }
+    ensures dropped { is_kept ≡ false → permissions_mode result ≡ bit_and (metadata_mode other.now) 0o1777 }
+{
+    let mode = other.permissions().mode();
+    if is_kept {
+        return Permissions::from_mode(mode & MODE_BITS);
+    }
+    Permissions::from_mode(mode & MODE_BITS_OF_ANY_OWNER)
 }
 
 // Writes some of the bytes by one call.
