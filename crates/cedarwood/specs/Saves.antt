@@ -21,7 +21,7 @@ IsSavedAt path bytes (Sent sent) = IsSentTo path bytes (sent_calls sent)
 
 -- what a save by path did that failed. Nothing was begun, at this path. Or a new file was made: nothing was done at this
 -- path, or the disk had these bytes of the file before a rename that failed, or before a sync of the folder that failed.
--- Or what is there isn't a file
+-- Or something that isn't a file took a part
 abbrev pub IsUnsaved : {F : Type 0} → List ℕ → List ℕ → Unsaved F → Type 0
 IsUnsaved path bytes (unsaved.NotBegun failed) = not_begun_calls failed ≡ not_begun path ∷ []
 IsUnsaved path bytes (unsaved.Made calls) = IsUnplacedAt path bytes (path_calls calls)

@@ -81,8 +81,8 @@ impl<L: Layout, const SLOTS: usize, A: Allocator + Copy> Trie<L, SLOTS, A> {
         ensures saved { IfOk result (IsSavedAt path.now (table_bytes 1 self.now.table)) }
 
         //= If it fails, it tells what was done: nothing was begun at the path; or a new file was made, and nothing was done at the path, or
-        //  the disk had the file's bytes before a rename that failed, or before a sync of the folder that did; or what is there isn't a
-        //  file. [also save_v1_0_to_path_noted; by IsUnsavedAt, IsUnsaved]
+        //  the disk had the file's bytes before a rename that failed, or before a sync of the folder that did; or something that isn't
+        //  a file took a part. [also save_v1_0_to_path_noted; by IsUnsavedAt, IsUnsaved]
         ensures unplaced { IfErr result (IsUnsavedAt path.now (table_bytes 1 self.now.table)) }
         ensures err { IfErr result (λ failed. FailsToWrite failed.error) }
 
