@@ -2,6 +2,8 @@
 use Rattle.std.specs.Prelude.{◌≡◌, ◌⊎◌, ◌<◌, ℕ, zero, suc, ◌+◌, ◌*◌, ◌&&◌, ◌==◌, nat_le, Bool}
 use Rattle.std.specs.Prelude.{true, false, not, cond, List, [], ◌∷◌, ◌++◌, length, take, drop}
 use Rattle.std.specs.Prelude.{get_or, Option, Some, None, is_some}
+use Rattle.cedar_disk.specs.Calls.{Call}
+use Rattle.cedar_disk.specs.Openings.{opened_existing, opened_new}
 use Rattle.cedar_journal.specs.declared.format.Format.{Format}
 use Rattle.cedar_journal.specs.declared.format.Format.TheVariants.{Plain, Summed}
 use Rattle.cedar_journal.specs.declared.records.Extent.{Extent}
@@ -109,3 +111,7 @@ IsCutOf file kept = (extent : Extent) × HasExtent file extent × ((cuts_records
 -- the file represents no records, and an opening refuses it; or an opening would cut off no whole record
 abbrev pub CutsNone : List ℕ → Type 0
 CutsNone file = (file_payloads file ≡ None) ⊎ ((extent : Extent) × HasExtent file extent × (cuts_records file extent ≡ false))
+
+-- a file was opened at this path, as a new one or as one that was there. `opening` is how it was
+abbrev pub IsOpenedAt : List ℕ → List Call → Type 0
+IsOpenedAt path opening = (opening ≡ opened_new path ∷ []) ⊎ (opening ≡ opened_existing path ∷ [])

@@ -15,7 +15,8 @@ pub use Rattle.cedar_salvage.specs.Openings.{IsReadable, IsUnfailed, KeepCause}
 pub use Rattle.cedar_salvage.specs.Restoring.{IsOfFile, IsOfRoom, LeavesEitherRecords}
 pub use Rattle.cedar_salvage.specs.Restoring.{restore_error, RestoreCause}
 pub use Rattle.cedar_salvage.specs.Whole.{cuts_records, CutsNone, first_changes, found_in, found_of}
-pub use Rattle.cedar_salvage.specs.Whole.{has_some, is_change, IsCutOf, is_kind, is_whole, look_at}
-pub use Rattle.cedar_salvage.specs.Whole.{looks, salvage_of, TakesLong}
+pub use Rattle.cedar_salvage.specs.Whole.{has_some, is_change, IsCutOf, is_kind, IsOpenedAt}
+pub use Rattle.cedar_salvage.specs.Whole.{is_whole, look_at, looks, salvage_of, TakesLong}
 pub use Rattle.cedar_disk.specs.Calls.{MayLeave, seen_after}
+pub use Rattle.cedar_disk.specs.Openings.{opened_existing, opened_new}
 pub use Rattle.cedar_salvage.specs.declared.keep.KeepError.TheVariants.{Memory}

@@ -1,8 +1,8 @@
 //! What an earlier call has kept beside a store's file.
 
-ghost use Rattle.std.specs.Prelude.{◌++◌, ◌≡◌, false, IfErr, IfOk, IfSome, true};
-ghost use Rattle.cedar_salvage.specs.Words.{IsReadable, MayLeave, Only, seen_after};
-ghost use Rattle.cedar_disk.specs.FileDevices.{device_calls};
+ghost use Rattle.std.specs.Prelude.{◌++◌, ◌∷◌, ◌≡◌, [], false, IfErr, IfOk, IfSome, string_bytes, true};
+ghost use Rattle.cedar_salvage.specs.Words.{IsReadable, MayLeave, Only, opened_existing, seen_after};
+ghost use Rattle.cedar_disk.specs.FileDevices.{device_calls, device_opening};
 
 use crate::keep::{KeepError, Kept, MOST_KEPT, name_beside};
 use cedar_disk::{FileDevice, LockFile, OpenError};
@@ -23,6 +23,7 @@ where
     F::File: LockFile,
     ensures filled { IfOk result (λ held. IfSome held (λ kept. seen_after (device_calls kept.device) ≡ header.now ++ bytes.now)) }
     ensures durable { IfOk result (λ held. IfSome held (λ kept. Only (seen_after (device_calls kept.device)) (MayLeave (device_calls kept.device)))) }
+    ensures named { IfOk result (λ held. IfSome held (λ kept. device_opening kept.device ≡ opened_existing (string_bytes kept.path) ∷ [])) }
     ensures err { IfErr result IsReadable }
 {
     for number in 0..MOST_KEPT {
@@ -56,6 +57,7 @@ where
     F::File: LockFile,
     ensures filled { IfOk result (λ held. IfSome held (λ device. seen_after (device_calls device) ≡ header.now ++ bytes.now)) }
     ensures durable { IfOk result (λ held. IfSome held (λ device. Only (seen_after (device_calls device)) (MayLeave (device_calls device)))) }
+    ensures named { IfOk result (λ held. IfSome held (λ device. device_opening device ≡ opened_existing path.now ∷ [])) }
     ensures err { IfErr result IsReadable }
 {
     let mut device = match FileDevice::open_existing(files, alloc, path) {

@@ -1,11 +1,11 @@
 //! What an opening would cut off a store's file, kept beside it.
 
-ghost use Rattle.std.specs.Prelude.{◌+◌, ◌++◌, ◌≡◌, ◌≤◌, [], bit_and, drop, IfErr, IfNone, IfOk};
-ghost use Rattle.std.specs.Prelude.{IfSome, length, List, OnOk, take};
+ghost use Rattle.std.specs.Prelude.{◌+◌, ◌++◌, ◌∷◌, ◌≡◌, ◌≤◌, [], bit_and, drop, IfErr, IfNone};
+ghost use Rattle.std.specs.Prelude.{IfOk, IfSome, length, List, OnOk, string_bytes, take};
 ghost use Rattle.std.specs.Fs.{metadata_mode, permissions_mode};
-ghost use Rattle.cedar_salvage.specs.Words.{CutsNone, Elapses, IsCutOf, IsReadable, KeepCause};
-ghost use Rattle.cedar_salvage.specs.Words.{MayLeave, Memory, Only, seen_after};
-ghost use Rattle.cedar_disk.specs.FileDevices.{device_calls};
+ghost use Rattle.cedar_salvage.specs.Words.{CutsNone, Elapses, IsCutOf, IsOpenedAt, IsReadable};
+ghost use Rattle.cedar_salvage.specs.Words.{KeepCause, MayLeave, Memory, Only, opened_new, seen_after};
+ghost use Rattle.cedar_disk.specs.FileDevices.{device_calls, device_opening};
 
 use crate::cut::may_cut_records;
 use crate::held::held_beside;
@@ -27,7 +27,7 @@ const KEPT_MODE_BITS: u32 = 0o1777;
 /// A file beside a store's. It is on the disk, and locked until this is dropped.
 #[derive(Drop)]
 pub struct Kept<F: Files + Drop, A: Allocator> {
-    /// Its path.
+    /// The path at which it was opened.
     pub path: String<A>,
     /// The file.
     pub device: FileDevice<F, A>,
@@ -78,6 +78,8 @@ where
     //  and on the disk. [with durable]
     ensures kept { IfOk result (λ kept. IfSome kept (λ k. IsCutOf (D.seen device.old) (seen_after (device_calls k.device)))) }
     ensures durable { IfOk result (λ kept. IfSome kept (λ k. Only (seen_after (device_calls k.device)) (MayLeave (device_calls k.device)))) }
+    //= That file was opened at the path that is returned with it, as a new one or as one that was there. [by IsOpenedAt]
+    ensures named { IfOk result (λ kept. IfSome kept (λ k. IsOpenedAt (string_bytes k.path) (device_opening k.device))) }
     //= Nothing is kept only if the opening would cut off no whole record, or if the file represents no records.
     ensures none { IfOk result (λ kept. IfNone kept (CutsNone (D.seen device.old))) }
     //= The store's file stays as it was. [with restarted, time]
@@ -153,6 +155,7 @@ where
     F::File: LockFile,
     ensures filled { IfOk result (λ kept. seen_after (device_calls kept.device) ≡ header.now ++ bytes.now) }
     ensures durable { IfOk result (λ kept. Only (seen_after (device_calls kept.device)) (MayLeave (device_calls kept.device))) }
+    ensures named { IfOk result (λ kept. IsOpenedAt (string_bytes kept.path) (device_opening kept.device)) }
     ensures err { IfErr result IsReadable }
 {
     match behind_link(alloc, &files, path)? {
@@ -173,6 +176,7 @@ where
     F::File: LockFile,
     ensures filled { IfOk result (λ kept. seen_after (device_calls kept.device) ≡ header.now ++ bytes.now) }
     ensures durable { IfOk result (λ kept. Only (seen_after (device_calls kept.device)) (MayLeave (device_calls kept.device))) }
+    ensures named { IfOk result (λ kept. IsOpenedAt (string_bytes kept.path) (device_opening kept.device)) }
     ensures err { IfErr result IsReadable }
 {
     if let Some(held) = held_beside(alloc, files, path, header, bytes)? {
@@ -214,6 +218,7 @@ fn make_beside<F: Files + Copy + Drop, A: Allocator + Copy>(
 where
     F::File: LockFile,
     ensures empty { IfOk result (λ kept. seen_after (device_calls kept.device) ≡ []) }
+    ensures named { IfOk result (λ kept. device_opening kept.device ≡ opened_new (string_bytes kept.path) ∷ []) }
     ensures err { IfErr result IsReadable }
 {
     for number in 0..MOST_KEPT {
@@ -248,11 +253,16 @@ pub(crate) fn name_beside<A: Allocator>(
     }
 }
 
-/// Writes a header and some bytes to an empty device. They are on the disk then.
-fn fill<D: Device>(device: &mut D, header: &[u8], bytes: &[u8]) -> Result<(), DeviceError>
-    requires empty { D.seen device.old ≡ [] }
-    ensures filled { OnOk result (D.seen device.new ≡ header.now ++ bytes.now) }
-    ensures durable { OnOk result (Only (D.seen device.new) (D.may_leave device.new)) }
+/// Writes a header and some bytes to an empty file. They are on the disk then.
+fn fill<F: Files + Drop, A: Allocator + Copy>(
+    device: &mut FileDevice<F, A>,
+    header: &[u8],
+    bytes: &[u8],
+) -> Result<(), DeviceError>
+    requires empty { seen_after (device_calls device.old) ≡ [] }
+    ensures filled { OnOk result (seen_after (device_calls device.new) ≡ header.now ++ bytes.now) }
+    ensures durable { OnOk result (Only (seen_after (device_calls device.new)) (MayLeave (device_calls device.new))) }
+    ensures opening { OnOk result (device_opening device.new ≡ device_opening device.old) }
 {
     device.write_at(0, header)?;
     device.write_at(header.len(), bytes)?;

@@ -1,12 +1,13 @@
 //! The opening of a store that loses nothing: what it would cut off the file is kept before.
 
-ghost use Rattle.std.specs.Prelude.{◌≡◌, false, IfErr, IfNone, IfOk, IfSome, is_some, None, Some, true};
+ghost use Rattle.std.specs.Prelude.{◌≡◌, false, IfErr, IfNone, IfOk, IfSome, is_some, None, Some};
+ghost use Rattle.std.specs.Prelude.{string_bytes, true};
 ghost use Rattle.cedar_salvage.specs.Words.{CutsNone, default_rule, ends_closed, format_named};
 ghost use Rattle.cedar_salvage.specs.Words.{format_of, IsBeforeWriting, IsCorrupt, IsCounted};
-ghost use Rattle.cedar_salvage.specs.Words.{IsCutOf, IsOfOpening, IsOpeningCause, IsReadyStore};
-ghost use Rattle.cedar_salvage.specs.Words.{IsUnfailed, LeavesOnly, MayLeave, Only, seen_after};
-ghost use Rattle.cedar_salvage.specs.Words.{state_of};
-ghost use Rattle.cedar_disk.specs.FileDevices.{device_calls};
+ghost use Rattle.cedar_salvage.specs.Words.{IsCutOf, IsOfOpening, IsOpenedAt, IsOpeningCause};
+ghost use Rattle.cedar_salvage.specs.Words.{IsReadyStore, IsUnfailed, LeavesOnly, MayLeave, Only};
+ghost use Rattle.cedar_salvage.specs.Words.{seen_after, state_of};
+ghost use Rattle.cedar_disk.specs.FileDevices.{device_calls, device_opening};
 
 use crate::keep::{KeepError, Kept, keep_cut};
 use cedar_disk::LockFile;
@@ -67,6 +68,11 @@ where
     //  file that is returned, and on the disk. [with durable]
     ensures kept { IfOk result (λ opened. IfSome opened.kept (λ k. IsCutOf (D.seen device) (seen_after (device_calls k.device)))) }
     ensures durable { IfOk result (λ opened. IfSome opened.kept (λ k. Only (seen_after (device_calls k.device)) (MayLeave (device_calls k.device)))) }
+
+    //= That file was opened at the path that is told with it, as a new one or as one that was there, even if the store isn't opened. [with
+    //  named_err]
+    ensures named { IfOk result (λ opened. IfSome opened.kept (λ k. IsOpenedAt (string_bytes k.path) (device_opening k.device))) }
+    ensures named_err { IfErr result (λ e. IfSome e.kept (λ k. IsOpenedAt (string_bytes k.path) (device_opening k.device))) }
 
     //= A store is opened so without anything that is kept only if the opening cuts off no whole record.
     ensures none { IfOk result (λ opened. IfNone opened.kept (CutsNone (D.seen device))) }
