@@ -427,7 +427,7 @@ typedef struct cedar_range {
  * all at most. The kind of a character is that of the first range that has its number; one that no range has is a run by itself, and so is
  * each with `ranges` 0. With beside_keys a run may begin where a key begins too; without it only where none does. Of cuts with the same
  * cost it picks the one with the longer token where they first differ, and with a key rather than a run of as many bytes. A sum above
- * 2^64 - 1 counts as 2^64 - 1, for what is left from each token on. Returns what cedar_cheapest returns. It allocates 13 bytes for each
+ * 2^64 - 1 counts as 2^64 - 1, for what is left from each token on. Returns what cedar_cheapest returns. It allocates 16 bytes for each
  * byte of the text, and a list of the tokens; at each position it looks at `most` characters, and for each at the ranges up to its own. */
 uint32_t cedar_cheapest_by(const cedar_dictionary *d, const uint8_t *text, size_t length, const uint32_t *costs, size_t count,
                            uint32_t beyond, const cedar_range *kinds, size_t ranges, uint32_t unknown, size_t most, bool beside_keys,

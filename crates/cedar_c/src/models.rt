@@ -81,7 +81,7 @@ struct Costs<'a> {
 /// `unknown`, is written with the value -1, and has at most `most` characters, but one at least; with `beside_keys` it may stand where keys
 /// begin too. A character's kind is that of the first range that has its number; one that no range has is a run by itself. Of cuts that cost
 /// the same it picks the one with the longer token where they first differ, and with a key rather than a run of as many bytes. A sum above
-/// 2^64 - 1 counts as 2^64 - 1. There are never more tokens than bytes. It allocates 13 bytes for each byte of the text, and a list of the
+/// 2^64 - 1 counts as 2^64 - 1. There are never more tokens than bytes. It allocates 16 bytes for each byte of the text, and a list of the
 /// tokens.
 ///
 /// # Errors

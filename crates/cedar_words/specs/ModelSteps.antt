@@ -1,13 +1,13 @@
 -- How the best cut by a model is found: what the last bytes of a text cost, none of them, one, and so on, each by what fewer cost.
-use Rattle.std.specs.Prelude.{◌≡◌, ℕ, ◌+◌, ◌-◌, ◌<◌, ◌≤◌, ◌⊎◌, nat_le, nat_lt, if◌then◌else◌}
-use Rattle.std.specs.Prelude.{ℤ, pos, List, [], ◌∷◌, ◌++◌, length, drop, take, slice_index_or, Some, None}
-use Rattle.std.specs.Prelude.{MatchOption}
+use Rattle.std.specs.Prelude.{◌≡◌, ℕ, ◌+◌, ◌-◌, ◌<◌, ◌⊎◌, nat_lt, if◌then◌else◌, false, ℤ, pos}
+use Rattle.std.specs.Prelude.{List, [], ◌∷◌, length, drop, take, slice_index_or, Option, Some, None}
 use Rattle.cedarwood.specs.Tree.{Tree}
 use Rattle.cedarwood.specs.Queries.{front}
 use Rattle.cedar_words.specs.Models.{run_len}
-use Rattle.cedar_words.specs.Steps.{better_of, cost_at, cut_along, mark_at, step_over}
+use Rattle.cedar_words.specs.Steps.{better_of, cost_at, cut_along, step_over}
 use Rattle.cedar_words.specs.Tokens.{Token}
 use Rattle.cedar_words.specs.declared.costs.Step.{Step}
+use Rattle.cedar_words.specs.declared.cuts.Kept.{Kept}
 use Rattle.cedar_words.specs.declared.models.UnknownRun.{UnknownRun}
 
 -- the step over an unknown run, where it is known what fewer bytes cost
@@ -54,40 +54,33 @@ pub record AreCostsUpTo (tree : Tree) (key : ℤ → ℕ) (run : ℕ → Unknown
 abbrev pub AreCostsBy : Tree → (ℤ → ℕ) → (ℕ → UnknownRun) → List ℕ → List ℕ → Type 0
 AreCostsBy tree key run text costs = (length costs ≡ length text + 1) × AreCostsUpTo tree key run text costs
 
--- how many of these marks say keys: those from 128 on
-abbrev pub key_marks : List ℕ → ℕ
-key_marks [] = 0
-key_marks (mark ∷ marks) = (if nat_le 128 mark then 1 else 0) + key_marks marks
+-- the number of the key that a kept step goes over, if it is one
+abbrev pub kept_value : Kept → Option ℤ
+kept_value kept = if kept.is_key then Some kept.value else None
 
--- what a byte says of a step: 0 nothing, up to 127 that it goes over an unknown run of so many bytes, and from 128 on that it goes over a
--- key of so many bytes more
-abbrev pub SaysStep : Step → ℕ → Type 0
-SaysStep step mark = (mark ≡ 0) ⊎ MatchOption step.value ((mark < 128) × (step.len ≡ mark)) (λ _. (128 ≤ mark) × (step.len ≡ mark - 128))
+-- what is kept of a step says how many bytes it goes over, and the number of its key if it is one; or it says nothing, by no bytes
+abbrev pub TellsStep : Step → Kept → Type 0
+TellsStep step kept = (kept.len ≡ 0) ⊎ ((step.len ≡ kept.len) × (step.value ≡ kept_value kept))
 
--- a byte says a step, and this is its number if it is a key
-abbrev pub TellsStep : Step → ℕ → ℤ → Type 0
-TellsStep step mark value = SaysStep step mark × (128 ≤ mark → step.value ≡ Some value)
+-- what says nothing of a step
+abbrev pub no_kept : Kept
+no_kept = record {
+  len = 0;
+  is_key = false;
+  value = pos 0;
+}
 
--- a number behind so many others
-abbrev pub value_at : List ℤ → ℕ → ℤ
-value_at values index = slice_index_or values index (pos 0)
+-- what is kept of the best step over so many of the last bytes
+abbrev pub kept_at : List Kept → ℕ → Kept
+kept_at kept left = slice_index_or kept left no_kept
 
--- a byte that says the step is kept, and its number if it is a key that the byte says (`TellsStep`)
-abbrev pub KeepsStep : Step → List ℕ → List ℤ → List ℕ → List ℤ → Type 0
-KeepsStep step marks values new_marks new_values =
-    (mark : ℕ) × (more : List ℤ) × (new_marks ≡ marks ++ mark ∷ []) × (new_values ≡ values ++ more)
-    × (length more ≡ key_marks (mark ∷ [])) × TellsStep step mark (value_at more 0)
+-- what is kept for each number of bytes so far says the best step over as many of the last bytes (`TellsStep`)
+abbrev pub AreKeptUpTo : Tree → (ℤ → ℕ) → (ℕ → UnknownRun) → List ℕ → List ℕ → List Kept → Type 0
+AreKeptUpTo tree key run text costs kept = (left : ℕ) → 0 < left → left < length kept → TellsStep (step_by tree key run text costs left) (kept_at kept left)
 
--- the marks so far say the best steps over as many of the last bytes, and those over keys have their numbers in turn (`TellsStep`)
-abbrev pub AreKeptUpTo : Tree → (ℤ → ℕ) → (ℕ → UnknownRun) → List ℕ → List ℕ → List ℕ → List ℤ → Type 0
-AreKeptUpTo tree key run text costs marks values =
-    (left : ℕ) → 0 < left → left < length marks → TellsStep (step_by tree key run text costs left) (mark_at marks left) (value_at values (key_marks (take left marks)))
-
--- the marks and numbers that are kept say the best step over so many of a text's last bytes, for each number up to all
-pub record AreKeptBy (tree : Tree) (key : ℤ → ℕ) (run : ℕ → UnknownRun) (text costs marks : List ℕ) (values : List ℤ) : Type 0 where
-  pub many : length marks ≡ length text + 1
-  pub all : length values ≡ key_marks marks
-  pub tell : AreKeptUpTo tree key run text costs marks values
+-- what is kept says the best step over so many of a text's last bytes, for each number up to all
+abbrev pub AreKeptBy : Tree → (ℤ → ℕ) → (ℕ → UnknownRun) → List ℕ → List ℕ → List Kept → Type 0
+AreKeptBy tree key run text costs kept = (length kept ≡ length text + 1) × AreKeptUpTo tree key run text costs kept
 
 -- the tokens that the best steps lead along over a text, where it is known what its last bytes cost
 abbrev pub best_cut_by : Tree → (ℤ → ℕ) → (ℕ → UnknownRun) → List ℕ → List ℕ → List Token

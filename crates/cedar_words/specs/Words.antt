@@ -21,8 +21,8 @@ pub use Rattle.cedar_words.specs.Ranked.{step_ways, way_along, way_at, way_befor
 pub use Rattle.cedar_words.specs.Ranked.{ways_behind}
 pub use Rattle.cedar_words.specs.Runs.{byte_run, character_run, class_run, only_without_key}
 pub use Rattle.cedar_words.specs.ModelSteps.{AreCostsBy, AreKeptBy, beside_run, best_by}
-pub use Rattle.cedar_words.specs.ModelSteps.{best_cut_by, best_priced, KeepsStep, key_marks, or_run}
-pub use Rattle.cedar_words.specs.ModelSteps.{priced_step, run_step, SaysStep, step_from, value_at}
+pub use Rattle.cedar_words.specs.ModelSteps.{best_cut_by, best_priced, kept_at, kept_value, or_run}
+pub use Rattle.cedar_words.specs.ModelSteps.{priced_step, run_step, step_from, TellsStep}
 pub use Rattle.cedarwood.specs.Queries.{Entry, front}
 pub use Rattle.cedarwood.specs.State.{State}
 pub use Rattle.cedarwood.specs.Builds.{all_stored}

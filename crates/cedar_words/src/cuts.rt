@@ -1,10 +1,10 @@
 //! The best cut of a text by a model: of keys, and of unknown runs.
 
-ghost use Rattle.std.specs.Prelude.{◌+◌, ◌-◌, ◌<◌, ◌≡◌, ◌≤◌, drop, IfOk, length, take};
+ghost use Rattle.std.specs.Prelude.{◌+◌, ◌-◌, ◌<◌, ◌≡◌, ◌≤◌, drop, IfOk, length};
 ghost use Rattle.cedar_words.specs.Words.{AreCostsBy, AreKeptBy, AreWithin, beside_run, best_by};
-ghost use Rattle.cedar_words.specs.Words.{best_cut_by, best_priced, front, IsBestCut, KeepsStep};
-ghost use Rattle.cedar_words.specs.Words.{key_marks, or_run, priced_step, run_step, SaysStep};
-ghost use Rattle.cedar_words.specs.Words.{step_from, value_at};
+ghost use Rattle.cedar_words.specs.Words.{best_cut_by, best_priced, front, IsBestCut, kept_at};
+ghost use Rattle.cedar_words.specs.Words.{kept_value, or_run, priced_step, run_step, step_from};
+ghost use Rattle.cedar_words.specs.Words.{TellsStep};
 
 use crate::costs::{NextFront, Step, cheaper, over};
 use crate::models::{CostModel, UnknownRun};
@@ -12,24 +12,30 @@ use crate::spots::Fronts;
 use cedarwood::{Layout, Trie};
 use std::alloc::{AllocError, Allocator};
 
+/// What is kept of the first step over the last bytes of a text, in eight bytes.
+#[derive(Clone, Copy)]
+struct Kept {
+    // How many bytes it goes over. 0 says that these are more than 65,535: it is looked for once more.
+    len: u16,
+    // Whether they are a key, and its value; of an unknown run 0.
+    is_key: bool,
+    value: i32,
+}
+
+/// What says nothing of a step.
+const NOTHING: Kept = Kept {
+    len: 0,
+    is_key: false,
+    value: 0,
+};
+
 /// What is known of the last bytes of a text: none of them, one, and so on up to all.
 #[derive(Drop)]
 struct Ends<B: Allocator> {
     // What they cost.
     costs: Vec<u64, B>,
-    // What says the first step over them: 0 nothing, up to 127 that it is an unknown run of so many bytes, and from 128 on that it is a
-    // key of so many bytes more. A longer step is looked for once more.
-    marks: Vec<u8, B>,
-    // The values of the keys that marks say.
-    values: Vec<i32, B>,
-}
-
-/// The same, as it is read.
-#[derive(Clone, Copy)]
-struct Told<'a> {
-    costs: &'a [u64],
-    marks: &'a [u8],
-    values: &'a [i32],
+    // The first step over them.
+    kept: Vec<Kept, B>,
 }
 
 /// The step over an unknown run.
@@ -126,35 +132,25 @@ fn best_step<T: Fronts, M: CostModel>(
     best_of_walk(&mut trie.fronts(&text[place..]), model, later, run)
 }
 
-/// What a byte says of a step.
-fn mark_of(step: Step) -> u8
-    ensures { SaysStep step result }
+/// What is kept of a step.
+fn kept_of(step: Step) -> Kept
+    ensures { TellsStep step result }
 {
-    if step.len > 127 {
-        return 0;
+    if step.len > 65535 {
+        return NOTHING;
     }
     match step.value {
-        None => step.len as u8,
-        Some(_) => step.len as u8 + 128,
+        None => Kept {
+            len: step.len as u16,
+            is_key: false,
+            value: 0,
+        },
+        Some(value) => Kept {
+            len: step.len as u16,
+            is_key: true,
+            value,
+        },
     }
-}
-
-/// Keeps the first step over one byte more: a mark, and a value if that says a key.
-fn keep<B: Allocator>(
-    marks: &mut Vec<u8, B>,
-    values: &mut Vec<i32, B>,
-    step: Step,
-) -> Result<(), AllocError>
-    ensures { IfOk result (λ _. KeepsStep step marks.old.items values.old.items marks.new.items values.new.items) }
-{
-    let mark = mark_of(step);
-    marks.push(mark)?;
-    if let Some(value) = step.value {
-        if 128 <= mark {
-            values.push(value)?;
-        }
-    }
-    Ok(())
 }
 
 /// What the last bytes of a text cost, and by which first steps.
@@ -165,77 +161,59 @@ fn ends_of<T: Fronts, M: CostModel, B: Allocator + Copy>(
     model: &M,
 ) -> Result<Ends<B>, AllocError>
     ensures costs { IfOk result (λ ends. AreCostsBy (T.fronts_of trie.now) (M.key_cost model.now) (M.unknown_at model.now text.now) text.now ends.costs.items) }
-    ensures kept { IfOk result (λ ends. AreKeptBy (T.fronts_of trie.now) (M.key_cost model.now) (M.unknown_at model.now text.now) text.now ends.costs.items ends.marks.items ends.values.items) }
+    ensures kept { IfOk result (λ ends. AreKeptBy (T.fronts_of trie.now) (M.key_cost model.now) (M.unknown_at model.now text.now) text.now ends.costs.items ends.kept.items) }
 {
     let mut costs = Vec::with_capacity(alloc, text.len() + 1)?;
-    let mut marks = Vec::with_capacity(alloc, text.len() + 1)?;
-    let mut values = Vec::with_capacity(alloc, text.len())?;
+    let mut kept = Vec::with_capacity(alloc, text.len() + 1)?;
     costs.push(0)?;
-    marks.push(0)?;
+    kept.push(NOTHING)?;
     for left in 1..text.len() + 1 {
         let step = best_step(trie, model, text, text.len() - left, &costs);
         costs.push(step.cost)?;
-        keep(&mut marks, &mut values, step)?;
+        kept.push(kept_of(step))?;
     }
-    Ok(Ends {
-        costs,
-        marks,
-        values,
-    })
+    Ok(Ends { costs, kept })
 }
 
-/// How many marks from one place up to another say keys.
-fn keys_between(marks: &[u8], start: usize, end: usize) -> usize
-    requires order { start ≤ end }
-    requires within { end ≤ length marks.now }
-    ensures { result + key_marks (take start marks.now) ≡ key_marks (take end marks.now) }
+/// What is kept of the first step over so many of the last bytes.
+fn kept_at(kept: &[Kept], left: usize) -> Kept
+    requires { left < length kept.now }
+    ensures { result ≡ kept_at kept.now left }
 {
-    let mut keys = 0;
-    for place in start..end {
-        if 128 <= marks[place] {
-            keys += 1;
-        }
-    }
-    keys
+    kept[left]
 }
 
-/// The last of so many values.
-fn last_of(values: &[i32], count: usize) -> i32
-    requires some { 0 < count }
-    requires within { count ≤ length values.now }
-    ensures { result ≡ value_at values.now (count - 1) }
+/// The value of a step's key, if it goes over one.
+fn kept_value(kept: Kept) -> Option<i32>
+    ensures { result ≡ kept_value kept }
 {
-    values[count - 1]
+    if kept.is_key { Some(kept.value) } else { None }
 }
 
-/// The first token of the best cut of what is left of a text from a position on: how many bytes it has, and its value if it is a key. It is
-/// told how many values there are up to that of the step there.
+/// The first token of the best cut of what is left of a text from a position on: how many bytes it has, and its value if it is a key.
 fn best_token<T: Fronts, M: CostModel>(
     trie: &T,
     text: &[u8],
     model: &M,
-    told: &Told<'_>,
+    costs: &[u64],
+    kept: &[Kept],
     place: usize,
-    rank: usize,
 ) -> (usize, Option<i32>)
     requires some { place < length text.now }
-    requires costs { AreCostsBy (T.fronts_of trie.now) (M.key_cost model.now) (M.unknown_at model.now text.now) text.now told.now.costs.now }
-    requires kept { AreKeptBy (T.fronts_of trie.now) (M.key_cost model.now) (M.unknown_at model.now text.now) text.now told.now.costs.now told.now.marks.now told.now.values.now }
-    requires rank { rank ≡ key_marks (take (length text.now - place + 1) told.now.marks.now) }
+    requires costs { AreCostsBy (T.fronts_of trie.now) (M.key_cost model.now) (M.unknown_at model.now text.now) text.now costs.now }
+    requires kept { AreKeptBy (T.fronts_of trie.now) (M.key_cost model.now) (M.unknown_at model.now text.now) text.now costs.now kept.now }
     ensures some { 0 < result.0 }
     ensures within { result.0 ≤ length text.now - place }
-    ensures len { result.0 ≡ (step_from (T.fronts_of trie.now) (M.key_cost model.now) (M.unknown_at model.now text.now) text.now told.now.costs.now place).len }
-    ensures value { result.1 ≡ (step_from (T.fronts_of trie.now) (M.key_cost model.now) (M.unknown_at model.now text.now) text.now told.now.costs.now place).value }
+    ensures len { result.0 ≡ (step_from (T.fronts_of trie.now) (M.key_cost model.now) (M.unknown_at model.now text.now) text.now costs.now place).len }
+    ensures value { result.1 ≡ (step_from (T.fronts_of trie.now) (M.key_cost model.now) (M.unknown_at model.now text.now) text.now costs.now place).value }
 {
     let left = text.len() - place;
-    let mark = told.marks[left];
-    if 128 <= mark {
-        return (usize::from(mark - 128), Some(last_of(told.values, rank)));
+    let told = kept_at(kept, left);
+    let len = usize::from(told.len);
+    if 0 < len {
+        return (len, kept_value(told));
     }
-    if 0 < mark {
-        return (usize::from(mark), None);
-    }
-    let step = best_step(trie, model, text, place, &told.costs[..left]);
+    let step = best_step(trie, model, text, place, &costs[..left]);
     (step.len, step.value)
 }
 
@@ -245,20 +223,18 @@ fn best_tokens<T: Fronts, M: CostModel, B: Allocator>(
     trie: &T,
     text: &[u8],
     model: &M,
-    told: &Told<'_>,
+    costs: &[u64],
+    kept: &[Kept],
 ) -> Result<Vec<(usize, usize, Option<i32>), B>, AllocError>
-    requires costs { AreCostsBy (T.fronts_of trie.now) (M.key_cost model.now) (M.unknown_at model.now text.now) text.now told.now.costs.now }
-    requires kept { AreKeptBy (T.fronts_of trie.now) (M.key_cost model.now) (M.unknown_at model.now text.now) text.now told.now.costs.now told.now.marks.now told.now.values.now }
-    ensures { IfOk result (λ cut. cut.items ≡ best_cut_by (T.fronts_of trie.now) (M.key_cost model.now) (M.unknown_at model.now text.now) text.now told.now.costs.now) }
+    requires costs { AreCostsBy (T.fronts_of trie.now) (M.key_cost model.now) (M.unknown_at model.now text.now) text.now costs.now }
+    requires kept { AreKeptBy (T.fronts_of trie.now) (M.key_cost model.now) (M.unknown_at model.now text.now) text.now costs.now kept.now }
+    ensures { IfOk result (λ cut. cut.items ≡ best_cut_by (T.fronts_of trie.now) (M.key_cost model.now) (M.unknown_at model.now text.now) text.now costs.now) }
 {
     let mut tokens = Vec::new(alloc);
     let mut place = 0;
-    let mut rank = told.values.len();
     while place < text.len() {
-        let (len, value) = best_token(trie, text, model, told, place, rank);
+        let (len, value) = best_token(trie, text, model, costs, kept, place);
         tokens.push((place, len, value))?;
-        let end = text.len() - place + 1;
-        rank -= keys_between(told.marks, end - len, end);
         place += len;
     }
     Ok(tokens)
@@ -274,12 +250,7 @@ fn best_cut<T: Fronts, M: CostModel, B: Allocator + Copy>(
     ensures { IfOk result (λ tokens. IsBestCut (T.fronts_of trie.now) (M.key_cost model.now) (M.unknown_at model.now text.now) text.now tokens.items) }
 {
     let ends = ends_of(alloc, trie, text, model)?;
-    let told = Told {
-        costs: &ends.costs,
-        marks: &ends.marks,
-        values: &ends.values,
-    };
-    best_tokens(alloc, trie, text, model, &told)
+    best_tokens(alloc, trie, text, model, &ends.costs, &ends.kept)
 }
 
 /// Cuts a text into keys and unknown runs so that they cost the least together, by a model of costs: it says what a key costs by its value,
@@ -290,9 +261,9 @@ fn best_cut<T: Fronts, M: CostModel, B: Allocator + Copy>(
 /// many bytes. A sum above 2^64 - 1 counts as 2^64 - 1, for what is left from each token on. So a text of any length has one result, which
 /// is the same in both layouts.
 ///
-/// It allocates thirteen bytes for each byte of the text and nine more, in three allocations, and frees them when it ends; the result grows
+/// It allocates sixteen bytes for each byte of the text and sixteen more, in two allocations, and frees them when it ends; the result grows
 /// as any vector does. Each position costs a prefix walk and one call of `unknown`, and each key that begins there one call of `cost`; where
-/// the cut has a token of more than 127 bytes, both are made once more.
+/// the cut has a token of more than 65,535 bytes, both are made once more.
 ///
 /// # Errors
 /// `AllocError` if an allocation is refused.

@@ -11,9 +11,7 @@ best_tokens-requires g c =
     let run = g.M.CostModel.unknown_at c.args.model.now text in
     record {
       costs = subst (λ l. AreCostsBy t key run text l) (sym c.deref.ensures.value) c.in_ok-ends.ensures.costs;
-      kept = subst (λ l. AreKeptBy t key run text l c.deref-2.result.now c.deref-3.result.now) (sym c.deref.ensures.value)
-          (subst (λ l. AreKeptBy t key run text c.in_ok-ends.ends.costs.items l c.deref-3.result.now) (sym c.deref-2.ensures.value)
-          (subst (λ l. AreKeptBy t key run text c.in_ok-ends.ends.costs.items c.in_ok-ends.ends.marks.items l) (sym c.deref-3.ensures.value) c.in_ok-ends.ensures.kept));
+      kept = subst (λ l. AreKeptBy t key run text l c.deref-2.result.now) (sym c.deref.ensures.value) (subst (λ l. AreKeptBy t key run text c.in_ok-ends.ends.costs.items l) (sym c.deref-2.ensures.value) c.in_ok-ends.ensures.kept);
     }
 
 pub returns : goal.returns

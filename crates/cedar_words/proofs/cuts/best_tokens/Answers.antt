@@ -1,15 +1,14 @@
-use Rattle.std.proofs.Common.{◌≡◌, ◌∙◌, ◌+◌, ◌-◌, ◌<◌, ◌≤◌, ◌∷◌, ◌++◌, [], ap, arith, length, sym, take}
+use Rattle.std.proofs.Common.{◌≡◌, ◌∙◌, ◌+◌, ◌-◌, ◌<◌, ◌≤◌, ◌∷◌, ◌++◌, [], ap, arith, length, sym}
 use Rattle.std.proofs.lemmas.List.{append_assoc}
-use Rattle.cedar_words.specs.ModelSteps.{key_marks, step_by}
+use Rattle.cedar_words.specs.ModelSteps.{step_by}
 use Rattle.cedar_words.specs.Steps.{cut_along}
-use Rattle.cedar_words.proofs.KeptLemmas.{rank_on}
 use Rattle.cedar_words.proofs.StepLemmas.{along_told}
 use Rattle.cedar_words.proofs.cuts.best_tokens.Goals as goal
 
 pub loop-place-preserved : goal.loop-place-preserved
 loop-place-preserved g c =
     let text = c.args.text.now in
-    let steps = step_by (g.T.Fronts.fronts_of c.args.trie.now) (g.M.CostModel.key_cost c.args.model.now) (g.M.CostModel.unknown_at c.args.model.now text) text c.args.told.now.costs.now in
+    let steps = step_by (g.T.Fronts.fronts_of c.args.trie.now) (g.M.CostModel.key_cost c.args.model.now) (g.M.CostModel.unknown_at c.args.model.now text) text c.args.costs.now in
     let place = c.loop-place.place in
     let left = length text - place in
     let len = c.best_token-len.result.0 in
@@ -25,11 +24,4 @@ loop-place-preserved g c =
           ∙ ap (λ n. tokens ++ (place, len, value) ∷ cut_along steps 0 (place + len) n) less
           ∙ ap (λ ts. tokens ++ ts) (sym (along_told steps place left len value some c.best_token-len.ensures.len c.best_token-len.ensures.value c.best_token-len.ensures.some))
           ∙ c.loop-place.invariant.1,
-      rank_on c.loop-place.rank c.keys_between-rank.result (length text) place len (λ n. key_marks (take n c.args.told.now.marks.now)) some within c.loop-place.invariant.2 c.keys_between-rank.ensures,
     )
-
-pub overflow_sub-rank : goal.overflow_sub-rank
-overflow_sub-rank g c =
-    let between = c.keys_between-rank.ensures in
-    let is = c.loop-place.invariant.2 in
-    omega (arith, between, is)
