@@ -122,21 +122,59 @@ pub(crate) fn all_cuts(
         let watch = clock.start(rt)?;
         let greedy = measured_segment(&words.by_id, text);
         watch.print(rt, "segment", greedy)?;
-        let watch = clock.start(rt)?;
-        let least = measured_cheapest(rt.alloc(), &words.by_cost, text)?;
-        watch.print(rt, "cheapest", least)?;
-        let watch = clock.start(rt)?;
-        let same = measured_model(rt.alloc(), &words.by_cost, text, &by_value)?;
-        watch.print(rt, "cheapest_by_value", same)?;
-        let watch = clock.start(rt)?;
-        let again = measured_model(rt.alloc(), &words.by_id, text, &by_table)?;
-        watch.print(rt, "cheapest_by_table", again)?;
-        if same != least || again != least {
-            bail!("cheapest_by cuts otherwise than cheapest");
-        }
+        text_cuts(rt, clock, &words, text, &by_value, &by_table)?;
         let watch = clock.start(rt)?;
         let whole = measured_model(rt.alloc(), &words.by_id, text, &by_characters)?;
         watch.print(rt, "cheapest_by_characters", whole)?;
+        line_cuts(rt, clock, &words, text, &by_value, &by_table)?;
+    }
+    Ok(())
+}
+
+/// Cuts the text as a whole.
+fn text_cuts<V: CostModel, T: CostModel>(
+    rt: &HostRuntime,
+    clock: Clock,
+    words: &CostedWords,
+    text: &[u8],
+    by_value: &V,
+    by_table: &T,
+) -> Result<()> {
+    let watch = clock.start(rt)?;
+    let least = measured_cheapest(rt.alloc(), &words.by_cost, text)?;
+    watch.print(rt, "cheapest", least)?;
+    let watch = clock.start(rt)?;
+    let same = measured_model(rt.alloc(), &words.by_cost, text, by_value)?;
+    watch.print(rt, "cheapest_by_value", same)?;
+    let watch = clock.start(rt)?;
+    let again = measured_model(rt.alloc(), &words.by_id, text, by_table)?;
+    watch.print(rt, "cheapest_by_table", again)?;
+    if same != least || again != least {
+        bail!("cheapest_by cuts otherwise than cheapest");
+    }
+    Ok(())
+}
+
+/// Cuts each line of the text by itself, as most callers do: then what a call allocates has been used before.
+fn line_cuts<V: CostModel, T: CostModel>(
+    rt: &HostRuntime,
+    clock: Clock,
+    words: &CostedWords,
+    text: &[u8],
+    by_value: &V,
+    by_table: &T,
+) -> Result<()> {
+    let watch = clock.start(rt)?;
+    let least = cheapest_of_lines(rt.alloc(), &words.by_cost, text)?;
+    watch.print(rt, "cheapest_lines", least)?;
+    let watch = clock.start(rt)?;
+    let same = model_of_lines(rt.alloc(), &words.by_cost, text, by_value)?;
+    watch.print(rt, "cheapest_by_value_lines", same)?;
+    let watch = clock.start(rt)?;
+    let again = model_of_lines(rt.alloc(), &words.by_id, text, by_table)?;
+    watch.print(rt, "cheapest_by_table_lines", again)?;
+    if same != least || again != least {
+        bail!("cheapest_by cuts lines otherwise than cheapest");
     }
     Ok(())
 }
@@ -150,18 +188,18 @@ fn measured_segment(words: &Cedar<Global>, text: &[u8]) -> Found {
     found
 }
 
-/// How many tokens there are, and where they are.
-fn tokens_found(tokens: &[(usize, usize, Option<i32>)]) -> Found {
-    let mut found = Found::new();
+/// Adds tokens: how many there are, and where they are.
+fn add_tokens(found: &mut Found, tokens: &[(usize, usize, Option<i32>)]) {
     for (start, len, _) in tokens.iter() {
         found.add(*start, *len, 0);
     }
-    found
 }
 
 #[inline(never)]
 fn measured_cheapest(alloc: Global, words: &Cedar<Global>, text: &[u8]) -> Result<Found> {
-    Ok(tokens_found(&cheapest(alloc, words, text, UNKNOWN)?))
+    let mut found = Found::new();
+    add_tokens(&mut found, &cheapest(alloc, words, text, UNKNOWN)?);
+    Ok(found)
 }
 
 #[inline(never)]
@@ -171,5 +209,30 @@ fn measured_model<M: CostModel>(
     text: &[u8],
     model: &M,
 ) -> Result<Found> {
-    Ok(tokens_found(&cheapest_by(alloc, words, text, model)?))
+    let mut found = Found::new();
+    add_tokens(&mut found, &cheapest_by(alloc, words, text, model)?);
+    Ok(found)
+}
+
+#[inline(never)]
+fn cheapest_of_lines(alloc: Global, words: &Cedar<Global>, text: &[u8]) -> Result<Found> {
+    let mut found = Found::new();
+    for line in text.split(|byte| *byte == b'\n') {
+        add_tokens(&mut found, &cheapest(alloc, words, line, UNKNOWN)?);
+    }
+    Ok(found)
+}
+
+#[inline(never)]
+fn model_of_lines<M: CostModel>(
+    alloc: Global,
+    words: &Cedar<Global>,
+    text: &[u8],
+    model: &M,
+) -> Result<Found> {
+    let mut found = Found::new();
+    for line in text.split(|byte| *byte == b'\n') {
+        add_tokens(&mut found, &cheapest_by(alloc, words, line, model)?);
+    }
+    Ok(found)
 }
