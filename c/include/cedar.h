@@ -374,9 +374,10 @@ uint32_t cedar_ceiling(const cedar_dictionary *d, const uint8_t *key, size_t len
 /* cedar_next_near writes the first entry behind a key whose own key is near a query: one edit away at most, or two if two_edits; or if
  * is_beginning it begins with what is, so it completes what was typed with an error. An edit puts in, takes out or changes a byte: a letter
  * beyond ASCII has two to four. cedar_next_near_text does the same by characters of UTF-8: an edit puts in, takes out or changes a
- * character, and a key, or what it begins with, is near only if it is UTF-8. cedar_next_fitting writes the first entry behind a key whose
- * own key fits a pattern, in which ? stands for any byte, * for any bytes, also none, and each other byte for itself. If `behind` has no
- * byte, these are the first ones of all. To go on, copy the key that was found and pass it as `behind`. The entry is written as
+ * character, and bytes that are no character end what can be near. A character in more bytes than it needs, a surrogate and a number above
+ * 10FFFF are read as characters too, though UTF-8 has none of these. cedar_next_fitting writes the first entry behind a key whose own key
+ * fits a pattern, in which ? stands for any byte, * for any bytes, also none, and each other byte for itself. If `behind` has no byte,
+ * these are the first ones of all. To go on, copy the key that was found and pass it as `behind`. The entry is written as
  * cedar_ceiling writes one, and *needed 0 says that none is left. A call makes a look-up for each entry that it comes to, and one for each
  * place where no key that goes on so is wanted: all keys below it are left out. It allocates for a key or two, and cedar_next_near_text
  * for the characters of its query. They return what cedar_ceiling returns; cedar_next_near_text CEDAR_QUERY_NOT_UTF8 if the query isn't
@@ -671,8 +672,10 @@ uint32_t cedar_replace_file(const char *path, const uint8_t *bytes, size_t lengt
  * describes the file.
  *
  * A store is locked as long as it is open (flock), against every program that opens it by this library, by the crates, or by ./roskvidh.
- * After a fork the child writes nothing: its changes, and its cedar_store_sync, return CEDAR_STORE_LOCKED. The lock ends once the parent
- * has closed the store, or has ended, and each such child has closed it, started another program, or ended. */
+ * After a fork the child's changes that don't wait return CEDAR_STORE_LOCKED, and so does its cedar_store_sync if changes wait. If none
+ * waits, a cedar_store_sync in the child may compact the file. The parent's later changes are then lost, though they are acknowledged: let
+ * no child call it. The lock ends once the parent has closed the store, or has ended, and each such child has closed it, started another
+ * program, or ended. */
 
 /* A store. It is initialised with CEDAR_STORE_CLOSED, and only these calls change it. It may be moved. */
 typedef struct cedar_store {

@@ -352,7 +352,7 @@ public:
         return near(cedar_next_near, prefix, most_edits, true, most);
     }
 
-    /// The same by edits of characters, of a text in UTF-8: what isn't UTF-8 isn't near.
+    /// The same by edits of characters, of a text in UTF-8, as cedar_next_near_text reads them.
     std::vector<owned_entry> within_text(std::string_view text, edits most_edits, std::size_t most = SIZE_MAX) const {
         return near(cedar_next_near_text, text, most_edits, false, most);
     }
