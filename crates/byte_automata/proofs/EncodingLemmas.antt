@@ -56,7 +56,7 @@ last_byte v y low =
     rw (a, b) (ap (λ m. Whole (v * 64 + m)) d)
 
 -- the bytes of a character up to its last one, as a number: those of three bytes, without surrogates, and those of four
-data IsBeforeLast (m : ℕ) : Type 0 where
+pub data IsBeforeLast (m : ℕ) : Type 0 where
   is_low : 32 ≤ m → m < 864 → IsBeforeLast m
   is_high : 896 ≤ m → m < 65536 → IsBeforeLast m
 
