@@ -648,10 +648,12 @@ uint32_t cedar_save_file(const cedar_dictionary *d, bool is_full, const char *pa
  * - The new file's name is that of the path with `.new` behind it, or with `.1.new` to `.99.new` if something has that name already. What
  *   has such a name stays as it is, and a link isn't followed. If all of them are taken, errno is EEXIST. Where the name would have more
  *   than 255 bytes, its first 247 come before the suffix, or up to 3 fewer, so that no character of UTF-8 is cut.
- * - It gets the mode of the old file, and its owner and group if the system allows that. If it doesn't, the bits set-user-ID and
- *   set-group-ID are taken away. Access lists and other attributes aren't kept. Until it is whole, only the user who writes it may read
- *   it. If there is no old file, the mode is 0666 without the bits of the umask from the beginning.
- * - A symbolic link at the path is replaced by the file, and what it leads to stays. The mode and the owner are of what it leads to.
+ * - It gets the mode of the old file, and its owner and group. If the system doesn't allow both, or keeps no owner (EPERM, EINVAL, ENOSYS
+ *   or ENOTSUP), it gets the group alone, or neither, and not the bits set-user-ID and set-group-ID. Any other error of these calls is one
+ *   of this call. Access lists and other attributes aren't kept. Until it is whole, only the user who writes it may read it. If there is no
+ *   old file, the mode is 0666 without the bits of the umask from the beginning.
+ * - A symbolic link at the path is replaced by the file, and what it leads to stays. The mode and the owner are of what it leads to, or
+ *   where that isn't there or may not be looked at, those of a new file.
  * - A pipe, a device, or what else isn't a file is written to directly. If a file has come to the path meanwhile, it stays as it is, and
  *   errno is ENOTSUP.
  * - Any number of processes and threads may replace the same file at the same time. Then it is the whole file of one of them.
@@ -732,7 +734,8 @@ CEDAR_INLINE size_t cedar_store_damaged_at(const cedar_store *s) {
  * - It has the name of the store's file with `.cut` behind it, or `.1.cut` to `.99.cut` if something has that name. What has such a name
  *   stays as it is, and a link isn't followed. If that is a file with the very same bytes, which an earlier opening has kept, its path is
  *   returned, and none is made. If the path of the store is a link, it is beside what that leads to.
- * - It has the mode of the store's file, and its owner if the system allows it.
+ * - It gets the mode and the owner of the store's file as a file of cedar_replace_file does, but before it is written: that may take
+ *   set-user-ID and set-group-ID away.
  * - `./roskvidh recover` makes a store of its whole records.
  * - Of what is cut off at most 16 times the bytes are looked at. If that isn't enough to say that no record is whole, it is kept.
  *
@@ -800,8 +803,9 @@ size_t cedar_store_waiting(const cedar_store *s);
  * are in it too. A store that has failed in a change goes on then, with all that its dictionary has. It takes the time of all entries, and
  * memory for 4 MiB and the longest key. A crash at any moment leaves the old file or the new one, which represent the same dictionary.
  *
- * The new file is made beside the old one, under its name with `.cedar-compaction` behind it. It has its mode and its owner, as a file of
- * cedar_replace_file has, and is locked. If a crash leaves it there, the next opening removes it. Returns:
+ * The new file is made beside the old one, under its name with `.cedar-compaction` behind it. It is locked, and gets the old one's mode and
+ * owner as a file of cedar_replace_file does, but before it is written: that may take set-user-ID and set-group-ID away. If a crash leaves
+ * it there, the next opening removes it. Returns:
  *
  * - CEDAR_OK; CEDAR_IS_CLOSED; CEDAR_STORE_READ_ONLY; CEDAR_STORE_LOCKED in a forked child.
  * - CEDAR_MEMORY and CEDAR_STORE_KEPT: the old file is there, and the store is as it was. After CEDAR_STORE_KEPT errno has the reason, as

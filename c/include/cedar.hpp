@@ -503,10 +503,10 @@ public:
         return load(bytes.data(), bytes.size(), memory_limit);
     }
 
-    /// Replaces the file at a path with that of the dictionary, as cedar_replace_file of cedar.h says: a new file is written beside the
-    /// old one, and takes its place once it is whole and on the disk. It has the old one's mode. A symbolic link at the path is replaced
-    /// by the file; a pipe or a device is written to directly. After an error the old
-    /// file is as it was, unless only the last step failed, to put the folder on the disk.
+    /// Replaces the file at a path with that of the dictionary, as cedar_replace_file of cedar.h says: a new file is written beside the old
+    /// one, and takes its place once it is whole and on the disk. cedar.h also says which mode and owner it has. A symbolic link at the
+    /// path is replaced by the file; a pipe or a device is written to directly. After an error the old file is as it was, unless only the
+    /// last step failed, to put the folder on the disk.
     void save_to_path(const std::string &path, file_format version = file_format::v1_1) const {
         const cedar_dictionary mine = inside_;
         detail::check_file(cedar_save_file(&mine, version == file_format::v1_0, detail::path_of(path)), path);
