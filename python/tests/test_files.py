@@ -180,7 +180,7 @@ class Files(unittest.TestCase):
                 except OSError as error:
                     failure = (error.errno, error.filename)
                 came = refuse(0, False) < 0
-                # The tenth call puts the folder on the disk: then the new file is there all the same. An error of the last one counts nothing.
+                # The tenth call puts the folder on the disk: then the new file is there. An error of the last one is passed over.
                 self.assertEqual(failure, (errno.ENOSPC, str(self.path)) if number <= 10 else None)
                 left = [self.path.with_name("words.cedar.new")] if for_good and 4 <= number < 10 else []
                 names = [self.path.name, *(beside.name for beside in left)]

@@ -1,6 +1,6 @@
 /* Files that are replaced among others: two savers at once; the old file's mode and owner; new names that are taken, or too long; folders,
- * looks and sizes that the system refuses. Argument: a folder to write in. Where the program may, parts of it run as the user `nobody`, whom
- * modes bind. */
+ * looks and sizes that the system refuses. Argument: a folder to write in. Where the program may, parts of it run as the user `nobody`,
+ * whom modes bind. */
 #define _GNU_SOURCE /* RLIMIT_FSIZE, setgroups */
 #include "cedar.h"
 #include "check.h"
