@@ -460,7 +460,8 @@ enum {
  * for each key that a path of the dictionary gives where it can't go on: a few in most dictionaries, and 6 m^2 bytes at most for a key of
  * m bytes. While it is made it takes two lists of 24 bytes for each node, lists of 12 bytes for each slot of the dictionary, and what
  * sorts of the nodes need. A list that grows may have room for twice as many.
- * Returns CEDAR_OK; CEDAR_IS_CLOSED if *d is closed; CEDAR_UNKNOWN_SEARCH; or CEDAR_MEMORY. After an error *s is as it was. */
+ * Returns CEDAR_OK; CEDAR_IS_CLOSED if *d is closed; CEDAR_UNKNOWN_SEARCH; or CEDAR_MEMORY, for leftmost keys also if the paths would give
+ * 2^32 keys, whatever memory there is. After an error *s is as it was. */
 uint32_t cedar_scanner_new(const cedar_dictionary *d, uint32_t search, cedar_scanner *s);
 
 /* Writes what a scanner finds in a text, from the position *next on, to found[0] and on, and returns how many it wrote; the other
