@@ -460,9 +460,9 @@ public:
     }
 
     /// Cuts a text into the tokens whose costs have the least sum, by costs beside the values: what a key costs stands in a table at its
-    /// value. What no key covers is cut into runs of characters of one kind, which have no value. Of cuts that cost the same it picks the
-    /// one with the longer token where they first differ, and with a key rather than a run. While it runs, it allocates 37 bytes for each
-    /// byte of the text, and lists of the tokens.
+    /// value. The other tokens are runs of characters of one kind, which have no value. Of cuts that cost the same it picks the one with
+    /// the longer token where they first differ, and with a key rather than a run. While it runs, it allocates 40 bytes for each byte of
+    /// the text, and lists of the tokens.
     std::vector<token> cheapest_by(std::string_view text, const cut_costs &model) const {
         const cedar_dictionary mine = inside_;
         std::vector<cedar_found> found(text.size() + 1); // so that data() isn't null
