@@ -671,8 +671,10 @@ uint32_t cedar_replace_file(const char *path, const uint8_t *bytes, size_t lengt
  * describes the file.
  *
  * A store is locked as long as it is open (flock), against every program that opens it by this library, by the crates, or by ./roskvidh.
- * After a fork the child writes nothing: its changes, and its cedar_store_sync, return CEDAR_STORE_LOCKED. The lock ends once the parent
- * has closed the store, or has ended, and each such child has closed it, started another program, or ended. */
+ * After a fork the child writes nothing to the file, and doesn't compact it. What would write returns CEDAR_STORE_LOCKED: a change that
+ * doesn't wait, cedar_store_apply, cedar_store_compact, and any call that would put changes that wait on the disk. A change that only waits
+ * returns CEDAR_OK, and never comes to the disk. The lock ends once the parent has closed the store, or has ended, and each such child has
+ * closed it, started another program, or ended. */
 
 /* A store. It is initialised with CEDAR_STORE_CLOSED, and only these calls change it. It may be moved. */
 typedef struct cedar_store {
@@ -712,7 +714,8 @@ uint32_t cedar_store_open_to_read(cedar_store *s, const char *path);
 enum {
     CEDAR_OPEN_REDUCED = 1,  /* with a dictionary of the reduced layout */
     CEDAR_OPEN_EXISTING = 2, /* a missing file isn't created: errno is ENOENT */
-    CEDAR_OPEN_NEW = 4,      /* only a missing file is opened: errno is EEXIST if there is one, also by a link */
+    CEDAR_OPEN_NEW = 4,      /* the file is created: errno is EEXIST if there is one, also by a link, or if another program is faster to
+                              * write to it */
     CEDAR_OPEN_TO_READ = 8   /* as cedar_store_open_to_read */
 };
 
@@ -780,7 +783,8 @@ typedef struct cedar_change {
  * says, and a crash at any moment leaves a file with all of them or with none. It costs two syncs, and sorts the keys.
  *
  * After any error but CEDAR_STORE_DEVICE none is made, in the dictionary or in the file, though changes that waited may be on the disk by
- * then. *refused is the index of the first change whose pair has a fault, and *position that of a byte 0 in its key; and if memory or slots
+ * then. After CEDAR_STORE_DEVICE the dictionary has all of them; or none, if the device failed while changes that waited were put on the
+ * disk. *refused is the index of the first change whose pair has a fault, and *position that of a byte 0 in its key; and if memory or slots
  * run out at an update, *refused is the index of that. Both may be null. Otherwise the errors are those of cedar_store_update;
  * CEDAR_STORE_TOO_LONG says that all changes together have too many bytes for a record. */
 uint32_t cedar_store_apply(cedar_store *s, const cedar_change *changes, size_t count, size_t *refused, size_t *position);
@@ -792,9 +796,10 @@ uint32_t cedar_store_apply(cedar_store *s, const cedar_change *changes, size_t c
  * with the statuses of cedar_store_sync; unless that returns CEDAR_OK, the setting is as it was. */
 uint32_t cedar_store_sync_every(cedar_store *s, size_t changes);
 
-/* Puts the changes that wait on the disk as one: a crash at any moment leaves a file with all of them or with none. CEDAR_OK: the disk has
- * all changes. Also returns CEDAR_IS_CLOSED, and CEDAR_STORE_DEVICE and CEDAR_STORE_FAILED as cedar_store_update does. After
- * CEDAR_STORE_NO_ROOM the changes wait on. */
+/* Puts the changes that wait on the disk as one: a crash at any moment leaves a file with all of them or with none. Then it compacts the
+ * file if that is due, as a change does. If no change waits it does nothing. CEDAR_OK: the disk has all changes. Also returns
+ * CEDAR_IS_CLOSED, and CEDAR_STORE_DEVICE and CEDAR_STORE_FAILED as cedar_store_update does. After CEDAR_STORE_NO_ROOM the changes wait on;
+ * so they do after CEDAR_STORE_LOCKED, in a forked child. */
 uint32_t cedar_store_sync(cedar_store *s);
 
 /* Returns how many changes wait. 0 if closed. */

@@ -623,6 +623,7 @@ public:
     store(const store &) = delete;
     store &operator=(const store &) = delete;
     store(store &&other) noexcept { swap(other); }
+    /// Takes the other store over. The one that was here is closed as by the destructor, which reports no error: call sync() before it.
     store &operator=(store &&other) noexcept {
         store moved(std::move(other));
         swap(moved);
@@ -694,7 +695,8 @@ public:
     /// and no others. It puts those that wait now on the disk.
     void sync_every(std::size_t changes) { check(cedar_store_sync_every(&inside_, changes), 0); }
 
-    /// Puts the changes that wait on the disk as one. The destructor puts them there too, and reports no error.
+    /// Puts the changes that wait on the disk as one, and compacts the file then if that is due. If none waits it does nothing. The
+    /// destructor puts them on the disk too, and reports no error.
     void sync() { check(cedar_store_sync(&inside_), 0); }
 
     /// Returns how many changes wait.
