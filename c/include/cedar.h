@@ -811,7 +811,7 @@ size_t cedar_store_waiting(const cedar_store *s);
  *
  * The new file is made beside the old one, under its name with `.cedar-compaction` behind it. It is locked, and gets the old one's mode and
  * owner as a file of cedar_replace_file does, but before it is written: that may take set-user-ID and set-group-ID away. If a crash leaves
- * it there, the next opening removes it. Returns:
+ * it there, the next opening that locks the store removes it, also one that then refuses the store's file. Returns:
  *
  * - CEDAR_OK; CEDAR_IS_CLOSED; CEDAR_STORE_READ_ONLY; CEDAR_STORE_LOCKED in a forked child.
  * - CEDAR_MEMORY and CEDAR_STORE_KEPT: the old file is there, and the store is as it was. After CEDAR_STORE_KEPT errno has the reason, as
