@@ -354,8 +354,9 @@ uint32_t cedar_entries_below(const cedar_dictionary *d, const uint8_t *prefix, s
  * lowest, and those with the same value by the bytes of their keys. found[0] and on say where each key begins among the bytes, how many
  * bytes it has, and its value; the keys are written to bytes[0] and on, one after another. The other elements and bytes keep their content.
  * *count is how many entries these are, *needed how many bytes their keys have together. It goes over all entries with the prefix, and
- * allocates for `places` of them and a copy of their keys. Returns CEDAR_OK; CEDAR_IS_CLOSED; CEDAR_NO_ROOM if their keys have more than
- * `room` bytes: then *needed is how many; or CEDAR_MEMORY. After an error nothing else is written. */
+ * allocates for `places` of them, one more and a copy of their keys. Returns CEDAR_OK; CEDAR_IS_CLOSED; CEDAR_NO_ROOM if their keys have
+ * more than `room` bytes: then *needed is how many, and a further call goes over all again; or CEDAR_MEMORY. After an error nothing else is
+ * written. */
 uint32_t cedar_best(const cedar_dictionary *d, const uint8_t *prefix, size_t length, bool lowest_first, cedar_found *found, size_t places,
                     uint8_t *bytes, size_t room, size_t *count, size_t *needed);
 

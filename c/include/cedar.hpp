@@ -312,7 +312,8 @@ public:
     }
 
     /// Returns the best of the entries whose keys begin with a text, at most `most` of them: by value, the highest first or the lowest, and
-    /// those with the same value by the bytes of their keys. It goes over all entries with the text, and keeps no more than `most`.
+    /// those with the same value by the bytes of their keys. It goes over all entries with the text, or twice if what it returns has more
+    /// than 16 bytes of keys for each of `most`. It keeps no more than `most` of them, and one more while that takes another's place.
     std::vector<owned_entry> best(std::string_view prefix, std::size_t most, by_value order = by_value::highest_first) const {
         std::vector<owned_entry> kept;
         if (!is_open()) return kept;
@@ -352,7 +353,7 @@ public:
         return near(cedar_next_near, prefix, most_edits, true, most);
     }
 
-    /// The same by edits of characters, of a text in UTF-8: what isn't UTF-8 isn't near.
+    /// The same by edits of characters, of a text in UTF-8: a key, or what it begins with, is near only if it is UTF-8.
     std::vector<owned_entry> within_text(std::string_view text, edits most_edits, std::size_t most = SIZE_MAX) const {
         return near(cedar_next_near_text, text, most_edits, false, most);
     }
