@@ -784,10 +784,10 @@ typedef struct cedar_change {
  * says, and a crash at any moment leaves a file with all of them or with none. It costs two syncs, and sorts the keys.
  *
  * After any error but CEDAR_STORE_DEVICE none is made, in the dictionary or in the file, though changes that waited may be on the disk by
- * then. After CEDAR_STORE_DEVICE the dictionary has all of them; or none, if the device failed while changes that waited were put on the
- * disk. *refused is the index of the first change whose pair has a fault, and *position that of a byte 0 in its key; and if memory or slots
- * run out at an update, *refused is the index of that. Both may be null. Otherwise the errors are those of cedar_store_update;
- * CEDAR_STORE_TOO_LONG says that all changes together have too many bytes for a record. */
+ * then. After CEDAR_STORE_DEVICE the dictionary has all of them; or none, if the device failed at the changes that waited. *refused is the
+ * index of the first change whose pair has a fault, and *position that of a byte 0 in its key; and if memory or slots run out at an update,
+ * *refused is the index of that. Both may be null. Otherwise the errors are those of cedar_store_update; CEDAR_STORE_TOO_LONG says that all
+ * changes together have too many bytes for a record. */
 uint32_t cedar_store_apply(cedar_store *s, const cedar_change *changes, size_t count, size_t *refused, size_t *position);
 
 /* Sets how many changes go to the disk together from now on. With 1, the setting at first, each change is on the disk before it is
