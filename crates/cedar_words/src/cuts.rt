@@ -114,7 +114,9 @@ fn best_of_walk<F: NextFront, M: CostModel>(
     }
 }
 
-/// The best first step from a position of a text on, if it is known what fewer bytes of its end cost.
+/// The best first step from a position of a text on, if it is known what fewer bytes of its end cost. A cut makes it at each position, and
+/// tokens make it once more where they are long: without the attribute it is a call at each position, with two fifths more instructions.
+#[inline(always)]
 fn best_step<T: Fronts, M: CostModel>(
     trie: &T,
     model: &M,
