@@ -218,11 +218,13 @@ static bool is_beyond(const struct cedar_store_file *file, size_t bytes) {
 }
 
 /* It is looked at again once the file is so much longer than it is now: so all looks together cost no more than what was written, times a
- * constant. Lack of memory and a file that is kept are no errors of the change, which is acknowledged. */
+ * constant. Lack of memory and a file that is kept are no errors of the change, which is acknowledged. A reader's file, and one whose
+ * lock is the parent's, is another's to replace. */
 uint32_t store_compact_if_due(cedar_store *s) {
     struct cedar_store_file *file = s->file;
     size_t length = 0;
     if (file->factor == 0 || !is_beyond(file, file->base)) return CEDAR_OK;
+    if (file->is_to_read || disk_is_inherited(&file->disk)) return CEDAR_OK;
     file->base = file->end;
     uint32_t status = cedar_store_compacted_len(s, &length);
     if (status != CEDAR_OK) file->last_compaction = status;

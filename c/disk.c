@@ -323,6 +323,15 @@ static int flags_of(uint32_t how) {
     return how & CEDAR_OPEN_NEW ? O_RDWR | O_CREAT | O_EXCL : O_RDWR | O_CREAT;
 }
 
+/* Whether a file that this opening has created is empty still. Between its creation and its lock another program may have opened it, and
+ * written to it. */
+static bool is_empty(const disk_file *file) {
+    struct stat about;
+    if (fstat(file->number, &about) != 0) return false;
+    if (about.st_size > 0) errno = EEXIST;
+    return about.st_size == 0;
+}
+
 uint32_t disk_open(disk_file *file, const char *path, uint32_t how) {
     *file = (disk_file)DISK_CLOSED;
     if (how & CEDAR_OPEN_TO_READ) return open_number(file, path, O_RDONLY);
@@ -334,6 +343,7 @@ uint32_t disk_open(disk_file *file, const char *path, uint32_t how) {
         if (status != CEDAR_OK) return status;
     }
     file->process = getpid();
+    if ((how & CEDAR_OPEN_NEW) && !is_empty(file)) return CEDAR_STORE_DEVICE;
     remove_leftover(file);
     return sync_all(file->number) && sync_all(file->folder) ? CEDAR_OK : CEDAR_STORE_DEVICE;
 }

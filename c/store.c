@@ -162,8 +162,10 @@ static uint32_t sync_store(struct cedar_store_file *file) {
 }
 
 uint32_t cedar_store_sync(cedar_store *s) {
+    bool has_waited = cedar_store_waiting(s) > 0;
     uint32_t status = sync_store(s->file);
-    return status == CEDAR_OK ? store_compact_if_due(s) : status;
+    /* Changes that didn't wait have looked at the file's length themselves. */
+    return status == CEDAR_OK && has_waited ? store_compact_if_due(s) : status;
 }
 
 uint32_t cedar_store_sync_every(cedar_store *s, size_t changes) {

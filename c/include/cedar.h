@@ -354,8 +354,9 @@ uint32_t cedar_entries_below(const cedar_dictionary *d, const uint8_t *prefix, s
  * lowest, and those with the same value by the bytes of their keys. found[0] and on say where each key begins among the bytes, how many
  * bytes it has, and its value; the keys are written to bytes[0] and on, one after another. The other elements and bytes keep their content.
  * *count is how many entries these are, *needed how many bytes their keys have together. It goes over all entries with the prefix, and
- * allocates for `places` of them and a copy of their keys. Returns CEDAR_OK; CEDAR_IS_CLOSED; CEDAR_NO_ROOM if their keys have more than
- * `room` bytes: then *needed is how many; or CEDAR_MEMORY. After an error nothing else is written. */
+ * allocates for `places` of them, one more and a copy of their keys. Returns CEDAR_OK; CEDAR_IS_CLOSED; CEDAR_NO_ROOM if their keys have
+ * more than `room` bytes: then *needed is how many, and a further call goes over all again; or CEDAR_MEMORY. After an error nothing else is
+ * written. */
 uint32_t cedar_best(const cedar_dictionary *d, const uint8_t *prefix, size_t length, bool lowest_first, cedar_found *found, size_t places,
                     uint8_t *bytes, size_t room, size_t *count, size_t *needed);
 
@@ -374,10 +375,9 @@ uint32_t cedar_ceiling(const cedar_dictionary *d, const uint8_t *key, size_t len
 /* cedar_next_near writes the first entry behind a key whose own key is near a query: one edit away at most, or two if two_edits; or if
  * is_beginning it begins with what is, so it completes what was typed with an error. An edit puts in, takes out or changes a byte: a letter
  * beyond ASCII has two to four. cedar_next_near_text does the same by characters of UTF-8: an edit puts in, takes out or changes a
- * character, and bytes that are no character end what can be near. A character in more bytes than it needs, a surrogate and a number above
- * 10FFFF are read as characters too, though UTF-8 has none of these. cedar_next_fitting writes the first entry behind a key whose own key
- * fits a pattern, in which ? stands for any byte, * for any bytes, also none, and each other byte for itself. If `behind` has no byte,
- * these are the first ones of all. To go on, copy the key that was found and pass it as `behind`. The entry is written as
+ * character, and a key, or what it begins with, is near only if it is UTF-8. cedar_next_fitting writes the first entry behind a key whose
+ * own key fits a pattern, in which ? stands for any byte, * for any bytes, also none, and each other byte for itself. If `behind` has no
+ * byte, these are the first ones of all. To go on, copy the key that was found and pass it as `behind`. The entry is written as
  * cedar_ceiling writes one, and *needed 0 says that none is left. A call makes a look-up for each entry that it comes to, and one for each
  * place where no key that goes on so is wanted: all keys below it are left out. It allocates for a key or two, and cedar_next_near_text
  * for the characters of its query. They return what cedar_ceiling returns; cedar_next_near_text CEDAR_QUERY_NOT_UTF8 if the query isn't
@@ -672,10 +672,10 @@ uint32_t cedar_replace_file(const char *path, const uint8_t *bytes, size_t lengt
  * describes the file.
  *
  * A store is locked as long as it is open (flock), against every program that opens it by this library, by the crates, or by ./roskvidh.
- * After a fork the child's changes that don't wait return CEDAR_STORE_LOCKED, and so does its cedar_store_sync if changes wait. If none
- * waits, a cedar_store_sync in the child may compact the file. The parent's later changes are then lost, though they are acknowledged: let
- * no child call it. The lock ends once the parent has closed the store, or has ended, and each such child has closed it, started another
- * program, or ended. */
+ * After a fork the child writes nothing to the file, and doesn't compact it. What would write returns CEDAR_STORE_LOCKED: a change that
+ * doesn't wait, cedar_store_apply, cedar_store_compact, and any call that would put changes that wait on the disk. A change that only waits
+ * returns CEDAR_OK, and never comes to the disk. The lock ends once the parent has closed the store, or has ended, and each such child has
+ * closed it, started another program, or ended. */
 
 /* A store. It is initialised with CEDAR_STORE_CLOSED, and only these calls change it. It may be moved. */
 typedef struct cedar_store {
@@ -715,7 +715,8 @@ uint32_t cedar_store_open_to_read(cedar_store *s, const char *path);
 enum {
     CEDAR_OPEN_REDUCED = 1,  /* with a dictionary of the reduced layout */
     CEDAR_OPEN_EXISTING = 2, /* a missing file isn't created: errno is ENOENT */
-    CEDAR_OPEN_NEW = 4,      /* only a missing file is opened: errno is EEXIST if there is one, also by a link */
+    CEDAR_OPEN_NEW = 4,      /* the file is created: errno is EEXIST if there is one, also by a link, or if another program is faster to
+                              * write to it */
     CEDAR_OPEN_TO_READ = 8   /* as cedar_store_open_to_read */
 };
 
@@ -783,9 +784,10 @@ typedef struct cedar_change {
  * says, and a crash at any moment leaves a file with all of them or with none. It costs two syncs, and sorts the keys.
  *
  * After any error but CEDAR_STORE_DEVICE none is made, in the dictionary or in the file, though changes that waited may be on the disk by
- * then. *refused is the index of the first change whose pair has a fault, and *position that of a byte 0 in its key; and if memory or slots
- * run out at an update, *refused is the index of that. Both may be null. Otherwise the errors are those of cedar_store_update;
- * CEDAR_STORE_TOO_LONG says that all changes together have too many bytes for a record. */
+ * then. After CEDAR_STORE_DEVICE the dictionary has all of them; or none, if the device failed at the changes that waited. *refused is the
+ * index of the first change whose pair has a fault, and *position that of a byte 0 in its key; and if memory or slots run out at an update,
+ * *refused is the index of that. Both may be null. Otherwise the errors are those of cedar_store_update; CEDAR_STORE_TOO_LONG says that all
+ * changes together have too many bytes for a record. */
 uint32_t cedar_store_apply(cedar_store *s, const cedar_change *changes, size_t count, size_t *refused, size_t *position);
 
 /* Sets how many changes go to the disk together from now on. With 1, the setting at first, each change is on the disk before it is
@@ -795,9 +797,10 @@ uint32_t cedar_store_apply(cedar_store *s, const cedar_change *changes, size_t c
  * with the statuses of cedar_store_sync; unless that returns CEDAR_OK, the setting is as it was. */
 uint32_t cedar_store_sync_every(cedar_store *s, size_t changes);
 
-/* Puts the changes that wait on the disk as one: a crash at any moment leaves a file with all of them or with none. CEDAR_OK: the disk has
- * all changes. Also returns CEDAR_IS_CLOSED, and CEDAR_STORE_DEVICE and CEDAR_STORE_FAILED as cedar_store_update does. After
- * CEDAR_STORE_NO_ROOM the changes wait on. */
+/* Puts the changes that wait on the disk as one: a crash at any moment leaves a file with all of them or with none. Then it compacts the
+ * file if that is due, as a change does. If no change waits it does nothing. CEDAR_OK: the disk has all changes. Also returns
+ * CEDAR_IS_CLOSED, and CEDAR_STORE_DEVICE and CEDAR_STORE_FAILED as cedar_store_update does. After CEDAR_STORE_NO_ROOM the changes wait on;
+ * so they do after CEDAR_STORE_LOCKED, in a forked child. */
 uint32_t cedar_store_sync(cedar_store *s);
 
 /* Returns how many changes wait. 0 if closed. */
@@ -809,7 +812,7 @@ size_t cedar_store_waiting(const cedar_store *s);
  *
  * The new file is made beside the old one, under its name with `.cedar-compaction` behind it. It is locked, and gets the old one's mode and
  * owner as a file of cedar_replace_file does, but before it is written: that may take set-user-ID and set-group-ID away. If a crash leaves
- * it there, the next opening removes it. Returns:
+ * it there, the next opening that locks the store removes it, also one that then refuses the store's file. Returns:
  *
  * - CEDAR_OK; CEDAR_IS_CLOSED; CEDAR_STORE_READ_ONLY; CEDAR_STORE_LOCKED in a forked child.
  * - CEDAR_MEMORY and CEDAR_STORE_KEPT: the old file is there, and the store is as it was. After CEDAR_STORE_KEPT errno has the reason, as

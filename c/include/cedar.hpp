@@ -312,7 +312,8 @@ public:
     }
 
     /// Returns the best of the entries whose keys begin with a text, at most `most` of them: by value, the highest first or the lowest, and
-    /// those with the same value by the bytes of their keys. It goes over all entries with the text, and keeps no more than `most`.
+    /// those with the same value by the bytes of their keys. It goes over all entries with the text, or twice if what it returns has more
+    /// than 16 bytes of keys for each of `most`. It keeps no more than `most` of them, and one more while that takes another's place.
     std::vector<owned_entry> best(std::string_view prefix, std::size_t most, by_value order = by_value::highest_first) const {
         std::vector<owned_entry> kept;
         if (!is_open()) return kept;
@@ -352,7 +353,7 @@ public:
         return near(cedar_next_near, prefix, most_edits, true, most);
     }
 
-    /// The same by edits of characters, of a text in UTF-8, as cedar_next_near_text reads them.
+    /// The same by edits of characters, of a text in UTF-8: a key, or what it begins with, is near only if it is UTF-8.
     std::vector<owned_entry> within_text(std::string_view text, edits most_edits, std::size_t most = SIZE_MAX) const {
         return near(cedar_next_near_text, text, most_edits, false, most);
     }
@@ -623,6 +624,7 @@ public:
     store(const store &) = delete;
     store &operator=(const store &) = delete;
     store(store &&other) noexcept { swap(other); }
+    /// Takes the other store over. The one that was here is closed as by the destructor, which reports no error: call sync() before it.
     store &operator=(store &&other) noexcept {
         store moved(std::move(other));
         swap(moved);
@@ -694,7 +696,8 @@ public:
     /// and no others. It puts those that wait now on the disk.
     void sync_every(std::size_t changes) { check(cedar_store_sync_every(&inside_, changes), 0); }
 
-    /// Puts the changes that wait on the disk as one. The destructor puts them there too, and reports no error.
+    /// Puts the changes that wait on the disk as one, and compacts the file then if that is due. If none waits it does nothing. The
+    /// destructor puts them on the disk too, and reports no error.
     void sync() { check(cedar_store_sync(&inside_), 0); }
 
     /// Returns how many changes wait.

@@ -28,7 +28,8 @@ class Store(Words[K]):
 
     As long as it is open the store is locked. Whoever opens it meanwhile, also in this process, gets a CedarError with the status 47. With
     "r" there is no lock: the file isn't written, and may be changed by another program meanwhile. The mapping has what was on the disk when
-    it was opened, and each change of it raises CedarError with the status 48. A forked child writes nothing: its changes raise CedarError.
+    it was opened, and each change of it raises CedarError with the status 48. A forked child writes nothing: what would write raises a
+    CedarError with the status 47, and a change that waits never comes to the disk.
 
     With sync_every=n a change waits until n of them go to the disk as one; with 0 it waits for sync(). A crash takes away those that wait,
     all of them or none, and no others. batch() makes the changes of a block as one, or none of them.
@@ -107,7 +108,7 @@ class Store(Words[K]):
         return self._waiting()
 
     def sync(self) -> None:
-        """Puts the changes that wait on the disk as one: a crash leaves all of them or none."""
+        """Puts the changes that wait on the disk as one: a crash leaves all of them or none. If none waits it does nothing."""
         self._sync()
 
     @contextmanager

@@ -6,6 +6,7 @@
 #include <fcntl.h>
 #include <stdarg.h>
 #include <stddef.h>
+#include <sys/stat.h>
 #include <sys/types.h>
 
 static __thread long left, calls_left;
@@ -18,7 +19,7 @@ long refuse(long count) {
     return before;
 }
 
-/* The same of calls on files, which fail with ENOSPC. If it is for good, all behind it fail too. */
+/* The same of calls on files, which fail with ENOSPC: then it returns -1. If it is for good, all behind it fail too. */
 long refuse_calls(long count, int for_good) {
     long before = calls_left;
     calls_left = count;
@@ -48,6 +49,12 @@ void *realloc(void *memory, size_t size) {
     static void *(*next)(void *, size_t);
     if (!next) next = dlsym(RTLD_NEXT, "realloc");
     return is_refused() ? NULL : next(memory, size);
+}
+
+int stat(const char *path, struct stat *found) {
+    static int (*next)(const char *, struct stat *);
+    if (!next) next = dlsym(RTLD_NEXT, "stat");
+    return call_fails() ? -1 : next(path, found);
 }
 
 int openat(int folder, const char *path, int flags, ...) {
@@ -84,8 +91,23 @@ int fsync(int file) {
     return call_fails() ? -1 : next(file);
 }
 
+/* As the system does, it closes the file all the same. */
+int close(int file) {
+    static int (*next)(int);
+    if (!next) next = dlsym(RTLD_NEXT, "close");
+    int is_failure = call_fails(), number = errno, answer = next(file);
+    if (is_failure) errno = number;
+    return is_failure ? -1 : answer;
+}
+
 int renameat(int from_folder, const char *from, int to_folder, const char *to) {
     static int (*next)(int, const char *, int, const char *);
     if (!next) next = dlsym(RTLD_NEXT, "renameat");
     return call_fails() ? -1 : next(from_folder, from, to_folder, to);
+}
+
+int unlinkat(int folder, const char *path, int flags) {
+    static int (*next)(int, const char *, int);
+    if (!next) next = dlsym(RTLD_NEXT, "unlinkat");
+    return call_fails() ? -1 : next(folder, path, flags);
 }

@@ -12,9 +12,11 @@ import subprocess
 import sys
 import tempfile
 import threading
+import time
 import traceback
 import unittest
 from pathlib import Path
+from unittest import mock
 
 from roskvidh import Cedar, CedarError, files
 
@@ -140,29 +142,52 @@ class Files(unittest.TestCase):
         other.join()
         self.assertEqual((is_met(child), self.names()), (True, [self.path.name]))
 
+    def test_killed(self):
+        """A process that is killed while it saves: the file is whole, and what it leaves beside is in nobody's way."""
+        few, many, chance = Cedar({b"a": 1}), Cedar({b"%d" % i: i for i in range(5000)}), random.Random(7)
+
+        def save_for_ever():
+            while True:
+                few.save(self.path)
+                many.save(self.path)
+
+        for _ in range(50):
+            few.save(self.path)
+            child = start_child(save_for_ever)
+            time.sleep(chance.uniform(0, 0.02))
+            os.kill(child, signal.SIGKILL)
+            self.assertEqual(os.WTERMSIG(os.waitpid(child, 0)[1]), signal.SIGKILL)
+            self.assertIn(self.path.read_bytes(), (few.to_bytes(), many.to_bytes()))
+        many.save(self.path)
+        self.assertEqual(Cedar.load(self.path), many)
+
     @unittest.skipUnless(refused_calls(), "refuse.so isn't loaded")
     def test_each_call_fails(self):
+        """In turn a look, two openings, a write, owner, mode, sync, close, the rename, and the sync and the close of the folder."""
         refuse = refused_calls()
         refuse.argtypes, refuse.restype = [ctypes.c_long, ctypes.c_int], ctypes.c_long
         old, new, path = Cedar({b"old": 1}), Cedar({b"new": 1}), os.fsencode(self.path)
         data = new.to_bytes()
         for for_good in (False, True):
-            failures, came = [], True
+            number, came = 0, True
             while came:
+                number += 1
                 old.save(self.path)
-                refuse(len(failures) + 1, for_good)
+                refuse(number, for_good)
+                failure = None
                 try:
                     files._core.replace_file(path, data)
                 except OSError as error:
-                    failures.append(error)
-                    came = True
-                else:
-                    came = False
-                refuse(0, False)
-                # Only where the folder couldn't be put on the disk, the last of eight calls, is the new file there all the same.
-                placed = not came or len(failures) == 8
-                self.assertEqual((Cedar.load(self.path), self.names()), (new if placed else old, [self.path.name]))
-            self.assertEqual([(error.errno, error.filename) for error in failures], [(errno.ENOSPC, str(self.path))] * 8)
+                    failure = (error.errno, error.filename)
+                came = refuse(0, False) < 0
+                # The tenth call puts the folder on the disk: then the new file is there. An error of the last one is passed over.
+                self.assertEqual(failure, (errno.ENOSPC, str(self.path)) if number <= 10 else None)
+                left = [self.path.with_name("words.cedar.new")] if for_good and 4 <= number < 10 else []
+                names = [self.path.name, *(beside.name for beside in left)]
+                self.assertEqual((Cedar.load(self.path), self.names()), (new if number >= 10 else old, names))
+                for beside in left:
+                    beside.unlink()
+            self.assertEqual(number, 12)
 
     def test_the_old_file_stays_after_an_error(self):
         Cedar({b"old": 1}).save(self.path)
@@ -213,6 +238,19 @@ class Files(unittest.TestCase):
         with self.assertRaises(OSError) as caught:
             d.save("/dev/full")
         self.assertEqual(caught.exception.errno, errno.ENOSPC)
+
+    def test_a_file_in_place_of_a_pipe(self):
+        """Where a pipe was found, and a file is by the time that it is opened, that stays. Where nothing is then, nothing is made."""
+        Cedar({b"old": 1}).save(self.path)
+        before = self.path.read_bytes()
+        with mock.patch.object(files, "_is_special", return_value=True):
+            with self.assertRaises(OSError) as caught:
+                Cedar({b"new": 1}).save(self.path)
+            self.assertEqual((caught.exception.errno, self.path.read_bytes(), self.names()), (errno.ENOTSUP, before, [self.path.name]))
+            self.path.unlink()
+            with self.assertRaises(FileNotFoundError):
+                Cedar({b"new": 1}).save(self.path)
+        self.assertEqual(self.names(), [])
 
     def test_damaged_files(self):
         data = Cedar({b"net": 1, b"ten": 2, b"nets": 3}).to_bytes()

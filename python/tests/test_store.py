@@ -616,6 +616,32 @@ class Stores(unittest.TestCase):
         with Store(self.path) as s:
             self.assertEqual(dict(s), {b"net": 7, b"nets": 8})
 
+    def test_forked_where_a_compaction_is_due(self):
+        """Neither a child nor a reader makes the file short, whose next change by the parent does."""
+        with Store(self.path, sync_every=0) as s:
+            s.compaction = None
+            for number in range(9000):
+                s[b"counter"] = number
+        inode = self.path.stat().st_ino
+        with Store(self.path) as s:
+            child = os.fork()
+            if child == 0:
+                try:
+                    s.close()
+                    os._exit(0)
+                finally:
+                    os._exit(1)
+            self.assertEqual(os.waitpid(child, 0)[1], 0)
+            with Store(self.path, mode="r") as reader:
+                reader.sync()
+                self.assertEqual(reader.last_compaction, 0)
+            self.assertEqual(self.path.stat().st_ino, inode)
+            s[b"net"] = 7
+            self.assertEqual((s.last_compaction, s.file_size < 100), (0, True))
+            self.assertNotEqual(self.path.stat().st_ino, inode)
+        with Store(self.path) as s:
+            self.assertEqual(dict(s), {b"counter": 8999, b"net": 7})
+
     def test_a_disk_without_room(self):
         """The file may not grow past a limit: a change isn't made, and the store goes on once it may."""
         run = subprocess.run([sys.executable, "-c", LACKS_ROOM, str(self.path)], stdout=subprocess.PIPE, text=True, check=True)

@@ -12,12 +12,12 @@
 #include <sys/wait.h>
 #include <unistd.h>
 
-enum { FILE_ROOM = 1 << 16, ROUNDS = 40, WRITERS = 4, EACH_WRITES = 25, PAIRS = 300, MANY_TIMES = 1000 };
+enum { FILE_ROOM = 1 << 16, ROUNDS = 40, WRITERS = 4, EACH_WRITES = 25, PAIRS = 300, MANY_TIMES = 1000, COUNTS = 10000 };
 
 static char path[4096], other[4096];
 
 /* What happens to the path before a file is locked, so many times. */
-static enum { NOTHING, IS_REPLACED, IS_REMOVED, HAS_NO_LOCKS } event = NOTHING;
+static enum { NOTHING, IS_REPLACED, IS_REMOVED, IS_WRITTEN, HAS_NO_LOCKS } event = NOTHING;
 static int times;
 
 static size_t writes;     /* how many calls have written, cut or synced */
@@ -40,6 +40,13 @@ int __wrap_open(const char *name, int flags, ...) {
     return file;
 }
 
+/* Somebody else opens the file, writes to it and closes it. */
+static void write_theirs(void) {
+    cedar_store s = CEDAR_STORE_CLOSED;
+    CHECK(cedar_store_open(&s, path) == CEDAR_OK && cedar_store_update(&s, (const uint8_t *)"theirs", 6, 1, NULL) == CEDAR_OK);
+    cedar_store_close(&s);
+}
+
 int __wrap_flock(int file, int how) {
     if (event == HAS_NO_LOCKS) {
         errno = ENOLCK;
@@ -48,6 +55,7 @@ int __wrap_flock(int file, int how) {
     if (event != NOTHING && times > 0) {
         times--;
         if (event == IS_REMOVED) CHECK(unlink(path) == 0);
+        if (event == IS_WRITTEN) write_theirs();
         if (event == IS_REPLACED) {
             CHECK(link(other, path) == -1 && errno == EEXIST && unlink(path) == 0 && link(other, path) == 0);
             /* and the next time by another one */
@@ -214,6 +222,49 @@ static void check_inherited(void) {
     cedar_store_close(&two);
 }
 
+static ino_t inode(void) {
+    struct stat found;
+    CHECK(stat(path, &found) == 0);
+    return found.st_ino;
+}
+
+/* Makes a file that a compaction by the rule would make much shorter. */
+static void make_due(void) {
+    cedar_store s = CEDAR_STORE_CLOSED;
+    open_new(&s);
+    CHECK(cedar_store_compact_beyond(&s, 0, 0) == CEDAR_OK && cedar_store_sync_every(&s, 0) == CEDAR_OK);
+    for (int32_t i = 0; i < COUNTS; i++) CHECK(update(&s, "counter", i) == CEDAR_OK);
+    CHECK(cedar_store_sync(&s) == CEDAR_OK && cedar_store_file_len(&s) > COUNTS * 10);
+    cedar_store_close(&s);
+}
+
+static int sync_inherited(void) {
+    writes = 0;
+    if (cedar_store_sync(&shared) != CEDAR_OK || cedar_store_last_compaction(&shared) != CEDAR_OK) return 1;
+    if (cedar_store_compact(&shared) != CEDAR_STORE_LOCKED || update(&shared, "ten", 9) != CEDAR_STORE_LOCKED) return 2;
+    if (cedar_store_sync_every(&shared, 0) != CEDAR_OK || update(&shared, "ten", 9) != CEDAR_OK) return 3; /* it waits */
+    if (cedar_store_sync(&shared) != CEDAR_STORE_LOCKED || cedar_store_last_compaction(&shared) != CEDAR_OK) return 4;
+    cedar_store_close(&shared);
+    return writes == 0 ? 0 : 5;
+}
+
+/* Where a file is to be made short, neither a reader nor a forked child does it. The parent's next change does. */
+static void check_due(void) {
+    cedar_store reader = CEDAR_STORE_CLOSED;
+    make_due();
+    ino_t before = inode();
+    CHECK(cedar_store_open_to_read(&reader, path) == CEDAR_OK && cedar_store_open(&shared, path) == CEDAR_OK);
+    writes = 0;
+    CHECK(cedar_store_sync(&reader) == CEDAR_OK && cedar_store_last_compaction(&reader) == CEDAR_OK);
+    cedar_store_close(&reader);
+    CHECK(in_child(sync_inherited) == 0 && cedar_store_sync(&shared) == CEDAR_OK && writes == 0 && inode() == before);
+    CHECK(update(&shared, "net", 7) == CEDAR_OK && cedar_store_file_len(&shared) < 100 && inode() != before);
+    CHECK(cedar_store_last_compaction(&shared) == CEDAR_OK && update(&shared, "nets", 8) == CEDAR_OK);
+    CHECK(cedar_store_open(&shared, path) == CEDAR_OK && count(&shared) == 3 && at(&shared, "counter") == COUNTS - 1);
+    CHECK(at(&shared, "net") == 7 && at(&shared, "nets") == 8 && at(&shared, "ten") == -1);
+    cedar_store_close(&shared);
+}
+
 /* A variable that is open is closed first: what waits is on the disk then, and is read again. */
 static void check_again(void) {
     cedar_store s = CEDAR_STORE_CLOSED;
@@ -326,6 +377,13 @@ static void check_hows(const char *folder) {
     CHECK(unlink(path) == 0 && mkfifo(path, 0600) == 0);
     CHECK(cedar_store_open_to_read(&s, path) == CEDAR_STORE_DEVICE && errno == EINVAL);
     CHECK(cedar_store_open(&s, path) == CEDAR_STORE_DEVICE && errno == EINVAL && unlink(path) == 0);
+    /* Somebody else is faster to lock the new file: it is theirs. */
+    event = IS_WRITTEN;
+    times = 1;
+    CHECK(cedar_store_open_with(&s, path, CEDAR_OPEN_NEW) == CEDAR_STORE_DEVICE && errno == EEXIST && times == 0 && s.file == NULL);
+    event = NOTHING;
+    CHECK(cedar_store_open(&s, path) == CEDAR_OK && count(&s) == 1 && at(&s, "theirs") == 1);
+    cedar_store_close(&s);
 }
 
 static int writer_number;
@@ -404,6 +462,7 @@ int main(int argument_count, char **arguments) {
     check_two();
     check_at_rest();
     check_inherited();
+    check_due();
     check_again();
     check_replaced();
     check_read();

@@ -25,6 +25,7 @@ static char calls[64]; /* the first letter of each call on files that was made, 
 static char before[64]; /* those before the first call that failed */
 static char failed; /* the letter of that one */
 static int owner_error; /* what each call says that gives a file to an owner, or 0 */
+static bool finds_a_pipe; /* whether each look at a path finds a pipe */
 
 /* Whether the call that has come is one that is to fail. */
 static bool is_due(char letter) {
@@ -65,7 +66,13 @@ void *__real_malloc(size_t size);
 void *__real_calloc(size_t count, size_t size);
 void *__real_realloc(void *block, size_t size);
 
-int __wrap_stat(const char *path, struct stat *found) { return is_met(0, false) ? __real_stat(path, found) : -1; }
+int __wrap_stat(const char *path, struct stat *found) {
+    if (!is_met(0, false)) return -1;
+    if (!finds_a_pipe) return __real_stat(path, found);
+    memset(found, 0, sizeof *found);
+    found->st_mode = S_IFIFO | 0600;
+    return 0;
+}
 int __wrap_openat(int folder, const char *path, int flags, ...) {
     va_list mode;
     va_start(mode, flags);
@@ -327,6 +334,17 @@ static void specials(cedar *d, const char *folder) {
     cedar_free(&loaded);
 }
 
+/* Where a pipe was found, and a file is by the time that it is opened, that stays as it is. Where nothing is then, nothing is made. */
+static void files_in_place_of_pipes(cedar *old, cedar *d) {
+    CHECK(cedar_save_file(old, false, path) == CEDAR_OK);
+    finds_a_pipe = true;
+    begin(NONE, 0);
+    CHECK(cedar_save_file(d, false, path) == CEDAR_FILE_UNREAD && errno == ENOTSUP && strcmp(calls, "oc") == 0);
+    CHECK(is_file_of(path, old, false) && !is_there(beside) && unlink(path) == 0);
+    CHECK(cedar_save_file(d, false, path) == CEDAR_FILE_UNREAD && errno == ENOENT && !is_there(path) && !is_there(beside));
+    finds_a_pipe = false;
+}
+
 static int remove_one(const char *name, const struct stat *found, int kind, struct FTW *where) {
     (void)found, (void)kind, (void)where;
     return remove(name);
@@ -354,6 +372,7 @@ int main(int count, char **arguments) {
         links_and_modes(&old, &d, paths[2]);
         refused_owners(&old, &d);
         specials(&d, folder);
+        files_in_place_of_pipes(&old, &d);
         cedar_free(&old);
         cedar_free(&d);
     }

@@ -1,6 +1,6 @@
-/* Files that are replaced among others: two savers at once; the old file's mode and owner; new names that are taken, or too long; folders
- * and sizes that the system refuses. Argument: a folder to write in. Where the program may, parts of it run as the user `nobody`, whom
- * modes bind. */
+/* Files that are replaced among others: two savers at once; the old file's mode and owner; new names that are taken, or too long; folders,
+ * looks and sizes that the system refuses. Argument: a folder to write in. Where the program may, parts of it run as the user `nobody`,
+ * whom modes bind. */
 #define _GNU_SOURCE /* RLIMIT_FSIZE, setgroups */
 #include "cedar.h"
 #include "check.h"
@@ -252,6 +252,21 @@ static void folders(void) {
     CHECK(unlink("words") == 0);
 }
 
+/* A link that leads to where one may not look is replaced, by a file that is like any new one. */
+static void replace_a_link(void) {
+    umask(022);
+    CHECK(replace("words", NEW) == CEDAR_OK && has("words", NEW) && look("words").st_mode == (S_IFREG | 0644));
+}
+
+static void links_to_closed_folders(void) {
+    CHECK(mkdir("closed", 0700) == 0 && symlink("closed/old", "words") == 0);
+    put("closed/old", OLD);
+    CHECK(chmod("closed/old", 0600) == 0 && chmod("closed", 0) == 0);
+    apart(true, replace_a_link);
+    CHECK(chmod("closed", 0700) == 0 && has("closed/old", OLD) && look("closed/old").st_mode == (S_IFREG | 0600));
+    CHECK(unlink("closed/old") == 0 && rmdir("closed") == 0 && names_in(".") == 1 && unlink("words") == 0);
+}
+
 /* The disk takes no more bytes of a file. */
 static void refused_bytes(void) {
     static uint8_t bytes[LONG];
@@ -281,6 +296,7 @@ int main(int count, char **arguments) {
     names_taken();
     long_paths();
     folders();
+    links_to_closed_folders();
     sizes();
     if (is_root) owners();
     CHECK(chdir("..") == 0 && rmdir(folder) == 0);

@@ -5,6 +5,7 @@
 #include "check.h"
 #include <pthread.h>
 #include <string.h>
+#include <time.h>
 
 enum { KEYS = 12, LONGEST = 5, LENGTH = 40, MATCHES = LENGTH * LONGEST, HOSTILE = 80000 };
 
@@ -193,7 +194,8 @@ static void refusals(void) {
     cedar_free(&d);
 }
 
-/* One key a..ab, and with it the key a, in a text of a alone: a search that goes back takes the text times the key. */
+/* One key a..ab, and with it the key a, in a text of a alone. A search that goes back takes the text times the key: some seconds of
+ * processor. By the automaton it takes some milliseconds. */
 static void hostile(uint32_t search) {
     static uint8_t key[HOSTILE + 1], all[HOSTILE];
     static cedar_found found[HOSTILE];
@@ -205,7 +207,9 @@ static void hostile(uint32_t search) {
     CHECK(cedar_new(&d) == CEDAR_OK);
     CHECK(cedar_update(&d, key, HOSTILE + 1, 1, NULL) == CEDAR_OK && cedar_update(&d, key, 1, 0, NULL) == CEDAR_OK);
     CHECK(cedar_scanner_new(&d, search, &s) == CEDAR_OK && cedar_scanner_longest(&s) == HOSTILE + 1);
+    clock_t began = clock();
     size_t next = 0, count = cedar_scanner_find(&s, all, HOSTILE, &next, found, HOSTILE);
+    CHECK(clock() - began < CLOCKS_PER_SEC / 4);
     CHECK(count == HOSTILE && next == HOSTILE);
     for (size_t i = 0; i < count; i++) CHECK(found[i].place == i && found[i].length == 1 && found[i].value == 0);
     cedar_scanner_free(&s);

@@ -467,6 +467,14 @@ void places(const dictionary &d, const std::string &path) {
     CHECK(S_ISREG(look(link).st_mode) && dictionary::load_from_path(path).size() == d.size() && std::remove(link.c_str()) == 0);
     d.save_to_path("/dev/null");
     no_file("/dev/full", [&] { d.save_to_path("/dev/full"); }, ENOSPC);
+    // A pipe takes the file's bytes, and stays.
+    const std::string pipe = path + ".pipe";
+    CHECK(mkfifo(pipe.c_str(), 0600) == 0);
+    std::string taken;
+    std::thread reader([&] { taken = bytes_at(pipe); });
+    d.save_to_path(pipe);
+    reader.join();
+    CHECK(taken == bytes_at(path) && S_ISFIFO(look(pipe).st_mode) && std::remove(pipe.c_str()) == 0);
 }
 
 // Two threads that save to one path: each file that is loaded is one of theirs.

@@ -1,1 +1,2 @@
+pub mod DecodingLemmas
 pub mod EncodingLemmas

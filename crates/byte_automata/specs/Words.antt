@@ -6,10 +6,11 @@ pub use Rattle.byte_automata.specs.Cases.{lower_after, lower_of}
 pub use Rattle.byte_automata.specs.Cells.{next_cell, next_cells}
 pub use Rattle.byte_automata.specs.CharacterLaws.{characters_prune, characters_tell}
 pub use Rattle.byte_automata.specs.Characters.{are_near, characters_of, first_byte, first_reading}
-pub use Rattle.byte_automata.specs.Characters.{next_part, read_byte, reading_after, reading_ends}
+pub use Rattle.byte_automata.specs.Characters.{next_part, part_before_last, part_before_two}
+pub use Rattle.byte_automata.specs.Characters.{read_byte, reading_after, reading_ends}
 pub use Rattle.byte_automata.specs.Characters.{reading_may_end}
 pub use Rattle.byte_automata.specs.Distances.{byte_cost, distance, is_near}
-pub use Rattle.byte_automata.specs.Encodings.{ReadsCharacters}
+pub use Rattle.byte_automata.specs.Encodings.{ReadsCharacters, ReadsOnlyUtf8}
 pub use Rattle.byte_automata.specs.FrontLaws.{front_prunes, front_tells}
 pub use Rattle.byte_automata.specs.Fronts.{front_after, front_may_match, has_front, without_match}
 pub use Rattle.byte_automata.specs.PairLaws.{both_prune, both_tell, either_prunes, either_tells}

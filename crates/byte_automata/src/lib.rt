@@ -1,5 +1,5 @@
-//! Automata over bytes: each says of a key, byte after byte, whether it is wanted, and as soon as no key that goes on so can be. A walk over
-//! the keys of a dictionary leaves out whatever is below such a place.
+//! Automata over bytes: each says of a key, byte after byte, whether it is wanted, and where it says that it can't match any more no key that
+//! goes on so is. A walk over the keys of a dictionary leaves out whatever is below such a place.
 //!
 //! ```
 //! let near = Both::new(Prefix::new(b"n"), Within::one(b"net"));
@@ -25,7 +25,7 @@ pub use case::AnyCase;
 pub use characters::{Reading, WithinCharacters};
 pub use distance::Within;
 pub use front::Beginning;
-pub use laws::characters_are_read;
+pub use laws::{characters_are_read, only_utf8_is_read};
 pub use pairs::{Both, Either};
 pub use pattern::{MOST_PATTERN_BYTES, Pattern, PatternError};
 pub use prefix::Prefix;

@@ -24,6 +24,12 @@ pub record IsLongestHeld (t : Tree) (text suffix : List ℕ) : Type 0 where
   pub held : is_node t suffix ≡ true
   pub longest : (n : ℕ) → n ≤ length text → is_node t (last_of n text) ≡ true → n ≤ length suffix
 
+-- what is found in a piece from what was read before it on, and in the next piece from the suffix of all that on, is what is found in both as
+-- one piece: so any number of pieces join
+abbrev pub PiecesGoOn : Tree → List ℕ → ℕ → List ℕ → List ℕ → Type 0
+PiecesGoOn t read place piece next =
+    all_ending t read place (piece ++ next) ≡ all_ending t read place piece ++ all_ending t (held_suffix t (read ++ piece)) (place + length piece) next
+
 -- what is found in two pieces of a text, the second one from the suffix of the first on, is what is found in both together
 abbrev pub PiecesJoin : Tree → List ℕ → List ℕ → Type 0
 PiecesJoin t first second =

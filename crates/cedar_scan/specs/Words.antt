@@ -8,7 +8,7 @@ pub use Rattle.cedar_scan.specs.Falls.{AddsFall, AddsPopped, AreFalls, CanFall, 
 pub use Rattle.cedar_scan.specs.Keywords.{CantGoOn, IsKeywordAutomaton, IsKeywordCursor}
 pub use Rattle.cedar_scan.specs.Keywords.{keyword_code, keywords_left, KeywordsLeft}
 pub use Rattle.cedar_scan.specs.Keywords.{ScansOn, ScansOnOrEnds, tests_left}
-pub use Rattle.cedar_scan.specs.Laws.{AreByEnd, IsLongestHeld, PiecesJoin}
+pub use Rattle.cedar_scan.specs.Laws.{AreByEnd, IsLongestHeld, PiecesGoOn, PiecesJoin}
 pub use Rattle.cedar_scan.specs.Leftmost.{popped_at}
 pub use Rattle.cedar_scan.specs.Listed.{keys_from, ListsKey, no_key}
 pub use Rattle.cedar_scan.specs.Places.{ArePlacedAnew, ArePutAnew, IsPutAnew, placed_by, placed_node}

@@ -3,7 +3,7 @@
 ghost use Rattle.std.specs.Prelude.{◌↔◌, Contains, List, ℕ};
 ghost use Rattle.cedar_scan.specs.Words.{AreByEnd, FirstIsLongestLeft, held_suffix, IsLongestHeld};
 ghost use Rattle.cedar_scan.specs.Words.{IsPermutation, LongestAreKeywords, OccursIn, overlapping};
-ghost use Rattle.cedar_scan.specs.Words.{PiecesJoin, Occurrence, all_beginning, Tree};
+ghost use Rattle.cedar_scan.specs.Words.{PiecesGoOn, PiecesJoin, Occurrence, all_beginning, Tree};
 
 /// A scan stands for the longest suffix of what it has read that leads to a node.
 pub fn held_suffixes_are_longest()
@@ -27,7 +27,11 @@ pub fn overlapping_are_all_keys()
 /// What a stream finds in pieces is what is found in the whole text.
 pub fn pieces_join()
     //= What is found in two pieces of a text, the second one from the suffix of the first on, is what is found in both together.
-    ensures { (tree : Tree) (first : List ℕ) (second : List ℕ) → PiecesJoin tree first second }
+    ensures two { (tree : Tree) (first : List ℕ) (second : List ℕ) → PiecesJoin tree first second }
+
+    //= So it is behind whatever was read before: what is found in a piece, and in the next one from the suffix that a stream holds then
+    //  on, is what is found in both as one piece. So any number of pieces join.
+    ensures any { (tree : Tree) (read : List ℕ) (place : ℕ) (piece : List ℕ) (next : List ℕ) → PiecesGoOn tree read place piece next }
 {}
 
 /// The leftmost matches of the longest keys are the keywords of `leftmost_longest` of `cedar_words`, and the scanner finds those of either

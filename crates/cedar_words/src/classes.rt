@@ -62,8 +62,8 @@ pub trait CharacterClasses {
         ensures { result ≡ alike self.now first other };
 }
 
-/// Letters go with letters, digits with digits, and Han, Hiragana, Katakana and Hangul each with their own. Any other character stands by
-/// itself.
+/// Letters of Latin, Greek and Cyrillic go with such letters, digits with digits, and Han, Hiragana, Katakana and Hangul each with their own.
+/// Any other character stands by itself.
 #[derive(Clone, Copy)]
 pub struct Scripts {}
 

@@ -95,6 +95,7 @@ fn beside_run(later: &[u64], run: UnknownRun, best: Step) -> Step
 }
 
 /// The best of an unknown run and of the keys that a walk finds.
+#[inline(always)]
 fn best_of_walk<F: NextFront, M: CostModel>(
     walk: &mut F,
     model: &M,
@@ -114,7 +115,9 @@ fn best_of_walk<F: NextFront, M: CostModel>(
     }
 }
 
-/// The best first step from a position of a text on, if it is known what fewer bytes of its end cost.
+/// The best first step from a position of a text on, if it is known what fewer bytes of its end cost. A cut makes it at each position, and
+/// tokens make it once more where they are long. Without both attributes one of the two functions is a call at each position.
+#[inline(always)]
 fn best_step<T: Fronts, M: CostModel>(
     trie: &T,
     model: &M,

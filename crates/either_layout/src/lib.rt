@@ -1,6 +1,6 @@
 //! A dictionary of either layout, for callers that learn its layout only as they run: from a file, or from what their user asks for.
 //!
-//! An [`AnyCedar`] has the calls of the dictionary that it holds, with the same results and the same clauses. Each call looks once which
+//! An [`AnyCedar`] has most calls of the dictionary that it holds, with the same results and the same clauses. Each call looks once which
 //! layout it has, and never again while it runs. What has no call here, such as an iteration, is reached by a `match`, or by
 //! [`on_layout`], whose expression is written once for both layouts.
 //!

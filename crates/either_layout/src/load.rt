@@ -121,11 +121,10 @@ impl AnyCedar {
         ensures formed { IfOk result (λ a. IsWellFormed most_slots (table_in a)) }
         ensures lacks { IfErr result (LacksInEither memory_limit) }
 
-        //= A load of either layout by path has opened a file at just that path, among the files that it was given, and does with it, from its
-        //  first byte on, what `load_any` does with its bytes: it is a load of the layout that they name, as far as they are known, and what
-        //  is loaded is of that layout. Or there was no memory for the buffer, or the file's first 14 bytes couldn't be read, or the system
-        //  hasn't opened it. No contract of the system's files says which bytes these are. [by LoadsAnyFrom, LoadsAnyOpened, LoadsBy,
-        //  NamesLayout]
+        //= What a load of either layout by path returns comes from a file that it has opened at just that path, among the files that it was
+        //  given: from its first byte on it is what `load_any` makes of its bytes, as far as they are known, and of the layout that they
+        //  name. Or the load is refused, and no clause says that it had to be: nobody has the file then. No contract of the system's files
+        //  says which bytes these are. [by LoadsAnyFrom, LoadsAnyOpened, LoadsBy, NamesLayout]
         ensures loads { LoadsAnyFrom F memory_limit F.File.remaining path.now result }
         ensures unbounded { IfOk result (λ a. (inner_dictionary a).search_limit ≡ no_search_limit) }
     {

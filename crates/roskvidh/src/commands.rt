@@ -225,8 +225,9 @@ const CUT_TAKES: [Argument; 8] = [
 
 const CUT_NOTES: &str = "\
 Each line is cut by itself: at each position into the longest word that begins there, or else one character.
-With --unknown class or class=COST a run of letters, of digits or of one script that no word is costs so much as a whole, if it has
-24 characters or fewer.
+With --unknown class or class=COST a run that no word is costs so much as a whole, if it has 24 characters or fewer: of letters (Latin,
+Greek, Cyrillic), of digits, of Han, Hiragana, Katakana or Hangul. Where one of its characters is in no word, it takes the words beside
+that one too.
 
 Example:
   echo networks | roskvidh cut words.cedar -s '|'
