@@ -673,9 +673,9 @@ uint32_t cedar_replace_file(const char *path, const uint8_t *bytes, size_t lengt
  *
  * A store is locked as long as it is open (flock), against every program that opens it by this library, by the crates, or by ./roskvidh.
  * After a fork the child writes nothing to the file, and doesn't compact it. What would write returns CEDAR_STORE_LOCKED: a change that
- * doesn't wait, cedar_store_apply, cedar_store_compact, and any call that would put changes that wait on the disk. A change that only waits
- * returns CEDAR_OK, and never comes to the disk. The lock ends once the parent has closed the store, or has ended, and each such child has
- * closed it, started another program, or ended. */
+ * doesn't wait, cedar_store_apply, cedar_store_compact, and any call but cedar_store_close that would put changes that wait on the disk. A
+ * change that only waits returns CEDAR_OK, and never comes to the disk. The lock ends once the parent has closed the store, or has ended,
+ * and each such child has closed it, started another program, or ended. */
 
 /* A store. It is initialised with CEDAR_STORE_CLOSED, and only these calls change it. It may be moved. */
 typedef struct cedar_store {
@@ -715,8 +715,8 @@ uint32_t cedar_store_open_to_read(cedar_store *s, const char *path);
 enum {
     CEDAR_OPEN_REDUCED = 1,  /* with a dictionary of the reduced layout */
     CEDAR_OPEN_EXISTING = 2, /* a missing file isn't created: errno is ENOENT */
-    CEDAR_OPEN_NEW = 4,      /* the file is created: errno is EEXIST if there is one, also by a link, or if another program is faster to
-                              * write to it */
+    CEDAR_OPEN_NEW = 4,      /* the file is created: errno is EEXIST if there is one, also by a link, or if another program has written to
+                              * it before it is locked */
     CEDAR_OPEN_TO_READ = 8   /* as cedar_store_open_to_read */
 };
 
@@ -784,10 +784,10 @@ typedef struct cedar_change {
  * says, and a crash at any moment leaves a file with all of them or with none. It costs two syncs, and sorts the keys.
  *
  * After any error but CEDAR_STORE_DEVICE none is made, in the dictionary or in the file, though changes that waited may be on the disk by
- * then. After CEDAR_STORE_DEVICE the dictionary has all of them; or none, if the device failed at the changes that waited. *refused is the
- * index of the first change whose pair has a fault, and *position that of a byte 0 in its key; and if memory or slots run out at an update,
- * *refused is the index of that. Both may be null. Otherwise the errors are those of cedar_store_update; CEDAR_STORE_TOO_LONG says that all
- * changes together have too many bytes for a record. */
+ * then. After CEDAR_STORE_DEVICE the dictionary has all of them; or none, if the device failed at the changes that waited, or at a
+ * compaction behind these. *refused is the index of the first change whose pair has a fault, and *position that of a byte 0 in its key; and
+ * if memory or slots run out at an update, *refused is the index of that. Both may be null. Otherwise the errors are those of
+ * cedar_store_update; CEDAR_STORE_TOO_LONG says that all changes together have too many bytes for a record. */
 uint32_t cedar_store_apply(cedar_store *s, const cedar_change *changes, size_t count, size_t *refused, size_t *position);
 
 /* Sets how many changes go to the disk together from now on. With 1, the setting at first, each change is on the disk before it is
