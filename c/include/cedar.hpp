@@ -313,7 +313,8 @@ public:
 
     /// Returns the best of the entries whose keys begin with a text, at most `most` of them: by value, the highest first or the lowest, and
     /// those with the same value by the bytes of their keys. It goes over all entries with the text, or twice if what it returns has more
-    /// than 16 bytes of keys for each of `most`. It keeps no more than `most` of them, and one more while that takes another's place.
+    /// than 16 bytes of keys for each entry that may be returned: for each of `most`, or of size() if that is less. It keeps no more than
+    /// so many of them, and one more while that takes another's place.
     std::vector<owned_entry> best(std::string_view prefix, std::size_t most, by_value order = by_value::highest_first) const {
         std::vector<owned_entry> kept;
         if (!is_open()) return kept;
