@@ -673,9 +673,10 @@ uint32_t cedar_replace_file(const char *path, const uint8_t *bytes, size_t lengt
  *
  * A store is locked as long as it is open (flock), against every program that opens it by this library, by the crates, or by ./roskvidh.
  * After a fork the child writes nothing to the file, and doesn't compact it. What would write returns CEDAR_STORE_LOCKED: a change that
- * doesn't wait, cedar_store_apply, cedar_store_compact, and any call that would put changes that wait on the disk. A change that only waits
- * returns CEDAR_OK, and never comes to the disk. The lock ends once the parent has closed the store, or has ended, and each such child has
- * closed it, started another program, or ended. */
+ * doesn't wait, cedar_store_apply, cedar_store_compact, and any call that would put changes that wait on the disk. Those wait on, and so
+ * does the call's own change, if it makes one: the dictionary has it. A change that only waits returns CEDAR_OK, and never comes to the
+ * disk. The lock ends once the parent has closed the store, or has ended, and each such child has closed it, started another program, or
+ * ended. */
 
 /* A store. It is initialised with CEDAR_STORE_CLOSED, and only these calls change it. It may be moved. */
 typedef struct cedar_store {
