@@ -343,7 +343,7 @@ uint32_t disk_open(disk_file *file, const char *path, uint32_t how) {
         if (status != CEDAR_OK) return status;
     }
     file->process = getpid();
-    if ((how & CEDAR_OPEN_NEW) && !is_empty(file)) return CEDAR_STORE_DEVICE;
     remove_leftover(file);
+    if ((how & CEDAR_OPEN_NEW) && !is_empty(file)) return CEDAR_STORE_DEVICE;
     return sync_all(file->number) && sync_all(file->folder) ? CEDAR_OK : CEDAR_STORE_DEVICE;
 }

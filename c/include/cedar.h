@@ -673,9 +673,10 @@ uint32_t cedar_replace_file(const char *path, const uint8_t *bytes, size_t lengt
  *
  * A store is locked as long as it is open (flock), against every program that opens it by this library, by the crates, or by ./roskvidh.
  * After a fork the child writes nothing to the file, and doesn't compact it. What would write returns CEDAR_STORE_LOCKED: a change that
- * doesn't wait, cedar_store_apply, cedar_store_compact, and any call but cedar_store_close that would put changes that wait on the disk. A
- * change that only waits returns CEDAR_OK, and never comes to the disk. The lock ends once the parent has closed the store, or has ended,
- * and each such child has closed it, started another program, or ended. */
+ * doesn't wait, cedar_store_apply, cedar_store_compact, and any call but cedar_store_close that would put changes that wait on the disk.
+ * Those wait on, and so does the call's own change, if it makes one: the dictionary has it. A change that only waits returns CEDAR_OK, and
+ * never comes to the disk. The lock ends once the parent has closed the store, or has ended, and each such child has closed it, started
+ * another program, or ended. */
 
 /* A store. It is initialised with CEDAR_STORE_CLOSED, and only these calls change it. It may be moved. */
 typedef struct cedar_store {
@@ -784,9 +785,9 @@ typedef struct cedar_change {
  * says, and a crash at any moment leaves a file with all of them or with none. It costs two syncs, and sorts the keys.
  *
  * After any error but CEDAR_STORE_DEVICE none is made, in the dictionary or in the file, though changes that waited may be on the disk by
- * then. After CEDAR_STORE_DEVICE the dictionary has all of them; or none, if the device failed at the changes that waited, or at a
- * compaction behind these. *refused is the index of the first change whose pair has a fault, and *position that of a byte 0 in its key; and
- * if memory or slots run out at an update, *refused is the index of that. Both may be null. Otherwise the errors are those of
+ * then. After CEDAR_STORE_DEVICE the dictionary has all of them; or none, if the device failed at the changes that waited, or at the
+ * compaction that these led to. *refused is the index of the first change whose pair has a fault, and *position that of a byte 0 in its
+ * key; and if memory or slots run out at an update, *refused is the index of that. Both may be null. Otherwise the errors are those of
  * cedar_store_update; CEDAR_STORE_TOO_LONG says that all changes together have too many bytes for a record. */
 uint32_t cedar_store_apply(cedar_store *s, const cedar_change *changes, size_t count, size_t *refused, size_t *position);
 
@@ -824,8 +825,9 @@ uint32_t cedar_store_compact(cedar_store *s);
 
 /* Sets when changes compact the file by themselves: if it has more than factor times the bytes that it would have behind a compaction, and
  * `spare` bytes more. At first these are 2 and 65536. A factor of 1 counts as 2, and with 0 no change does it. A change does so last, once
- * it is on the disk. If that fails, it is no error of the change: cedar_store_last_compaction has it. Only if the store has failed then,
- * the change returns CEDAR_STORE_DEVICE. Returns CEDAR_OK or CEDAR_IS_CLOSED. */
+ * it is on the disk. Where changes wait, the call that puts them there does so, unless it is cedar_store_sync_every, cedar_store_close or
+ * an opening. If that fails, it is no error of the change: cedar_store_last_compaction has it. Only if the store has failed then, the
+ * change returns CEDAR_STORE_DEVICE. Returns CEDAR_OK or CEDAR_IS_CLOSED. */
 uint32_t cedar_store_compact_beyond(cedar_store *s, size_t factor, size_t spare);
 
 /* Returns the status of the last compaction since the store was opened, called or by itself. CEDAR_OK if there was none. */

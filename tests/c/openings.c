@@ -242,10 +242,11 @@ static int sync_inherited(void) {
     writes = 0;
     if (cedar_store_sync(&shared) != CEDAR_OK || cedar_store_last_compaction(&shared) != CEDAR_OK) return 1;
     if (cedar_store_compact(&shared) != CEDAR_STORE_LOCKED || update(&shared, "ten", 9) != CEDAR_STORE_LOCKED) return 2;
-    if (cedar_store_sync_every(&shared, 0) != CEDAR_OK || update(&shared, "ten", 9) != CEDAR_OK) return 3; /* it waits */
-    if (cedar_store_sync(&shared) != CEDAR_STORE_LOCKED || cedar_store_last_compaction(&shared) != CEDAR_OK) return 4;
+    if (cedar_store_sync_every(&shared, 2) != CEDAR_OK || update(&shared, "ten", 9) != CEDAR_OK) return 3; /* it waits */
+    if (update(&shared, "tens", 9) != CEDAR_STORE_LOCKED || at(&shared, "tens") != 9 || cedar_store_waiting(&shared) != 2) return 4;
+    if (cedar_store_sync(&shared) != CEDAR_STORE_LOCKED || cedar_store_last_compaction(&shared) != CEDAR_OK) return 5;
     cedar_store_close(&shared);
-    return writes == 0 ? 0 : 5;
+    return writes == 0 ? 0 : 6;
 }
 
 /* Where a file is to be made short, neither a reader nor a forked child does it. The parent's next change does. */

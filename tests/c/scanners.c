@@ -194,8 +194,8 @@ static void refusals(void) {
     cedar_free(&d);
 }
 
-/* One key a..ab, and with it the key a, in a text of a alone. A search that goes back takes the text times the key: some seconds of
- * processor. By the automaton it takes some milliseconds. */
+/* One key a..ab, and with it the key a, in a text of a alone. A search that goes back takes 3,200 million steps, which are some seconds of
+ * processor. By the automaton it takes a millisecond or two. */
 static void hostile(uint32_t search) {
     static uint8_t key[HOSTILE + 1], all[HOSTILE];
     static cedar_found found[HOSTILE];
@@ -209,7 +209,7 @@ static void hostile(uint32_t search) {
     CHECK(cedar_scanner_new(&d, search, &s) == CEDAR_OK && cedar_scanner_longest(&s) == HOSTILE + 1);
     clock_t began = clock();
     size_t next = 0, count = cedar_scanner_find(&s, all, HOSTILE, &next, found, HOSTILE);
-    CHECK(clock() - began < CLOCKS_PER_SEC / 4);
+    CHECK(clock() - began < CLOCKS_PER_SEC);
     CHECK(count == HOSTILE && next == HOSTILE);
     for (size_t i = 0; i < count; i++) CHECK(found[i].place == i && found[i].length == 1 && found[i].value == 0);
     cedar_scanner_free(&s);
