@@ -697,7 +697,8 @@ typedef struct cedar_store {
  * - CEDAR_STORE_DAMAGED if a record isn't whole, or has another sum, which no crash leaves. Nothing was written. cedar_store_damaged_at
  *   says where in the file it begins. Records of a file of version 1 have no sums (docs/STORE.md).
  * - CEDAR_STORE_DEVICE if a call on the file failed, or if the path has something other than a file (EINVAL): errno has the reason, and the
- *   file still has the same dictionary.
+ *   file still has the same dictionary. Once it is open again, compact it before anything else: after a sync that failed, the system may
+ *   show of the file what the disk hasn't got.
  *
  * If *s is open it is closed first, as cedar_store_close does. But if it has changes that wait and these can't be put on the disk, this is
  * what the call returns, with the statuses of cedar_store_sync, and it opens nothing. After any other error *s is closed. */
