@@ -1,4 +1,4 @@
--- The tokens that cuts of a text by a model may have, with what they cost.
+-- The tokens that cuts from each position of a text on may begin with by a model, with what they cost.
 use Rattle.std.specs.Prelude.{◌≡◌, ℕ, ◌+◌, ◌-◌, ◌<◌, ◌≤◌, nat_lt, if◌then◌else◌, ℤ, List, []}
 use Rattle.std.specs.Prelude.{◌∷◌, ◌++◌, length, drop, map, Option, Some, None}
 use Rattle.std.specs.Iterator.{YieldsFirst}
@@ -65,7 +65,7 @@ abbrev pub IsStop : List ℕ → Stop × List (ℤ × ℕ) → Type 0
 IsStop text at =
     (at.0.place ≤ length text) × AreWithin (length text - at.0.place) (keys_left at.0.key at.1) × (length text ≤ at.0.place → at.0.run ≡ None)
 
--- these bytes of a text, one or more, are a token that a cut may have, at this cost
+-- these bytes of a text, one or more, are a token that a cut from their position on may begin with, at this cost
 abbrev pub IsEdgeOf : Tree → (ℤ → ℕ) → (ℕ → UnknownRun) → List ℕ → Edge → Type 0
 IsEdgeOf tree key run text e =
     (0 < e.len) × (e.start + e.len ≤ length text) × IsPieceBy tree (run e.start) (drop e.start text) (e.start, e.len, e.value)

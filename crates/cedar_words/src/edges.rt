@@ -1,4 +1,4 @@
-//! All tokens that cuts of a text by a model may have.
+//! All tokens that cuts from each position of a text on may begin with, by a model.
 
 ghost use Rattle.std.specs.Prelude.{◌-◌, ◌<◌, ◌^◌, ◌≡◌, ◌≤◌, length, List, ⊤, ℕ, ℤ};
 ghost use Rattle.cedar_words.specs.Words.{edges_at, edges_from, GivesEdge, IsStop, item_count};
@@ -14,7 +14,7 @@ use std::alloc::{AllocError, Allocator};
 use std::iter::FusedIterator;
 use std::marker::Model;
 
-/// A token that a cut of a text may have: an edge of its lattice.
+/// A token that a cut from its position of a text on may begin with: an edge of the text's lattice.
 #[derive(Clone, Copy)]
 pub struct Edge {
     /// Where it begins.
@@ -37,8 +37,8 @@ struct Stop {
     run: Option<UnknownRun>,
 }
 
-/// All tokens that cuts of a text by a model may have, position after position: at each the keys, the shortest first, and then the unknown
-/// run, if a cut may have it there. It allocates nothing, and a clone goes on from the same position.
+/// All tokens that cuts from each position of a text on may begin with, by a model, position after position: at each the keys, the shortest
+/// first, and then the unknown run, if a cut may begin with it. It allocates nothing, and a clone goes on from the same position.
 ///
 /// A contract sees those that are left.
 #[derive(Drop)]
@@ -59,9 +59,9 @@ impl<'a, T: Fronts, M: CostModel> Model for Edges<'a, T, M> {
     ghost invariant = { λ it. IsStop it.text.now (it.stop, it.walk.rest) };
 }
 
-/// Lists all tokens that cuts of a text by a model may have, with what they cost: position after position, at each the keys, the shortest
-/// first, and then the unknown run. So a search of one's own over all cuts, such as a Viterbi with costs between neighbours, has its
-/// edges. It returns an iterator, which borrows the dictionary, the text and the model, and allocates nothing.
+/// Lists all tokens that cuts from each position of a text on may begin with, by a model, with what they cost: position after position, at
+/// each the keys, the shortest first, and then the unknown run. So a search of one's own over all cuts, such as a Viterbi with costs between
+/// neighbours, has its edges. It returns an iterator, which borrows the dictionary, the text and the model, and allocates nothing.
 ///
 /// ```
 /// cedar.build(&[("a", 0), ("ab", 1)])?;

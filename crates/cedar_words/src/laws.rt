@@ -121,10 +121,10 @@ pub fn model_cuts_cover()
     ensures { (tree : Tree) (run : ℕ → UnknownRun) (text : List ℕ) (tokens : List Token) → IsCutBy tree run text tokens → AreAdjacent tokens 0 (length text) }
 {}
 
-/// The lattice of a text has exactly the tokens that cuts of it may have.
+/// The lattice of a text has at each position exactly the tokens that a cut from there on may begin with.
 pub fn lattice_has_all_tokens()
-    //= A token is in the lattice of a text by a model exactly if a cut may have it: its bytes, one or more, are a key with its value, or the
-    //  unknown run at its position, which stands beside keys only if the model says so. It has its cost.
+    //= A token is in the lattice of a text by a model exactly if a cut from its position on may begin with it: its bytes, one or more, are a
+    //  key with its value, or the unknown run at its position, which stands beside keys only if the model says so. It has its cost.
     ensures { (tree : Tree) (key : ℤ → ℕ) (run : ℕ → UnknownRun) (text : List ℕ) (edge : Edge) → Contains (edges_from tree key run 0 text) edge ↔ IsEdgeOf tree key run text edge }
 {}
 
