@@ -16,8 +16,9 @@ pub fn keep<F: Files>(
     files: &F,
     path: &str,
 ) -> Result<Option<PathCalls<F>>, CedarPersistenceError>
-    //= Whatever crash comes, from now on the path leads to a file of exactly the dictionary's bytes.
-    ensures { IfOk result (λ done. IfSome done (λ calls. IsThere (table_bytes 1 words.now.table) (path_calls calls))) }
+    //= A new file of exactly the dictionary's bytes was given its place at the path, and from now on the path leads to these bytes, whatever
+    //  crash comes. [by IsThere]
+    ensures { IfOk result (λ done. IfSome done (λ calls. IsThere path.now (table_bytes 1 words.now.table) (path_calls calls))) }
 {
     match words.save_to_path_noted(files, path) {
         Ok(Saved::Placed(calls)) => {

@@ -9,4 +9,7 @@ returns-in-Ok-Placed g c =
     let bytes = table_bytes 1 c.args.words.now.table in
     let calls = c.in-Ok-Placed.calls in
     let placed : IsSavedAt path bytes (Placed calls) = subst (λ saved. IsSavedAt path bytes saved) c.in-Ok-Placed.field-0-is c.in-Ok-Placed.ensures.saved in
-    λ before. (c.whole_files_are_safe.ensures before path bytes (path_calls calls)).placed placed
+    record {
+      placed = placed;
+      stays = λ before. (c.whole_files_are_safe.ensures before path bytes (path_calls calls)).placed placed;
+    }
