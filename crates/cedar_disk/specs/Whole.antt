@@ -9,6 +9,11 @@ use Rattle.cedar_disk.specs.Calls.{Call, folder_sync_call, MayLeave, seen_after,
 abbrev pub Content : Type 0
 Content = Option (List ℕ)
 
+-- whether each of these calls has succeeded: none has failed, and no write has found no room
+abbrev pub all_succeeded : List Call → Bool
+all_succeeded [] = true
+all_succeeded (call ∷ earlier) = call.2 && all_succeeded earlier
+
 -- whether the file was to be given the name
 abbrev pub asked_after : List Call → Bool
 asked_after [] = false

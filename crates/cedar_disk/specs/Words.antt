@@ -16,7 +16,7 @@ pub use Rattle.cedar_disk.specs.Runs.{AreWritten, AreWrittenInPart, HasCauseIn, 
 pub use Rattle.cedar_disk.specs.Runs.{IsUnplaced, Spoils, TimePasses, TookSome, write_by_outcome}
 pub use Rattle.cedar_disk.specs.Sending.{address, IsNoFile, IsSentTo, told_after}
 pub use Rattle.cedar_disk.specs.Whole.{IsPlaced, IsWholeBeside, IsUnplacedAt, PathLeaves}
-pub use Rattle.cedar_disk.specs.Whole.{HasJustTaken, WholeFilesAreSafe, asked_after}
+pub use Rattle.cedar_disk.specs.Whole.{HasJustTaken, WholeFilesAreSafe, all_succeeded, asked_after}
 pub use Rattle.cedar_disk.specs.declared.system.OpenError.TheVariants.{Memory}
 pub use Rattle.cedar_journal.specs.Device.{Cut, Follows, LeavesOnly, Only, Torn}
 pub use Rattle.std.specs.Borrow.{ftrue}

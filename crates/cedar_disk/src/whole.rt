@@ -2,9 +2,9 @@
 
 ghost use Rattle.std.specs.Prelude.{◌≡◌, ◌∷◌, [], false, IfErr, IfOk, IsTrue};
 ghost use Rattle.std.specs.Prelude.{length, OnOk, Some, true};
-ghost use Rattle.cedar_disk.specs.Words.{asked_after, Keeps, LiesBeside, LiesIn, is_usable_after};
-ghost use Rattle.cedar_disk.specs.Words.{IsPlaced, IsWholeBeside, IsUnplacedAt, open_call};
-ghost use Rattle.cedar_disk.specs.Words.{opened_new, path_of};
+ghost use Rattle.cedar_disk.specs.Words.{all_succeeded, asked_after, Keeps, LiesBeside, LiesIn};
+ghost use Rattle.cedar_disk.specs.Words.{is_usable_after, IsPlaced, IsWholeBeside, IsUnplacedAt};
+ghost use Rattle.cedar_disk.specs.Words.{open_call, opened_new, path_of};
 ghost use Rattle.cedar_disk.specs.Words.{seen_after, WriteAppends, WritesAtMost};
 ghost use Rattle.cedar_disk.specs.NotedFiles.{is_beside, made_as, noted_calls};
 ghost use Rattle.cedar_disk.specs.OpenedFiles.{folder_calls};
@@ -27,7 +27,8 @@ const NEW_MODE: u32 = 0o666;
 
 /// A file that is written beside the one at a path, whose place it is to take. Either `put_in_place` or `give_up` ends it.
 ///
-/// It is written to as any writer. Once a write has failed, each later one fails, and so does `put_in_place`.
+/// It is written to as any writer. Once a write has failed, each later one fails, and so does `put_in_place`; but one that a signal came
+/// before is made again.
 #[derive(Drop)]
 pub struct NewFile<'a, F: Files> {
     files: &'a F,
@@ -40,6 +41,7 @@ pub struct NewFile<'a, F: Files> {
     has_failed: bool,
     ghost at_end: { len ≡ length (seen_after (noted_calls file)) },
     ghost sound: { has_failed ≡ false → IsTrue (is_usable_after (noted_calls file)) },
+    ghost faultless: { has_failed ≡ false → all_succeeded (noted_calls file) ≡ true },
     ghost unasked: { asked_after (noted_calls file) ≡ false },
     ghost beside: { is_beside file ≡ true },
     ghost named: { LiesBeside path.now name.bytes },
@@ -101,6 +103,8 @@ impl<'a, F: Files> NewFile<'a, F> {
         //= Where that fails, nothing was done at the path; or the file was whole and on the disk before a rename that failed, or before a sync
         //  of the folder that did.
         ensures unplaced { IfErr result (λ failed. IsUnplacedAt (new_path self.entry) (new_bytes self.entry) (path_calls failed.calls)) }
+        //= A new file gets its place only if none of the calls on it had failed, and none of its writes had found no room.
+        ensures faultless { OnOk result (all_succeeded (new_calls self.entry) ≡ true) }
     {
         if let Err(error) = self.make_ready() {
             return Err(self.remove_after(error));
@@ -123,6 +127,7 @@ impl<'a, F: Files> NewFile<'a, F> {
     /// Gives it the old file's owner and permissions, and waits until the disk has it.
     fn make_ready(&mut self) -> io::Result<()>
         ensures ready { OnOk result (IsWholeBeside (new_bytes self.old) (new_calls self.new)) }
+        ensures faultless { OnOk result (all_succeeded (new_calls self.old) ≡ true) }
         ensures path { new_path self.new ≡ new_path self.old }
     {
         if self.has_failed {
@@ -183,7 +188,7 @@ impl<'a, F: Files> NewFile<'a, F> {
 }
 
 impl<F: Files> Write for NewFile<'_, F> {
-    ghost use Rattle.cedar_disk.specs.NewFiles.{new_bytes, new_path};
+    ghost use Rattle.cedar_disk.specs.NewFiles.{new_bytes, new_calls, new_path};
 
     //= What was written to a new file is known: exactly the bytes of the writes that succeeded.
     ghost contents = { λ new. Some (new_bytes new) };
@@ -192,12 +197,15 @@ impl<F: Files> Write for NewFile<'_, F> {
         //= A write appends as many of its bytes as it returns, at most all of them, and none if it fails; the path stays. [with bound, path]
         ensures bytes { WriteAppends (Some (new_bytes self.old)) (Some (new_bytes self.new)) result buf.now }
         ensures bound { WritesAtMost result buf.now }
+        //= A write to a new file succeeds only if no call on the file has failed before, and no write has found no room.
+        ensures faultless { OnOk result (all_succeeded (new_calls self.old) ≡ true) }
         ensures path { new_path self.new ≡ new_path self.old }
     {
         if self.has_failed {
             return Err(ErrorKind::Other.into());
         }
         if buf.len() > usize::MAX - self.len {
+            self.has_failed = true;
             return Err(ErrorKind::FileTooLarge.into());
         }
         if buf.is_empty() {
