@@ -2,7 +2,8 @@
 
 ghost use Rattle.std.specs.Prelude.{◌+◌, ◌≡◌, ◌≤◌, IfErr, IfOk, length, vec_capacity, vec_len};
 ghost use Rattle.cedar_runs.specs.Words.{after_call, after_erase, after_put, all_changed};
-ghost use Rattle.cedar_runs.specs.Words.{BeginsSession, changes_told, IsReadyStore, IsStoreStep};
+ghost use Rattle.cedar_runs.specs.Words.{BeginsSession, changes_told, IsOpenCause, IsReadyStore};
+ghost use Rattle.cedar_runs.specs.Words.{IsStoreStep};
 ghost use Rattle.cedar_runs.specs.Words.{KeepsState, MakesStoreCalls, Only, outcome_of};
 ghost use Rattle.cedar_runs.specs.Words.{outcome_of_compaction, outcome_of_erasure, point_of};
 
@@ -26,6 +27,10 @@ pub fn begin_session<T: Made<A>, A: Allocator + Copy, D: Device>(
     ensures begins { IfOk result (λ store. BeginsSession D.seen D.moment D.left_since D.may_leave device (point_of T.state store)) }
     ensures ready { IfOk result (λ store. IsReadyStore D.seen D.may_leave T.state store) }
     ensures refused { IfErr result (λ e. KeepsState D.seen D.moment D.left_since device e.1) }
+
+    //= No session begins only for a cause for which a store isn't opened, and the error tells which: the file is of another kind, a record
+    //  is damaged or no change, memory or slots are wanting, or the device has failed or has no room. [by IsOpenCause]
+    ensures cause { IfErr result (λ e. IsOpenCause D.seen D.faults D.full device e.1 e.0) }
 {
     Store::open(alloc, device)
 }

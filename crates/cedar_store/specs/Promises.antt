@@ -12,7 +12,7 @@ use Rattle.cedar_store.specs.Changes.{Change}
 use Rattle.cedar_store.specs.Compactions.{LeavesFile}
 use Rattle.cedar_store.specs.declared.compaction.CompactError.{CompactError}
 use Rattle.cedar_store.specs.Files.{AddsRecord, IsEither, StandsFor, record_count, state_of}
-use Rattle.cedar_store.specs.Shortening.{IsShortened}
+use Rattle.cedar_store.specs.Shortening.{end_behind, IsShortenedIfDue}
 use Rattle.cedar_store.specs.Store.{IsReady}
 use Rattle.cedar_store.specs.declared.error.DurableError.{DurableError}
 use Rattle.cedar_store.specs.declared.store.Store.{Store}
@@ -64,9 +64,11 @@ CrashLeavesRecord seen moment left_since payload old new =
 abbrev pub AddsPayload : {T A D : Type 0} → (D → List ℕ) → List ℕ → Store T A D → Store T A D → Type 0
 AddsPayload seen payload old new = file_payloads (seen new.journal.device) ≡ with_payload payload (file_payloads (seen old.journal.device))
 
--- the file has one record more, of these changes (`AddsRecord`), or it was made short (`IsShortened`)
-abbrev pub IsRecordedIn : {T A D : Type 0} → (D → List ℕ) → (T → State) → Store T A D → Store T A D → List Change → Type 0
-IsRecordedIn seen state old new changes = AddsRecord changes (seen old.journal.device) (seen new.journal.device) ⊎ IsShortened seen state old new
+-- the file has one record more, of these changes (`AddsRecord`), whose payload has n bytes; or it was made short, if
+-- its length was to be looked at then (`IsShortenedIfDue`)
+abbrev pub IsRecordedIn : {T A D : Type 0} → (D → List ℕ) → (T → State) → ℕ → Store T A D → Store T A D → List Change → Type 0
+IsRecordedIn seen state n old new changes =
+    AddsRecord changes (seen old.journal.device) (seen new.journal.device) ⊎ IsShortenedIfDue seen state (end_behind old n) old new
 
 -- what a compaction leaves if the device kept the file: bytes and store are as they were, and so is what a crash may
 -- leave

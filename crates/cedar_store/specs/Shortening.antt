@@ -1,5 +1,5 @@
 -- What a change does about the length of its file, by the rule of its store.
-use Rattle.std.specs.Prelude.{◌≡◌, ◌⊎◌, ℕ, ◌+◌, false, true, List, length, Ok, Err, Some}
+use Rattle.std.specs.Prelude.{◌≡◌, ◌⊎◌, ℕ, ◌+◌, Bool, false, true, List, length, Ok, Err, Some}
 use Rattle.cedar_journal.specs.Formats.{overhead}
 use Rattle.cedarwood.specs.Queries.{walk}
 use Rattle.cedarwood.specs.State.{State}
@@ -16,9 +16,14 @@ use Rattle.cedar_store.specs.Files.{record_count}
 abbrev pub IsUnlooked : {T A D : Type 0} → Store T A D → Store T A D → Type 0
 IsUnlooked old new = (new.base ≡ old.base) × (new.last_compaction ≡ old.last_compaction)
 
--- the file's length wasn't looked at, nor had it to be: the file isn't too long for what it had at the last look
-abbrev pub IsNotDue : {T A D : Type 0} → Store T A D → Store T A D → Type 0
-IsNotDue old new = IsUnlooked old new × (is_beyond old.compaction old.base new.journal.end ≡ false)
+-- whether a change is to look at the file's length, after which the records end there: the file is too long for what it
+-- had at the last look
+abbrev pub is_due : {T A D : Type 0} → Store T A D → ℕ → Bool
+is_due store end = is_beyond store.compaction store.base end
+
+-- the file's length wasn't looked at, nor had it to be (`is_due`): the records end where the change's record does
+abbrev pub IsNotDue : {T A D : Type 0} → ℕ → Store T A D → Store T A D → Type 0
+IsNotDue end old new = IsUnlooked old new × (new.journal.end ≡ end) × (is_due old end ≡ false)
 
 -- the file isn't too long for its entries
 abbrev pub IsShortEnough : {T A D : Type 0} → (T → State) → Store T A D → Store T A D → Type 0
@@ -31,6 +36,10 @@ abbrev pub IsShortened : {T A D : Type 0} → (D → List ℕ) → (T → State)
 IsShortened seen state old new =
     (old.compaction ≡ Never → ⊥) × (new.last_compaction ≡ Some (Ok tt)) × (length (seen new.journal.device) ≡ compacted_length (walk (state new.words).tree))
     × (record_count (seen new.journal.device) ≡ Some (length (walk (state new.words).tree)))
+
+-- the file was made short (`IsShortened`) by a change that was to look at its length (`is_due`)
+abbrev pub IsShortenedIfDue : {T A D : Type 0} → (D → List ℕ) → (T → State) → ℕ → Store T A D → Store T A D → Type 0
+IsShortenedIfDue seen state end old new = (is_due old end ≡ true) × IsShortened seen state old new
 
 -- why a file is the old one: no new one was made in memory, or the device kept the old one
 abbrev pub KeptCause : ℕ → ℕ → CompactError → Type 0
@@ -52,10 +61,9 @@ abbrev pub IsSeenTo : {T A D : Type 0} → (D → List ℕ) → (D → ℕ) → 
 IsSeenTo seen faults state end old new =
     (new.base ≡ new.journal.end) × (IsShortEnough state old new ⊎ (IsTooLong state end old new × IsShortened seen state old new) ⊎ IsKeptLong faults old new)
 
--- the file's length was looked at (`IsSeenTo`): where its records ended, it was too long for what it had at the last
--- look
+-- the file's length was looked at (`IsSeenTo`), and had to be (`is_due`)
 abbrev pub IsLookedAt : {T A D : Type 0} → (D → List ℕ) → (D → ℕ) → (T → State) → ℕ → Store T A D → Store T A D → Type 0
-IsLookedAt seen faults state end old new = (is_beyond old.compaction old.base end ≡ true) × IsSeenTo seen faults state end old new
+IsLookedAt seen faults state end old new = (is_due old end ≡ true) × IsSeenTo seen faults state end old new
 
 -- where the records end once one more is behind them, whose payload has n bytes
 abbrev pub end_behind : {T A D : Type 0} → Store T A D → ℕ → ℕ
@@ -64,7 +72,7 @@ end_behind store n = store.journal.end + (overhead store.journal.format + n)
 -- what a change has done about the length of its file, whose records ended there once it was recorded: it wasn't due
 -- to be looked at (`IsNotDue`), or it was looked at (`IsLookedAt`)
 abbrev pub IsLookedAfter : {T A D : Type 0} → (D → List ℕ) → (D → ℕ) → (T → State) → ℕ → Store T A D → Store T A D → Type 0
-IsLookedAfter seen faults state end old new = IsNotDue old new ⊎ IsLookedAt seen faults state end old new
+IsLookedAfter seen faults state end old new = IsNotDue end old new ⊎ IsLookedAt seen faults state end old new
 
 -- the same of a change whose record has a payload of n bytes, and is the last one of its file
 abbrev pub IsLookedAfterRecord : {T A D : Type 0} → (D → List ℕ) → (D → ℕ) → (T → State) → ℕ → Store T A D → Store T A D → Type 0

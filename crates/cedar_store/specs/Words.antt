@@ -31,9 +31,9 @@ pub use Rattle.cedar_store.specs.Promises.{IsPutCause, IsReadyStore, IsRecordedI
 pub use Rattle.cedar_store.specs.Promises.{KeepsFile, LeavesChange, LeavesStore, LeavesUncompacted}
 pub use Rattle.cedar_store.specs.Promises.{LeavesUnwritten}
 pub use Rattle.cedar_store.specs.Puts.{IsPut}
-pub use Rattle.cedar_store.specs.Shortening.{end_behind, IsFailureTold, IsLookedAfter}
+pub use Rattle.cedar_store.specs.Shortening.{end_behind, is_due, IsFailureTold, IsLookedAfter}
 pub use Rattle.cedar_store.specs.Shortening.{IsLookedAfterError, IsLookedAfterRecord, IsSeenTo}
-pub use Rattle.cedar_store.specs.Shortening.{IsShortened, IsUnlooked}
+pub use Rattle.cedar_store.specs.Shortening.{IsShortened, IsShortenedIfDue, IsUnlooked}
 pub use Rattle.cedar_store.specs.Shown.{compact_error_text, durable_error_text}
 pub use Rattle.cedar_store.specs.Store.{IsConsistent, IsReady}
 pub use Rattle.cedar_store.specs.Told.{change_told, changes_told, file_error}

@@ -5,11 +5,13 @@ ghost use Rattle.std.specs.Prelude.{length, None, OnErr, OnOk, Some, true};
 ghost use Rattle.cedar_store.specs.Words.{AddsPayload, after_payloads, all_erased_late, all_stored};
 ghost use Rattle.cedar_store.specs.Words.{AllByRecursion, changes_told, CompactCause};
 ghost use Rattle.cedar_store.specs.Words.{compacted_length, CrashLeavesOldOr, CrashLeavesState};
-ghost use Rattle.cedar_store.specs.Words.{CrashLeavesStateOrOld, FailsByDevice, fault, IfKept};
-ghost use Rattle.cedar_store.specs.Words.{image_bytes, is_beyond, IsBeforeReplacing, IsConsistent};
-ghost use Rattle.cedar_store.specs.Words.{IsFailureTold, IsLookedAfter, IsLookedAfterError};
+ghost use Rattle.cedar_store.specs.Words.{CrashLeavesStateOrOld, end_behind, FailsByDevice};
+ghost use Rattle.cedar_store.specs.Words.{fault, IfKept, image_bytes, is_beyond, is_due};
+ghost use Rattle.cedar_store.specs.Words.{IsBeforeReplacing, IsConsistent, IsFailureTold};
+ghost use Rattle.cedar_store.specs.Words.{IsLookedAfter, IsLookedAfterError};
 ghost use Rattle.cedar_store.specs.Words.{IsLookedAfterRecord, IsPutBehind, IsReadyStore, IsSeenTo};
-ghost use Rattle.cedar_store.specs.Words.{IsSettled, IsShortened, KeepsCount, KeepsFile};
+ghost use Rattle.cedar_store.specs.Words.{IsSettled, IsShortened, IsShortenedIfDue, KeepsCount};
+ghost use Rattle.cedar_store.specs.Words.{KeepsFile};
 ghost use Rattle.cedar_store.specs.Words.{LeavesChange, LeavesUncompacted, LeavesUnwritten};
 ghost use Rattle.cedar_store.specs.Words.{new_state, payload_of, payloads_of, record_count};
 ghost use Rattle.cedar_store.specs.Words.{state_with, walk};
@@ -134,7 +136,8 @@ impl<T: Words, A: Allocator + Copy, D: ReplaceDevice> Store<T, A, D> {
         ensures done { OnOk result (self.new.failed ≡ false) }
         ensures made { OnOk result (T.state self.new.words ≡ all_erased_late (T.state self.old.words) (changes_told changes.now)) }
         ensures due { OnOk result (is_beyond self.new.compaction self.new.base self.new.journal.end ≡ false) }
-        ensures recorded { OnOk result (AddsPayload D.seen (payload_of frame.now) self.old self.new ⊎ IsShortened D.seen T.state self.old self.new) }
+        ensures recorded { OnOk result (AddsPayload D.seen (payload_of frame.now) self.old self.new
+            ⊎ IsShortenedIfDue D.seen T.state (end_behind self.old (length (payload_of frame.now))) self.old self.new) }
         ensures looked_after { OnOk result (IsLookedAfterRecord D.seen D.faults T.state (length (payload_of frame.now)) self.old self.new) }
         ensures told { IfErr result (IsLookedAfterError D.faults D.is_lost self.old self.new) }
         ensures err { IfErr result (LeavesUnwritten D.faults D.full self.old self.new) }
@@ -169,7 +172,9 @@ impl<T: Words, A: Allocator + Copy, D: ReplaceDevice> Store<T, A, D> {
         ensures ready { IsReadyStore D.seen D.may_leave T.state self.new }
         ensures done { OnOk result (self.new.failed ≡ false) }
         ensures due { OnOk result (is_beyond self.new.compaction self.new.base self.new.journal.end ≡ false) }
-        ensures recorded { OnOk result ((D.seen self.new.journal.device ≡ D.seen self.old.journal.device) ⊎ IsShortened D.seen T.state self.old self.new) }
+        ensures untouched { is_due self.old self.old.journal.end ≡ false → self.new ≡ self.old }
+        ensures recorded { OnOk result ((D.seen self.new.journal.device ≡ D.seen self.old.journal.device)
+            ⊎ IsShortenedIfDue D.seen T.state self.old.journal.end self.old self.new) }
         ensures looked_after { OnOk result (IsLookedAfter D.seen D.faults T.state self.old.journal.end self.old self.new) }
         ensures told { OnErr result (IsFailureTold D.is_lost self.new) }
         ensures err { IfErr result (FailsByDevice D.faults self.old self.new) }

@@ -277,16 +277,17 @@ impl<T: Words, A: Allocator + Copy, D: ReplaceDevice> Store<T, A, D> {
         ensures failed { self.old.failed ≡ true → result ≡ Err DurableError.Failed }
         ensures untouched { self.old.failed ≡ true → self.new ≡ self.old }
 
-        //= A change leaves the rule as it was. It adds one record to those of the file, and leaves them, unless the rule is another one
-        //  than `Never`: then the file may have been made short instead, which is reported. [with recorded; also insert, update_bytes,
-        //  update]
+        //= A change leaves the rule as it was. It adds one record to those of the file, and leaves them, unless by the rule the file is
+        //  too long then for what it had at the last look: it may have been made short instead, which is reported. By `Never` no file is
+        //  too long. [with recorded; also insert, update_bytes, update]
         ensures rule { self.new.compaction ≡ self.old.compaction }
-        ensures recorded { OnOk result (IsRecordedIn D.seen T.state self.old self.new (put_at key.now value ∷ [])) }
+        ensures recorded { OnOk result (IsRecordedIn D.seen T.state (length key.now + 5) self.old self.new (put_at key.now value ∷ [])) }
 
         //= An acknowledged change looks after the length of its file, by the rule. If the file isn't too long for what it had at the last
-        //  look, nothing is done. Otherwise it is looked at: it isn't too long for its entries; or it was, and was made short; or it was
-        //  kept as it was, for lack of memory, for a record that would be too long, or by the device; then `last_compaction` has the
-        //  reason. [by IsLookedAfter; also insert, update_bytes, update, erase_bytes, erase, apply_batch]
+        //  look, its records end with the change's, and no look and no compaction is reported. Otherwise it is looked at: it isn't too long
+        //  for its entries; or it was, and was made short; or it was kept as it was, for lack of memory, for a record that would be too
+        //  long, or by the device; then `last_compaction` has the reason. [by IsLookedAfter; also insert, update_bytes, update,
+        //  erase_bytes, erase, apply_batch]
         ensures looked_after { OnOk result (IsLookedAfterRecord D.seen D.faults T.state (length key.now + 5) self.old self.new) }
 
         //= A change that fails has looked at nothing and reports no compaction, unless it fails by the device: then it may report one after
@@ -346,7 +347,7 @@ impl<T: Words, A: Allocator + Copy, D: ReplaceDevice> Store<T, A, D> {
         ensures untouched { self.old.failed ≡ true → self.new ≡ self.old }
         ensures rule { self.new.compaction ≡ self.old.compaction }
         ensures counted { KeepsCount D.seen self.old self.new }
-        ensures recorded { OnOk result (IsRecordedIn D.seen T.state self.old self.new (put_at key.now value ∷ [])) }
+        ensures recorded { OnOk result (IsRecordedIn D.seen T.state (length key.now + 5) self.old self.new (put_at key.now value ∷ [])) }
         ensures looked_after { OnOk result (IsLookedAfterRecord D.seen D.faults T.state (length key.now + 5) self.old self.new) }
         ensures told { IfErr result (IsLookedAfterError D.faults D.is_lost self.old self.new) }
         ensures faulty { self.old.failed ≡ false → IfSome (fault key.now value) (λ e. result ≡ Err (DurableError.Refused e)) }
@@ -369,7 +370,7 @@ impl<T: Words, A: Allocator + Copy, D: ReplaceDevice> Store<T, A, D> {
         ensures untouched { self.old.failed ≡ true → self.new ≡ self.old }
         ensures rule { self.new.compaction ≡ self.old.compaction }
         ensures counted { KeepsCount D.seen self.old self.new }
-        ensures recorded { OnOk result (IsRecordedIn D.seen T.state self.old self.new (put_at key.now value ∷ [])) }
+        ensures recorded { OnOk result (IsRecordedIn D.seen T.state (length key.now + 5) self.old self.new (put_at key.now value ∷ [])) }
         ensures looked_after { OnOk result (IsLookedAfterRecord D.seen D.faults T.state (length key.now + 5) self.old self.new) }
         ensures told { IfErr result (IsLookedAfterError D.faults D.is_lost self.old self.new) }
         ensures faulty { self.old.failed ≡ false → IfSome (fault key.now value) (λ e. result ≡ Err (DurableError.Refused e)) }
@@ -395,7 +396,7 @@ impl<T: Words, A: Allocator + Copy, D: ReplaceDevice> Store<T, A, D> {
         ensures untouched { self.old.failed ≡ true → self.new ≡ self.old }
         ensures rule { self.new.compaction ≡ self.old.compaction }
         ensures counted { KeepsCount D.seen self.old self.new }
-        ensures recorded { OnOk result (IsRecordedIn D.seen T.state self.old self.new (put_at key.now value ∷ [])) }
+        ensures recorded { OnOk result (IsRecordedIn D.seen T.state (length key.now + 5) self.old self.new (put_at key.now value ∷ [])) }
         ensures looked_after { OnOk result (IsLookedAfterRecord D.seen D.faults T.state (length key.now + 5) self.old self.new) }
         ensures told { IfErr result (IsLookedAfterError D.faults D.is_lost self.old self.new) }
         ensures faulty { self.old.failed ≡ false → IfSome (fault key.now value) (λ e. result ≡ Err (DurableError.Refused e)) }
@@ -432,7 +433,7 @@ impl<T: Words, A: Allocator + Copy, D: ReplaceDevice> Store<T, A, D> {
         //= An erasure leaves the rule as it was, and the file as a change does. [with recorded; also erase]
         ensures rule { self.new.compaction ≡ self.old.compaction }
         ensures counted { KeepsCount D.seen self.old self.new }
-        ensures recorded { IfOk result (λ held. held ≡ true → IsRecordedIn D.seen T.state self.old self.new (erase_at key.now ∷ [])) }
+        ensures recorded { IfOk result (λ held. held ≡ true → IsRecordedIn D.seen T.state (length key.now + 1) self.old self.new (erase_at key.now ∷ [])) }
         ensures looked_after { IfOk result (λ held. held ≡ true → IsLookedAfterRecord D.seen D.faults T.state (length key.now + 1) self.old self.new) }
         ensures told { IfErr result (IsLookedAfterError D.faults D.is_lost self.old self.new) }
 
@@ -471,7 +472,7 @@ impl<T: Words, A: Allocator + Copy, D: ReplaceDevice> Store<T, A, D> {
         ensures untouched { self.old.failed ≡ true → self.new ≡ self.old }
         ensures rule { self.new.compaction ≡ self.old.compaction }
         ensures counted { KeepsCount D.seen self.old self.new }
-        ensures recorded { IfOk result (λ held. held ≡ true → IsRecordedIn D.seen T.state self.old self.new (erase_at key.now ∷ [])) }
+        ensures recorded { IfOk result (λ held. held ≡ true → IsRecordedIn D.seen T.state (length key.now + 1) self.old self.new (erase_at key.now ∷ [])) }
         ensures looked_after { IfOk result (λ held. held ≡ true → IsLookedAfterRecord D.seen D.faults T.state (length key.now + 1) self.old self.new) }
         ensures told { IfErr result (IsLookedAfterError D.faults D.is_lost self.old self.new) }
         ensures cause { IfErr result (IsEraseCause D.faults D.full self.old self.new (length key.now + 1)) }
@@ -510,7 +511,7 @@ impl<T: Words, A: Allocator + Copy, D: ReplaceDevice> Store<T, A, D> {
         //= A batch leaves the rule as it was, and the file as a change does. [with recorded]
         ensures rule { self.new.compaction ≡ self.old.compaction }
         ensures counted { KeepsCount D.seen self.old self.new }
-        ensures recorded { OnOk result ((changes.now ≡ [] → ⊥) → IsRecordedIn D.seen T.state self.old self.new (changes_told changes.now)) }
+        ensures recorded { OnOk result ((changes.now ≡ [] → ⊥) → IsRecordedIn D.seen T.state (batch_length (changes_told changes.now)) self.old self.new (changes_told changes.now)) }
         ensures looked_after { OnOk result ((changes.now ≡ [] → ⊥) → IsLookedAfterRecord D.seen D.faults T.state (batch_length (changes_told changes.now)) self.old self.new) }
         ensures told { IfErr result (IsLookedAfterError D.faults D.is_lost self.old self.new) }
 

@@ -9,10 +9,10 @@ use Rattle.cedar_store.specs.Changes.{after_payloads}
 use Rattle.cedar_store.specs.declared.error.DurableError.TheVariants as error
 use Rattle.cedar_store.specs.Files.{state_of, IsEither, StandsFor}
 use Rattle.cedar_store.specs.Promises.{DeviceFails, DeviceIsFull}
-use Rattle.cedar_store.specs.Shortening.{IsLookedAfter}
+use Rattle.cedar_store.specs.Shortening.{IsLookedAfter, IsShortenedIfDue}
 use Rattle.cedar_store.specs.Told.{changes_told}
 use Rattle.cedar_store.proofs.Compacted.{change_of_one, on_err, on_err_too, state_more, still_more}
-use Rattle.cedar_store.proofs.Shortened.{looked_since}
+use Rattle.cedar_store.proofs.Shortened.{looked_since, shortened_since}
 use Rattle.cedar_store.proofs.Unwritten.{leaves_unwritten, of_device_since, unwritten_by_device}
 use Rattle.cedar_store.proofs.States.{either}
 use Rattle.std.proofs.lemmas.Result.{on_ok_weaker}
@@ -89,11 +89,18 @@ returns-in-Ok-clause-any_moment g c = λ s is.
 
 pub returns-in-Ok-clause-recorded : goal.returns-in-Ok-clause-recorded
 returns-in-Ok-clause-recorded g c =
-    let seen = g.D.Device.seen in
+    let d = g.D.Device in
+    let state = g.T.Words.state in
+    let old = c.args.self.now in
     let between = c.append.new.self in
+    let new = c.compact_if_due.new.self in
     on_ok_weaker c.compact_if_due.result
-    (λ more. ⊎_elim (λ same. inl same) (λ short. inr (λ is. short.0 (c.append.ensures.rule ∙ is), short.1, short.2, short.3))
-    (still_more (seen c.args.self.now.journal.device) (seen between.journal.device) (seen c.compact_if_due.new.self.journal.device) (payload_of c.args.frame.now) c.in-Ok.ensures.acknowledged more))
+    (λ more. ⊎_elim (λ same. inl same)
+    (λ short.
+    inr
+    (subst (λ end. IsShortenedIfDue d.seen state end old new) c.in-Ok.ensures.longer
+    (shortened_since d.seen d.faults state old between new between.journal.end c.append.ensures.unlooked c.append.ensures.rule short)))
+    (still_more (d.seen old.journal.device) (d.seen between.journal.device) (d.seen new.journal.device) (payload_of c.args.frame.now) c.in-Ok.ensures.acknowledged more))
     c.compact_if_due.ensures.recorded
 
 pub returns-then-not-self-clause-left : goal.returns-then-not-self-clause-left

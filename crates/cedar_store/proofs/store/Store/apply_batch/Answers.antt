@@ -7,7 +7,7 @@ use Rattle.cedar_journal.specs.Frames.{payload_of}
 use Rattle.cedar_store.specs.Batches.{AreHeld, IsFaultless, all_erased_late, first_refused}
 use Rattle.cedar_store.specs.Changes.{after, all_changed}
 use Rattle.cedar_store.specs.Files.{IsEither}
-use Rattle.cedar_store.specs.Promises.{DeviceFails, DeviceIsFull}
+use Rattle.cedar_store.specs.Promises.{DeviceFails, DeviceIsFull, IsRecordedIn}
 use Rattle.cedar_store.specs.Shortening.{end_behind, IsLookedAfter}
 use Rattle.cedar_store.specs.Told.{changes_told}
 use Rattle.cedar_store.proofs.Compacted.{failed_ready, on_each_err, recorded_in}
@@ -94,7 +94,9 @@ returns-clause-any_moment g c = λ ready.
 pub returns-in-Ok-clause-recorded : goal.returns-in-Ok-clause-recorded
 returns-in-Ok-clause-recorded g c = λ _.
     let seen = g.D.Device.seen in
-    recorded_in (seen c.args.self.now.journal.device) (seen c.acknowledge.new.self.journal.device) (payload_of c.in_ok-batch.batch) (changes_told c.args.changes.now) c.in_ok-batch.ensures.change c.in-Ok.ensures.recorded
+    let changes = changes_told c.args.changes.now in
+    subst (λ n. IsRecordedIn seen g.T.Words.state n c.args.self.now c.acknowledge.new.self changes) c.in_ok-batch.ensures.length
+    (recorded_in (seen c.args.self.now.journal.device) (seen c.acknowledge.new.self.journal.device) (payload_of c.in_ok-batch.batch) changes c.in_ok-batch.ensures.change c.in-Ok.ensures.recorded)
 
 pub returns-in-Ok-clause-made : goal.returns-in-Ok-clause-made
 returns-in-Ok-clause-made g c = (c.in-Ok.ensures.done, c.in-Ok.ensures.made ∙ c.in_ok-batch.ensures.made)

@@ -1,6 +1,6 @@
-use Rattle.std.proofs.Common.{◌≡◌, inr, refl, rules, true}
+use Rattle.std.proofs.Common.{◌≡◌, inl, inr, ⊎_elim, refl, rules, true}
 use Rattle.std.proofs.lemmas.Result.{on_ok_weaker}
-use Rattle.cedar_store.specs.Compactions.{is_beyond}
+use Rattle.cedar_store.specs.Shortening.{is_due}
 use Rattle.cedar_store.proofs.Compacted.{just_looked_at, never_itself, still_usable}
 use Rattle.cedar_store.proofs.Shortened.{kept_before}
 use Rattle.cedar_store.proofs.store.Store.compact_if_due.Goals as goal
@@ -20,14 +20,20 @@ returns-in-Err-clause-due g c = never_itself c.args.self.now.compaction c.args.s
 pub returns-in-Ok-clause-looked_after : goal.returns-in-Ok-clause-looked_after
 returns-in-Ok-clause-looked_after g c =
     let old = c.args.self.now in
-    let due : is_beyond old.compaction old.base old.journal.end ≡ true = search rules in
+    let due : is_due old old.journal.end ≡ true = search rules in
     on_ok_weaker c.replace_if_shorter.result (λ seen_to. inr (due, seen_to)) c.replace_if_shorter.ensures.looked_at
+
+pub returns-in-Ok-clause-recorded : goal.returns-in-Ok-clause-recorded
+returns-in-Ok-clause-recorded g c =
+    let old = c.args.self.now in
+    let due : is_due old old.journal.end ≡ true = search rules in
+    on_ok_weaker c.replace_if_shorter.result (⊎_elim (λ same. inl same) (λ short. inr (due, short))) c.replace_if_shorter.ensures.recorded
 
 pub returns-in-Err-clause-looked_after : goal.returns-in-Err-clause-looked_after
 returns-in-Err-clause-looked_after g c =
     let old = c.args.self.now in
     let faults = g.D.Device.faults in
-    let due : is_beyond old.compaction old.base old.journal.end ≡ true = search rules in
+    let due : is_due old old.journal.end ≡ true = search rules in
     inr (due, (refl, inr (inr (c.in-Err.error, refl, kept_before (faults old.journal.device) (faults old.journal.device) c.in-Err.error c.in-Err.ensures.cause))))
 
 pub returns-in-Ok-clause-counted : goal.returns-in-Ok-clause-counted

@@ -3,7 +3,7 @@ use Rattle.std.proofs.Common.{◌≡◌, [], ◌∷◌, false, length, ◌+◌, 
 use Rattle.cedar_journal.specs.Frames.{payload_of}
 use Rattle.cedarwood.specs.State.{after_erase}
 use Rattle.cedar_store.specs.Changes.{after, all_changed, erase_at}
-use Rattle.cedar_store.specs.Promises.{DeviceFails, DeviceIsFull}
+use Rattle.cedar_store.specs.Promises.{DeviceFails, DeviceIsFull, IsRecordedIn}
 use Rattle.cedar_store.specs.Shortening.{end_behind, IsLookedAfter}
 use Rattle.cedar_store.proofs.Compacted.{on_each_err, recorded_in}
 use Rattle.cedar_store.proofs.Payloads.{handed_on}
@@ -67,7 +67,9 @@ returns-in_err-acknowledge-clause-ready g c =
 pub returns-clause-recorded : goal.returns-clause-recorded
 returns-clause-recorded g c = λ _.
     let seen = g.D.Device.seen in
-    recorded_in (seen c.args.self.now.journal.device) (seen c.acknowledge.new.self.journal.device) (payload_of c.in_ok-erasure.erasure) (erase_at c.args.key.now ∷ []) c.in_ok-erasure.ensures.change c.in_ok-acknowledge.ensures.recorded
+    let changes = erase_at c.args.key.now ∷ [] in
+    subst (λ n. IsRecordedIn seen g.T.Words.state n c.args.self.now c.acknowledge.new.self changes) c.in_ok-erasure.ensures.length
+    (recorded_in (seen c.args.self.now.journal.device) (seen c.acknowledge.new.self.journal.device) (payload_of c.in_ok-erasure.erasure) changes c.in_ok-erasure.ensures.change c.in_ok-acknowledge.ensures.recorded)
 
 pub returns-in_err-acknowledge-clause-counted : goal.returns-in_err-acknowledge-clause-counted
 returns-in_err-acknowledge-clause-counted g c = λ was. c.acknowledge.ensures.counted was

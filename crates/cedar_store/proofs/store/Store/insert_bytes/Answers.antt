@@ -12,7 +12,7 @@ use Rattle.cedar_store.specs.declared.error.DurableError.TheVariants as error
 use Rattle.cedar_store.specs.Causes.{IsWanting}
 use Rattle.cedar_store.specs.Changes.{after, all_changed, put_at}
 use Rattle.cedar_store.specs.Files.{IsEither}
-use Rattle.cedar_store.specs.Promises.{DeviceFails, DeviceIsFull}
+use Rattle.cedar_store.specs.Promises.{DeviceFails, DeviceIsFull, IsRecordedIn}
 use Rattle.cedar_store.specs.Shortening.{end_behind, IsLookedAfter}
 use Rattle.cedar_store.specs.Undo.{IsPutOf}
 use Rattle.cedarwood.specs.Fault.{fault}
@@ -65,7 +65,9 @@ returns-in-Ok-acknowledge-clause-recorded g c =
     let seen = g.D.Device.seen in
     let fits : FitsSigned w32 c.args.value = search rules in
     let told = c.in-Ok.ensures.change ∙ ap (λ v. Some (put_at c.args.key.now v ∷ [])) (to_z-of_z w32 c.args.value fits) in
-    recorded_in (seen c.args.self.now.journal.device) (seen c.acknowledge.new.self.journal.device) (payload_of c.in-Ok.frame) (put_at c.args.key.now c.args.value ∷ []) told c.in-Ok-acknowledge.ensures.recorded
+    let changes = put_at c.args.key.now c.args.value ∷ [] in
+    subst (λ n. IsRecordedIn seen g.T.Words.state n c.args.self.now c.acknowledge.new.self changes) c.in-Ok.ensures.length
+    (recorded_in (seen c.args.self.now.journal.device) (seen c.acknowledge.new.self.journal.device) (payload_of c.in-Ok.frame) changes told c.in-Ok-acknowledge.ensures.recorded)
 
 pub returns-then-self-2-clause-ready : goal.returns-then-self-2-clause-ready
 returns-then-self-2-clause-ready g c =
