@@ -12,6 +12,7 @@ use Rattle.cedar_journal.proofs.Found.{length-payload}
 use Rattle.cedar_journal.proofs.Fronts.{front_of_none}
 use Rattle.cedar_journal.proofs.Reading.{behind_and_rest, length-behind, payloads_first, payloads_none, record_is_whole, same_payload, still_there}
 use Rattle.cedar_plan.specs.Plans.{PlansAppend, works_of}
+use Rattle.cedar_plan.specs.Works.{append_works}
 use Rattle.cedar_plan.specs.declared.plan.Plan.{Plan}
 use Rattle.crc32c.specs.Sums.{crc32c}
 use Rattle.cedar_store.specs.Batches.{record_of}
@@ -93,13 +94,19 @@ put_adds key w v f end n size k buffer far r plain same =
 abbrev pub BeginsWithGroup : Format → List ℕ → List ℕ → Type 0
 BeginsWithGroup f records buffer = (rest : List ℕ) × (buffer ≡ (opening f ∷ frame_of f (2 ∷ records)) ++ rest)
 
+-- what the plan of a group does
+pub group_works : (f : Format) (end size : ℕ) (records buffer : List ℕ) (plan : Plan) → length records ≡ size → BeginsWithGroup f records buffer
+    → PlansAppend plan (size + group_head f + 1) end → works_of buffer plan ≡ append_works f end (2 ∷ records)
+group_works f end size records buffer plan long begins works =
+    ap (λ (b : List ℕ). works_of b plan) begins.1 ∙ works f (2 ∷ records) begins.0 (omega (arith, long))
+
 pub is_group : (f : Format) (end to size : ℕ) (records buffer : List ℕ) (plan : Plan) → end < 1152921504606846976 → length records ≡ size → size + 1 < 4294967296
     → BeginsWithGroup f records buffer → PlansAppend plan (size + group_head f + 1) end → to + 1 ≡ end + (size + group_head f + 1)
     → IsGroup (works_of buffer plan) f end to records
 is_group f end to size records buffer plan room long short begins works far = λ changes s is.
     is_change f end (2 ∷ records) s (all_changed s changes) (omega (arith, long, short)) room
     (ap (option_map (all_changed s)) (of_batch (2 ∷ records) refl ∙ is)) to (works_of buffer plan)
-    (ap (λ (b : List ℕ). works_of b plan) begins.1 ∙ works f (2 ∷ records) begins.0 (omega (arith, long))) (omega (arith, far, long))
+    (group_works f end size records buffer plan long begins works) (omega (arith, far, long))
 
 -- ---- a buffer in which the head and the closed gate have been written
 

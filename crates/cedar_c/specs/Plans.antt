@@ -1,6 +1,6 @@
 -- The dictionary of a store whose file C keeps: what the plans say that the calls write.
 use Rattle.std.specs.Prelude.{◌≡◌, ◌⊎◌, ℕ, ℤ, ◌+◌, ◌<◌, ◌≤◌, ◌^◌, Bool, true}
-use Rattle.std.specs.Prelude.{false, List, [], ◌∷◌, Some}
+use Rattle.std.specs.Prelude.{false, List, [], ◌∷◌, length, Some}
 use Rattle.cedar_journal.specs.declared.format.Format.{Format}
 use Rattle.cedar_journal.specs.declared.format.Format.TheVariants.{Plain, Summed}
 use Rattle.cedar_journal.specs.declared.records.Extent.{Extent}
@@ -8,9 +8,11 @@ use Rattle.cedar_journal.specs.Files.{HasExtent}
 use Rattle.cedar_journal.specs.Formats.{overhead}
 use Rattle.cedar_plan.specs.Calls.{Call, open_call, seen_after}
 use Rattle.cedar_plan.specs.Safety.{CrashLeaves, IsAtRest}
-use Rattle.cedar_plan.specs.Works.{AreCarriedOut, Work, all_done}
+use Rattle.cedar_plan.specs.Works.{AreCarriedOut, Work, all_done, append_works, end_of, format_in}
+use Rattle.cedar_plan.specs.Works.{opening_works}
 use Rattle.cedar_salvage.specs.Whole.{cuts_records, TakesLong}
 use Rattle.cedar_store.specs.Causes.{LoadCause}
+use Rattle.cedar_store.specs.Changes.{Change, change_of}
 use Rattle.cedar_store.specs.Files.{IsEither, record_count, state_of}
 use Rattle.cedar_store.specs.declared.error.DurableError.{DurableError}
 use Rattle.cedar_store.specs.declared.error.DurableError.TheVariants as error
@@ -53,6 +55,24 @@ pub record IsOpening (bytes : List ℕ) (works : List Work) (format : Format) (e
   pub kept : IsKept (all_done works (open_call bytes ∷ [])) format end s
   pub counted : record_count (seen_after (all_done works (open_call bytes ∷ []))) ≡ record_count bytes
   pub any_moment : (later : List Call) → AreCarriedOut works (open_call bytes ∷ []) later → CrashLeaves (open_call bytes ∷ []) later (λ c. state_of c ≡ Some s)
+
+-- works that append the record of a change, and do nothing else (`append_works` of `cedar_plan`). Its payload has n
+-- bytes. Where the records of the file end moves by those of the record
+pub record AppendsChange (works : List Work) (change : Change) (format : Format) (from to n : ℕ) : Type 0 where
+  pub payload : List ℕ
+  pub has : change_of payload ≡ Some change
+  pub long : length payload ≡ n
+  pub just : works ≡ append_works format from payload
+  pub far : to ≡ from + overhead format + n
+
+-- works that open a file of these bytes, and do nothing else (`opening_works` of `cedar_plan`). Then its records are
+-- of this format and end at `end`
+pub record OpensJust (bytes : List ℕ) (works : List Work) (format : Format) (end : ℕ) : Type 0 where
+  pub extent : Extent
+  pub has : HasExtent bytes extent
+  pub just : works ≡ opening_works bytes extent
+  pub named : format ≡ format_in extent
+  pub there : end ≡ end_of extent
 
 -- the number of why a file wasn't read as a dictionary
 abbrev pub store_status : DurableError → ℕ

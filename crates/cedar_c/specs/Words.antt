@@ -35,8 +35,8 @@ pub use Rattle.cedar_c.specs.Matching.{TellsNearText, TellsWanted, wanted_behind
 pub use Rattle.cedar_c.specs.Opens.{BuildsOrLacks, OpensBuilt, OpensLoaded, OpensNew}
 pub use Rattle.cedar_c.specs.Pairs.{build_fault, entries_in, keys_in, named_keys, StoresFront}
 pub use Rattle.cedar_c.specs.Pairs.{StoresPart, taken_pair}
-pub use Rattle.cedar_c.specs.Plans.{damage_of, format_if, IsErasurePlan, IsOpening, IsPutPlan}
-pub use Rattle.cedar_c.specs.Plans.{LacksChange, LacksRecord, MayCut}
+pub use Rattle.cedar_c.specs.Plans.{AppendsChange, damage_of, format_if, IsErasurePlan, IsOpening}
+pub use Rattle.cedar_c.specs.Plans.{IsPutPlan, LacksChange, LacksRecord, MayCut, OpensJust}
 pub use Rattle.cedar_c.specs.Plans.{TellsWhy, store_status}
 pub use Rattle.cedar_c.specs.Readings.{shown_figure, shown_in, shown_layout, shown_tree}
 pub use Rattle.cedar_c.specs.ScannerHandles.{scanner_in, shown_scanner_in}
@@ -57,14 +57,14 @@ pub use Rattle.either_layout.specs.declared.any.AnyCedar.{AnyCedar}
 pub use Rattle.cedarwood.specs.Format.{header_answer}
 pub use Rattle.cedarwood.specs.Refusal.{refusal_of}
 pub use Rattle.cedarwood.specs.Tables.{IsTableFile, table_bytes}
-pub use Rattle.cedar_journal.specs.Files.{HasExtent}
+pub use Rattle.cedar_journal.specs.Files.{ends_closed, format_of, HasExtent}
 pub use Rattle.cedar_journal.specs.Formats.{frame_of, opening, overhead}
 pub use Rattle.cedar_journal.specs.Records.{length_bytes}
 pub use Rattle.cedar_journal.specs.declared.format.Format.TheVariants.{Plain, Summed}
 pub use Rattle.cedarwood.specs.WellFormed.{IsWellFormed, tree_of}
 pub use Rattle.cedarwood.specs.Layouts.{default_layout, layout_byte, reduced_layout}
 pub use Rattle.cedar_plan.specs.Plans.{PlansAppend, works_of}
-pub use Rattle.cedar_plan.specs.Works.{end_of, format_in}
+pub use Rattle.cedar_plan.specs.Works.{append_works, end_of, format_in}
 pub use Rattle.cedar_salvage.specs.Whole.{CutsNone}
 pub use Rattle.cedar_store.specs.Causes.{LoadCause}
 pub use Rattle.cedar_store.specs.Changes.{erase_at, put_at}

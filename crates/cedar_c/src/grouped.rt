@@ -2,8 +2,9 @@
 
 ghost use Rattle.std.specs.Prelude.{◌≡◌, ◌⊎◌, ◌+◌, ◌<◌, ◌≤◌, ◌^◌, ◌++◌, ◌∷◌, ℕ, List, []};
 ghost use Rattle.std.specs.Prelude.{IfErr, OnOk, drop, length, take};
-ghost use Rattle.cedar_c.specs.Words.{format_if, frame_of, group_head, group_records, IsGroup};
-ghost use Rattle.cedar_c.specs.Words.{LacksGroup, length_bytes, opening, works_of, Plain, Summed};
+ghost use Rattle.cedar_c.specs.Words.{append_works, format_if, frame_of, group_head};
+ghost use Rattle.cedar_c.specs.Words.{group_records, IsGroup, LacksGroup, length_bytes, opening};
+ghost use Rattle.cedar_c.specs.Words.{works_of, Plain, Summed};
 
 use crate::planned::go_on;
 use crate::records::format_if;
@@ -34,6 +35,12 @@ pub extern "C" fn cedar_plan_group(
     //  IsGroup, IsChangePlan]
     ensures planned { result ≡ OK → IsGroup (works_of buffer.new plan.new) (format_if is_summed) end.old end.new
         (group_records (format_if is_summed) size buffer.old) }
+
+    //= The plan of a group has two steps, and no other one: the group's record is written after the closed gate, and then that is opened.
+    //  The records end behind it then. [with works, end]
+    ensures steps { result ≡ OK → plan.new.count ≡ 2 }
+    ensures works { result ≡ OK → works_of buffer.new plan.new ≡ append_works (format_if is_summed) end.old (2 ∷ group_records (format_if is_summed) size buffer.old) }
+    ensures end { result ≡ OK → end.new ≡ end.old + group_head (format_if is_summed) + size }
 
     //= A group is refused exactly if the records end too far back, its record would be too long, or the buffer has too few elements. Then
     //  nothing changes. [with untold]

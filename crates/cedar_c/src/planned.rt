@@ -2,13 +2,14 @@
 //! the change. These exports are the library's own, and no program sees them.
 
 ghost use Rattle.std.specs.Prelude.{◌≡◌, ◌≢◌, ◌≤◌, ◌⊎◌, ◌↔◌, ◌+◌, ◌<◌, ◌^◌, false, IfErr, IfOk};
-ghost use Rattle.std.specs.Prelude.{IfSome, IsFalse, IsSome, IsTrue, None, Some, length};
+ghost use Rattle.std.specs.Prelude.{IfSome, IsFalse, IsSome, IsTrue, None, Some, is_some, length};
 ghost use Rattle.std.specs.Prelude.{option_map, take, true};
-ghost use Rattle.cedar_c.specs.Words.{AddsChange, after_erase, after_put, content, CutsNone};
-ghost use Rattle.cedar_c.specs.Words.{damage_of, end_of, erase_at, fault, format_if, format_in};
-ghost use Rattle.cedar_c.specs.Words.{HasExtent, inner_dictionary, inner_layout, IsErasurePlan};
-ghost use Rattle.cedar_c.specs.Words.{IsOpening, IsPutPlan, LacksChange, LacksRecord, layout_for};
-ghost use Rattle.cedar_c.specs.Words.{layout_in, LoadCause, MayCut, number_at, Plain, PlansAppend};
+ghost use Rattle.cedar_c.specs.Words.{AddsChange, after_erase, after_put, AppendsChange, content};
+ghost use Rattle.cedar_c.specs.Words.{CutsNone, damage_of, end_of, ends_closed, erase_at, fault};
+ghost use Rattle.cedar_c.specs.Words.{format_if, format_in, format_of, HasExtent, inner_dictionary};
+ghost use Rattle.cedar_c.specs.Words.{inner_layout, IsErasurePlan, IsOpening, IsPutPlan};
+ghost use Rattle.cedar_c.specs.Words.{LacksChange, LacksRecord, layout_for, layout_in, LoadCause};
+ghost use Rattle.cedar_c.specs.Words.{MayCut, number_at, OpensJust, Plain, PlansAppend};
 ghost use Rattle.cedar_c.specs.Words.{position_of, put_at, record_count, state_in, state_of};
 ghost use Rattle.cedar_c.specs.Words.{status_of, store_status, TellsWhy, tree_in, works_of};
 
@@ -54,8 +55,13 @@ pub extern "C" fn cedar_plan_open(
     //  before. A crash at any moment, even if a step fails, leaves a file that represents it. [by IsOpening]
     ensures ready { result ≡ OK → IfSome (state_in handle.new) (IsOpening bytes.now (works_of buffer.new plan.new) (format_if is_summed.new) end.new) }
 
-    //= The plan of an opening has no more steps than C has room for.
+    //= The plan of an opening cuts the file after its whole records and writes a closed gate there; of a new file it leaves only the
+    //  header. It does nothing else, and has no more steps than C has room for. [with steps; by OpensJust]
+    ensures works { result ≡ OK → OpensJust bytes.now (works_of buffer.new plan.new) (format_if is_summed.new) end.new }
     ensures steps { result ≡ OK → plan.new.count ≤ 4 }
+
+    //= The plan of an opening has no step if the file ends with the closed gate right behind its records.
+    ensures at_rest { result ≡ OK → is_some (format_of bytes.now) ≡ true → ends_closed bytes.now end.new ≡ true → plan.new.count ≡ 0 }
 
     //= An opening writes how many records the file has.
     ensures counted { result ≡ OK → record_count bytes.now ≡ Some records.new }
@@ -137,6 +143,11 @@ pub extern "C" fn cedar_plan_put(
     //  disk, and has one record more. A crash at any moment, even if a step fails, leaves the one or the other. [by IsChangePlan]
     ensures planned { result ≡ OK → IfSome (state_in handle.old) (λ s. IsPutPlan (works_of buffer.new plan.new) (format_if is_summed) end.old end.new s key.now value) }
 
+    //= The plan of a change has two steps, and no other one: the record of that change is written after the closed gate, and then that is
+    //  opened. The records end behind it then. [with works; also cedar_plan_erase; by AppendsChange]
+    ensures steps { result ≡ OK → plan.new.count ≡ 2 }
+    ensures works { result ≡ OK → AppendsChange (works_of buffer.new plan.new) (put_at key.now value) (format_if is_summed) end.old end.new (length key.now + 5) }
+
     //= What a put without a sum that returns `OK` has written is the record of its change, which may follow those of a group without its
     //  last byte. The same holds of an erasure of a key that was held. [also cedar_plan_erase]
     ensures recorded { result ≡ OK → IsFalse is_summed → AddsChange (put_at key.now value) (take (length key.now + 10) buffer.new) }
@@ -198,6 +209,9 @@ pub extern "C" fn cedar_plan_erase(
     ensures planned { result ≡ OK → IsTrue held.new
         → IfSome (state_in handle.old) (λ s. IsErasurePlan (works_of buffer.new plan.new) (format_if is_summed) end.old end.new s key.now) }
 
+    ensures steps { result ≡ OK → IsTrue held.new → plan.new.count ≡ 2 }
+    ensures works { result ≡ OK → IsTrue held.new
+        → AppendsChange (works_of buffer.new plan.new) (erase_at key.now) (format_if is_summed) end.old end.new (length key.now + 1) }
     ensures recorded { result ≡ OK → IsTrue held.new → IsFalse is_summed → AddsChange (erase_at key.now) (take (length key.now + 6) buffer.new) }
 
     //= An erasure is refused only if the records end too far back, the record is too long or finds no room, or for lack of memory.
@@ -325,6 +339,8 @@ fn plan_put(
     ensures untold { (result ≡ OK) ⊎ ((held.new ≡ held.old) × (before.new ≡ before.old) × (end.new ≡ end.old) × (plan.new ≡ plan.old)) }
     ensures layout { inner_layout cedar.new ≡ inner_layout cedar.old }
     ensures planned { result ≡ OK → IsPutPlan (works_of buffer.new plan.new) format end.old end.new (inner_dictionary cedar.old).state key.now value }
+    ensures steps { result ≡ OK → plan.new.count ≡ 2 }
+    ensures works { result ≡ OK → AppendsChange (works_of buffer.new plan.new) (put_at key.now value) format end.old end.new (length key.now + 5) }
     ensures recorded { result ≡ OK → format ≡ Plain → AddsChange (put_at key.now value) (take (length key.now + 10) buffer.new) }
     ensures faulty { IfSome (fault key.now value) (λ e. (result ≡ status_of e) × (position.new ≡ position_of position.old e)) }
     ensures refused { fault key.now value ≡ None → LacksChange format end.old (length key.now + 5) (length buffer.old) result }
@@ -369,6 +385,8 @@ fn plan_erase(
     ensures layout { inner_layout cedar.new ≡ inner_layout cedar.old }
     ensures planned { result ≡ OK → IsTrue held.new
         → IsErasurePlan (works_of buffer.new plan.new) format end.old end.new (inner_dictionary cedar.old).state key.now }
+    ensures steps { result ≡ OK → IsTrue held.new → plan.new.count ≡ 2 }
+    ensures works { result ≡ OK → IsTrue held.new → AppendsChange (works_of buffer.new plan.new) (erase_at key.now) format end.old end.new (length key.now + 1) }
     ensures recorded { result ≡ OK → IsTrue held.new → format ≡ Plain → AddsChange (erase_at key.now) (take (length key.now + 6) buffer.new) }
     ensures refused { (result ≡ OK) ⊎ LacksRecord format end.old (length key.now + 1) (length buffer.old) result }
 {
