@@ -137,6 +137,6 @@ pub enum TextReply<A: Allocator> {
     Cuts(Result<Vec<Vec<(usize, usize, Option<i32>), A>, A>, CedarError>),
     /// For each key in the text where it begins, how many bytes it has, and its value.
     Keys(Result<Vec<(usize, usize, i32), A>, CedarError>),
-    /// The tokens that cuts may have, with their costs.
+    /// The tokens that cuts from each position on may begin with, with their costs.
     Edges(Result<Vec<Edge, A>, CedarError>),
 }

@@ -66,8 +66,8 @@ pub fn run_calls<L: Layout, const SLOTS: usize, A: Allocator + Copy>(
     //  say. It may be `Memory` also if there is nothing to collect. [by AsksAt, IsCompletionReply, Collects, CollectsAscending]
     //= A query about a text changes nothing, and returns what the rows of `cedar_words` say: its tokens, keywords, matches and prefixes,
     //  also from a position on, what a scanner finds, a cut of least cost, the best cut by a model or the best few, or the tokens that such
-    //  cuts may have. If it is collected it may be `Memory`, but only if there is something to collect, a byte to cut or to search, or a
-    //  cut that is wanted. [by AsksAt, IsTextReply, CollectsAll, CollectsFew, IsCheapCut, IsBestCut, IsBestCuts]
+    //  cuts from each position on may begin with. If it is collected it may be `Memory`, but only if there is something to collect, a byte
+    //  to cut or to search, or a cut that is wanted. [by AsksAt, IsTextReply, CollectsAll, CollectsFew, IsCheapCut, IsBestCut, IsBestCuts]
     //= A query whose keys are written into a buffer changes nothing, and returns what one without a buffer does. The first entry and the
     //  last one are refused only if the key is longer than the room that the buffer was made with. [by AsksAt, IsBufferReply]
     //= A call on a dictionary that isn't there returns `Missing`, and all are as they were. [by MissesAt]

@@ -209,7 +209,7 @@ fn collect_beginnings<T: Placed, A: Allocator + Copy>(
     Ok(found)
 }
 
-/// The tokens that are left of those that cuts may have.
+/// The tokens that are left of those that cuts from each position on may begin with.
 fn collect_edges<L: Layout, const SLOTS: usize, A: Allocator + Copy>(
     alloc: A,
     edges: Edges<'_, Trie<L, SLOTS, A>, ModelTables<'_>>,
