@@ -1,12 +1,15 @@
 -- How far a walk by an automaton is, and what it gives.
-use Rattle.std.specs.Prelude.{◌≡◌, ℕ, ◌+◌, ◌-◌, ◌<◌, ◌≤◌, ◌&&◌, ℤ, Bool, true, cond, fold, List, []}
-use Rattle.std.specs.Prelude.{◌∷◌, ◌++◌, length, filter, take, MatchOption, Option}
+use Rattle.std.specs.Prelude.{◌≡◌, ℕ, ◌+◌, ◌-◌, ◌<◌, ◌≤◌, ◌&&◌, ℤ, Bool, true, List, []}
+use Rattle.std.specs.Prelude.{◌∷◌, ◌++◌, IfNone, length, filter, take, MatchOption, MatchResult}
+use Rattle.std.specs.Prelude.{Option, Result}
 use Rattle.std.specs.declared.vec.Vec.{Vec}
 use Rattle.std.specs.Coded.{Coded, code_by, coded×, coded_ℕ, coded_ℤ, coded_list}
 use Rattle.std.proofs.Common.{refl}
 use Rattle.cedar_tree.specs.Tree.{Tree}
 use Rattle.cedar_tree.specs.Queries.{Entry}
 use Rattle.cedar_tree.specs.Walks.{forwards, Visit, visited_entries, visits_after, visits_left}
+use Rattle.cedarwood.specs.declared.error.CedarError.{CedarError}
+use Rattle.cedarwood.specs.declared.error.CedarError.TheVariants.{Memory}
 use Rattle.cedar_match.specs.declared.nodes.Node.{Node}
 
 -- ---- the nodes of a tree, one after another
@@ -132,6 +135,11 @@ HasNoMoreToCome tree after may initial automaton before path =
     let leads = leads_on (after automaton) (may automaton) (initial automaton) in
     nodes_to_come tree leads path ≤ nodes_to_come tree leads before
 
+-- a walk by this automaton that found no entry, and is at a path now, has no node left to go to
+abbrev pub LeavesNoNode : {M S : Type 0} → Tree → (M → S → ℕ → S) → (M → S → Bool) → (M → S) → M → List ℕ → Option ℤ → Type 0
+LeavesNoNode tree after may initial automaton path found =
+    IfNone found (nodes_to_come tree (leads_on (after automaton) (may automaton) (initial automaton)) path ≡ 0)
+
 -- a walk by this automaton that came from one path to another counted each node that it came to
 abbrev pub CountsNodes : {M S : Type 0} → Tree → (M → S → ℕ → S) → (M → S → Bool) → (M → S) → M → List ℕ → List ℕ → ℕ → ℕ → Type 0
 CountsNodes tree after may initial automaton before path old new =
@@ -155,6 +163,20 @@ GivesMatch old new found =
 abbrev pub GivesCopy : {A : Type 0} → MatchWalk → MatchWalk → Option (Vec ℕ A × ℤ) → Type 0
 GivesCopy old new found =
     MatchOption found ((old.left ≡ []) × (new.left ≡ [])) (λ entry. (old.left ≡ (entry.0.items, entry.1) ∷ new.left) × (new.nodes < old.nodes))
+
+-- a walk gives the first of the entries that it has left as an item; if the item fails, then with `Memory`, and it is the last one; or
+-- none is left
+abbrev pub GivesItem : {A : Type 0} → MatchWalk → Option (Result (Vec ℕ A × ℤ) CedarError) → MatchWalk → Type 0
+GivesItem old item new =
+    MatchOption item ((old.left ≡ []) × (new.left ≡ [])) (λ found. MatchResult found
+    (λ entry. old.left ≡ (entry.0.items, entry.1) ∷ new.left)
+    (λ error. (error ≡ Memory) × (new.left ≡ [])))
+
+-- a walk that gives an item counts each node that it comes to. If the item fails, it goes to no other node
+abbrev pub CountsItem : {I : Type 0} → MatchWalk → MatchWalk → ℕ → ℕ → Option (Result I CedarError) → Type 0
+CountsItem old new before after item =
+    let counted = after + new.nodes ≡ before + old.nodes in
+    MatchOption item counted (λ found. MatchResult found (λ _. counted) (λ _. (new.nodes ≡ 0) × (after ≤ before + old.nodes)))
 
 -- a walk by an automaton as plain data, for `impl Model` alone
 abbrev pub match_walk_code : Coded MatchWalk

@@ -1,11 +1,11 @@
 //! The walk by an automaton, which lends its keys.
 
-ghost use Rattle.std.specs.Prelude.{◌+◌, ◌<◌, ◌≡◌, ◌≤◌, [], fold, IfErr, IfOk, length, OnErr, take};
-ghost use Rattle.std.specs.Prelude.{vec_capacity};
+ghost use Rattle.std.specs.Prelude.{◌+◌, ◌<◌, ◌≡◌, ◌≤◌, [], fold, IfErr, IfNone, IfOk, length};
+ghost use Rattle.std.specs.Prelude.{OnErr, take, vec_capacity};
 ghost use Rattle.cedar_match.specs.Words.{CountsNodes, entries_to_come, GivesMatch, GoesToMatch};
 ghost use Rattle.cedar_match.specs.Words.{HasNoMoreToCome, IsBlankOf, IsMatchPlaceOf, leads_on};
-ghost use Rattle.cedar_match.specs.Words.{LeadsToNext, match_walk_code, MatchWalk, nodes_to_come};
-ghost use Rattle.cedar_match.specs.Words.{path_on, states_along, StopsBeforeNode};
+ghost use Rattle.cedar_match.specs.Words.{LeadsToNext, LeavesNoNode, match_walk_code, MatchWalk};
+ghost use Rattle.cedar_match.specs.Words.{nodes_to_come, path_on, states_along, StopsBeforeNode};
 
 use crate::nodes::{Node, Nodes};
 use byte_automata::Automaton;
@@ -129,6 +129,7 @@ fn next_match<T: Nodes, M: Automaton, A: Allocator, C: Ledger>(
     requires { IsMatchPlaceOf (T.stands trie.now) M.after M.may_match M.initial automaton.now key.old.items states.old.items slot.old }
     ensures at { IsMatchPlaceOf (T.stands trie.now) M.after M.may_match M.initial automaton.now key.new.items states.new.items slot.new }
     ensures found { IfOk result (GoesToMatch (T.tree trie.now) M.accepts M.after M.may_match M.initial automaton.now key.old.items key.new.items) }
+    ensures done { IfOk result (LeavesNoNode (T.tree trie.now) M.after M.may_match M.initial automaton.now key.new.items) }
     ensures fewer { HasNoMoreToCome (T.tree trie.now) M.after M.may_match M.initial automaton.now key.old.items key.new.items }
     ensures refused { OnErr result (StopsBeforeNode (T.tree trie.now) M.accepts M.after M.may_match M.initial automaton.now key.old.items key.new.items) }
     ensures cost { CountsNodes (T.tree trie.now) M.after M.may_match M.initial automaton.now key.old.items key.new.items ticks.old ticks.new }
@@ -182,8 +183,10 @@ impl<'a, T: Nodes, M: Automaton + Drop, A: Allocator> MatchingCursor<'a, T, M, A
     /// `Memory` if an allocation was refused.
     pub fn advance(&mut self) -> Result<Option<i32>, CedarError>
         //= A walk by an automaton gives the next entry that is left each call, and then holds its key. If that fails with `Memory`, none
-        //  is lost, and the walk has a node to go to. It never goes back to a node. [with refused, fewer; also advance_counted]
+        //  is lost, and the walk has a node to go to. It never goes back to a node, and where no entry is left, none is left to go to.
+        //  [with refused, fewer, done; also advance_counted]
         ensures found { IfOk result (GivesMatch self.old self.new) }
+        ensures done { IfOk result (λ found. IfNone found (self.new.nodes ≡ 0)) }
         ensures refused { IfErr result (λ e. (e ≡ CedarError.Memory) × (self.new.left ≡ self.old.left) × (0 < self.new.nodes)) }
         ensures fewer { self.new.nodes ≤ self.old.nodes }
     {
@@ -206,6 +209,7 @@ impl<'a, T: Nodes, M: Automaton + Drop, A: Allocator> MatchingCursor<'a, T, M, A
         ticks: &mut Ticks<C>,
     ) -> Result<Option<i32>, CedarError>
         ensures found { IfOk result (GivesMatch self.old self.new) }
+        ensures done { IfOk result (λ found. IfNone found (self.new.nodes ≡ 0)) }
         ensures refused { IfErr result (λ e. (e ≡ CedarError.Memory) × (self.new.left ≡ self.old.left) × (0 < self.new.nodes)) }
         ensures fewer { self.new.nodes ≤ self.old.nodes }
 
@@ -261,6 +265,7 @@ fn advance_uncounted<C: Ledger, T: Nodes, M: Automaton + Drop, A: Allocator>(
 ) -> Result<Option<i32>, CedarError>
     requires { IsBlankOf C.name C.parts blank }
     ensures found { IfOk result (GivesMatch walk.old walk.new) }
+    ensures done { IfOk result (λ found. IfNone found (walk.new.nodes ≡ 0)) }
     ensures refused { IfErr result (λ e. (e ≡ CedarError.Memory) × (walk.new.left ≡ walk.old.left) × (0 < walk.new.nodes)) }
     ensures fewer { walk.new.nodes ≤ walk.old.nodes }
 {

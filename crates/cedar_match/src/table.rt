@@ -66,8 +66,8 @@ where
     //  [also entries_matching]
     ensures left { result.left ≡ filter (λ e. M.accepts automaton e.0) (walk trie.now.state.tree) }
 
-    //= The walk goes to a node exactly if the automaton can match after each proper prefix of the node's path, the empty one among them.
-    //  [also entries_matching; by leads_on]
+    //= The walk goes to no node but those after each proper prefix of whose path the automaton can match, the empty one among them: it has
+    //  so many nodes to go to before the first entry. [also entries_matching; by leads_on]
     ensures nodes { result.nodes ≡ length (filter (leads_on (M.after automaton) (M.may_match automaton) (M.initial automaton)) (prefixes trie.now.state.tree)) }
 
     //= The cursor holds no key before the first entry.

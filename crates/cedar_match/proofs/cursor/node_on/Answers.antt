@@ -1,5 +1,4 @@
 use Rattle.std.proofs.Common.{◌∙◌, ap, refl, sym}
-use Rattle.std.specs.Prelude.{fold}
 use Rattle.std.proofs.Common.{length}
 use Rattle.cedar_match.proofs.MatchLemmas.{led_after, led_past, whole_state}
 use Rattle.cedar_match.proofs.cursor.node_on.Goals as goal

@@ -1,4 +1,4 @@
-use Rattle.std.proofs.Common.{[], ◌∙◌, ap, subst, sym}
+use Rattle.std.proofs.Common.{◌∙◌, ap, subst, sym}
 use Rattle.cedar_match.specs.Matching.{leads_on, states_along}
 use Rattle.cedar_match.proofs.cursor.MatchingCursor.new.Goals as goal
 
