@@ -3,8 +3,8 @@ use Rattle.std.specs.Prelude.{ℕ, List}
 use Rattle.std.specs.declared.io.traits.Read as read
 use Rattle.std.specs.declared.io.traits.Write as write
 use Rattle.std.specs.declared.io.traits.Seek as seek
-use Rattle.cedar_disk.specs.declared.begun.NotBegun.{NotBegun}
 use Rattle.cedar_disk.specs.declared.begun.Unplaced.{Unplaced}
+use Rattle.cedar_disk.specs.declared.not_begun.NotBegun.{NotBegun}
 use Rattle.cedar_disk.specs.declared.whole.NewFile.{NewFile}
 use Rattle.cedar_disk.specs.Calls.{Call}
 use Rattle.cedar_disk.specs.NewFiles.{new_bytes, new_path}
@@ -12,6 +12,10 @@ use Rattle.cedar_disk.specs.NewFiles.{new_bytes, new_path}
 -- where nothing was begun
 abbrev pub not_begun_calls : {F : Type 0} → NotBegun F → List Call
 not_begun_calls failed = failed.history.calls
+
+-- what was opened before the buffer was asked for, where nothing was begun
+abbrev pub not_begun_opened : {F : Type 0} → NotBegun F → List Call
+not_begun_opened failed = failed.opened.calls
 
 module _ {F G D : Type 0} {r : read.Ghosts G} {w : write.Ghosts G} {s : seek.Ghosts G} {d : read.Ghosts D} where
   -- a new file that is removed where it is dropped

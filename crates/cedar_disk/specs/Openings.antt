@@ -34,6 +34,10 @@ opened_to_read path = opened_as 3 path
 abbrev pub opened_folder : List ℕ → Call
 opened_folder path = opened_as 4 path
 
+-- something was opened to be written to through a buffer: a new file that was made, or what isn't a file
+abbrev pub was_opened : Call
+was_opened = opened_as 6 []
+
 -- nothing was begun at this path: an opening failed, or what was to be written there had no memory for its buffer
 abbrev pub not_begun : List ℕ → Call
 not_begun path = (11, 5, false, path)

@@ -11,7 +11,7 @@ pub use Rattle.cedar_disk.specs.Names.{compaction_path, HasNoSlash, LiesBeside, 
 pub use Rattle.cedar_disk.specs.Names.{new_suffix}
 pub use Rattle.cedar_disk.specs.Openings.{not_begun, opened_any, opened_as, opened_existing}
 pub use Rattle.cedar_disk.specs.Openings.{opened_folder, opened_new, opened_to_read, path_of}
-pub use Rattle.cedar_disk.specs.Openings.{way_of}
+pub use Rattle.cedar_disk.specs.Openings.{was_opened, way_of}
 pub use Rattle.cedar_disk.specs.Runs.{AreWritten, AreWrittenInPart, HasCauseIn, IsAnswered}
 pub use Rattle.cedar_disk.specs.Runs.{IsUnplaced, Spoils, TimePasses, TookSome, write_by_outcome}
 pub use Rattle.cedar_disk.specs.Sending.{address, IsNoFile, IsSentTo, told_after}

@@ -3,48 +3,20 @@
 //! A failure that comes before the first write is told by a `NotBegun`. This is believed: that where one is made here, nothing was made for
 //! the path, or what was made is dropped, and so removed.
 
-ghost use Rattle.std.specs.Prelude.{◌≡◌, ◌++◌, ◌∷◌, [], IfErr, IfOk, Some};
+ghost use Rattle.std.specs.Prelude.{◌≡◌, ◌++◌, ◌∷◌, [], IfErr, IfOk, None, Some};
 ghost use Rattle.std.specs.Io.Buffered.{writer_buffer, writer_inner};
-ghost use Rattle.cedar_disk.specs.Beginnings.{not_begun_calls, unplaced_bytes};
+ghost use Rattle.cedar_disk.specs.Beginnings.{not_begun_calls, not_begun_opened, unplaced_bytes};
 ghost use Rattle.cedar_disk.specs.Beginnings.{unplaced_new, unplaced_path};
 ghost use Rattle.cedar_disk.specs.SpecialFiles.{special_told};
-ghost use Rattle.cedar_disk.specs.Words.{address, ForSome, not_begun};
+ghost use Rattle.cedar_disk.specs.Words.{address, ForSome, not_begun, was_opened};
 
 use crate::history::History;
-use crate::opening::OPENED_AT;
+use crate::not_begun::NotBegun;
 use crate::special::{Special, special_at};
 use crate::whole::NewFile;
 use std::alloc::Allocator;
 use std::io::{self, BufWriter, Write};
-use std::marker::PhantomData;
 use std::rt::Files;
-
-const NOT_BEGUN: u64 = 5;
-
-/// Why nothing was written at a path, among the files `F`: nothing was made there, or what was made is removed again, as far as the system
-/// allows that.
-#[derive(Drop)]
-pub struct NotBegun<F> {
-    /// The system's error. None if there was no memory for the buffer.
-    pub error: Option<io::Error>,
-    history: History,
-    among: PhantomData<F>,
-}
-
-impl<F> NotBegun<F> {
-    // Notes that nothing was begun at a path.
-    fn at(path: &str, error: Option<io::Error>) -> NotBegun<F>
-        ensures { not_begun_calls result ≡ not_begun path.now ∷ [] }
-    {
-        let mut history = History::new();
-        history.note(&[OPENED_AT, NOT_BEGUN, 0], path.as_bytes());
-        NotBegun {
-            error,
-            history,
-            among: PhantomData,
-        }
-    }
-}
 
 /// A new file, beside the one whose place it is to take. Where it is dropped it is removed, and nothing else.
 pub struct Unplaced<'a, F: Files> {
@@ -99,15 +71,19 @@ pub fn begin_beside<'a, F: Files, A: Allocator>(
     ensures buffer { IfOk result (λ new. writer_buffer new ≡ []) }
     //= What wasn't begun is noted at the path that was given. [also begin_special]
     ensures none { IfErr result (λ failed. not_begun_calls failed ≡ not_begun path.now ∷ []) }
+    //= Want of memory is told only where a new file was made, or something was opened that isn't a file: so never of an opening that failed.
+    //  [also begin_special]
+    ensures memory { IfErr result (λ failed. failed.error ≡ None → not_begun_opened failed ≡ was_opened ∷ []) }
 {
     match NewFile::beside(files, path) {
         Ok(file) => {
+            let opened = file.opening();
             match BufWriter::new(alloc, Unplaced { file }) {
                 Ok(new) => Ok(new),
-                Err(_) => Err(NotBegun::at(path, None)), // The file was dropped, and so removed.
+                Err(_) => Err(NotBegun::at(path, None, opened)), // The file was dropped, and so removed.
             }
         }
-        Err(error) => Err(NotBegun::at(path, Some(error))),
+        Err(error) => Err(NotBegun::at(path, Some(error), History::new())),
     }
 }
 
@@ -125,15 +101,17 @@ pub fn begin_special<F: Files, A: Allocator>(
     ensures told { IfOk result (λ found. ForSome found (λ special. special_told (writer_inner special) ≡ address path.now)) }
     ensures buffer { IfOk result (λ found. ForSome found (λ special. writer_buffer special ≡ [])) }
     ensures none { IfErr result (λ failed. not_begun_calls failed ≡ not_begun path.now ∷ []) }
+    ensures memory { IfErr result (λ failed. failed.error ≡ None → not_begun_opened failed ≡ was_opened ∷ []) }
 {
     match special_at(files, path) {
         Ok(Some(special)) => {
+            let opened = special.opening();
             match BufWriter::new(alloc, special) {
                 Ok(buffered) => Ok(Some(buffered)),
-                Err(_) => Err(NotBegun::at(path, None)),
+                Err(_) => Err(NotBegun::at(path, None, opened)),
             }
         }
         Ok(None) => Ok(None),
-        Err(error) => Err(NotBegun::at(path, Some(error))),
+        Err(error) => Err(NotBegun::at(path, Some(error), History::new())),
     }
 }

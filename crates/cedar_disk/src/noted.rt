@@ -18,11 +18,11 @@ ghost use Rattle.cedar_disk.specs.Words.{LiesIn, lock_call, MayLeave, Only, open
 ghost use Rattle.cedar_disk.specs.Words.{opened_new, path_of, way_of};
 ghost use Rattle.cedar_disk.specs.Words.{open_call, refused_call, rename_call, seen_after};
 ghost use Rattle.cedar_disk.specs.Words.{sync_call, took_name, TookSome, truncate_call};
-ghost use Rattle.cedar_disk.specs.Words.{write_by_outcome};
+ghost use Rattle.cedar_disk.specs.Words.{was_opened, write_by_outcome};
 
 use crate::history::History;
 use crate::names::compaction_beside;
-use crate::opening::{Folder, Found, OPENED_AT, Wanted, find_file, open_folder_of};
+use crate::opening::{Folder, Found, OPENED_AT, TO_WRITE, Wanted, find_file, open_folder_of};
 use crate::system::{is_file_itself, keep_owner, lock_file, read_all};
 use crate::wrote::Wrote;
 use crate::{LockFile, OpenError};
@@ -457,6 +457,15 @@ impl<F: Files> Noted<F> {
     {
         let answer = folder.sync();
         self.note_answer(NAMED, 0, &[], answer)
+    }
+
+    /// Notes that the file was opened, for whoever outlives it.
+    pub(crate) fn opening(&self) -> History
+        ensures { result.calls ≡ was_opened ∷ [] }
+    {
+        let mut opened = History::new();
+        opened.note(&[OPENED_AT, TO_WRITE, 1], &[]);
+        opened
     }
 
     /// Removes the file, which was made beside the one at a path.

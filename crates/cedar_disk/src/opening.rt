@@ -25,6 +25,8 @@ const TO_READ: u64 = 3;
 
 const FOLDER: u64 = 4;
 
+pub(crate) const TO_WRITE: u64 = 6;
+
 /// Which file an opening takes.
 #[derive(Clone, Copy, Debug, PartialEq, Eq)]
 pub(crate) enum Wanted {

@@ -1,9 +1,10 @@
 //! What was written to something that isn't a file, as it was noted.
 
-ghost use Rattle.std.specs.Prelude.{◌≡◌, ◌++◌, IfOk};
-ghost use Rattle.cedar_disk.specs.Words.{address, IsNoFile, told_after};
+ghost use Rattle.std.specs.Prelude.{◌≡◌, ◌++◌, ◌∷◌, [], IfOk};
+ghost use Rattle.cedar_disk.specs.Words.{address, IsNoFile, told_after, was_opened};
 
 use crate::history::History;
+use crate::opening::{OPENED_AT, TO_WRITE};
 use std::fs::Metadata;
 use std::io::{self, ErrorKind};
 use std::marker::PhantomData;
@@ -48,6 +49,15 @@ impl<F> Sent<F> {
         ensures { told_after (sent_calls self.new) ≡ told_after (sent_calls self.old) ++ bytes.now }
     {
         self.history.note(&[SENT, 0, 1], bytes);
+    }
+
+    /// Notes that it was opened, for whoever outlives it.
+    pub(crate) fn opening(&self) -> History
+        ensures { result.calls ≡ was_opened ∷ [] }
+    {
+        let mut opened = History::new();
+        opened.note(&[OPENED_AT, TO_WRITE, 1], &[]);
+        opened
     }
 
     /// Returns what the system said of it once it was open: it isn't a file.

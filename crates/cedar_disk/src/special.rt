@@ -3,10 +3,11 @@
 //! Nothing else in the crate writes to it. This is believed, as of `noted.rt`: that it is opened at the path that is noted, and that its
 //! bytes are those that a `write` takes.
 
-ghost use Rattle.std.specs.Prelude.{◌≡◌, IfOk, Some};
-ghost use Rattle.cedar_disk.specs.Words.{address, ForSome, told_after};
+ghost use Rattle.std.specs.Prelude.{◌≡◌, ◌∷◌, [], IfOk, Some};
+ghost use Rattle.cedar_disk.specs.Words.{address, ForSome, told_after, was_opened};
 ghost use Rattle.cedar_disk.specs.SpecialFiles.{sent_calls, special_told};
 
+use crate::history::History;
 use crate::sending::Sent;
 use std::fs::{self, OpenFile, OpenOptions};
 use std::io::{self, Write};
@@ -45,6 +46,13 @@ fn open_special<F: Files>(files: &F, path: &str) -> io::Result<Special<F>>
 }
 
 impl<F: Files> Special<F> {
+    /// Notes that it was opened, for whoever outlives it.
+    pub(crate) fn opening(&self) -> History
+        ensures { result.calls ≡ was_opened ∷ [] }
+    {
+        self.sent.opening()
+    }
+
     /// Closes it, and returns what was written to it.
     pub fn into_sent(self) -> Sent<F>
         //= Once it is closed, exactly what was written to it is known.

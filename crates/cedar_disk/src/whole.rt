@@ -5,10 +5,11 @@ ghost use Rattle.std.specs.Prelude.{length, OnOk, Some, true};
 ghost use Rattle.cedar_disk.specs.Words.{all_succeeded, asked_after, Keeps, LiesBeside, LiesIn};
 ghost use Rattle.cedar_disk.specs.Words.{is_usable_after, IsPlaced, IsWholeBeside, IsUnplacedAt};
 ghost use Rattle.cedar_disk.specs.Words.{open_call, opened_new, path_of};
-ghost use Rattle.cedar_disk.specs.Words.{seen_after, WriteAppends, WritesAtMost};
+ghost use Rattle.cedar_disk.specs.Words.{seen_after, was_opened, WriteAppends, WritesAtMost};
 ghost use Rattle.cedar_disk.specs.NotedFiles.{is_beside, made_as, noted_calls};
 ghost use Rattle.cedar_disk.specs.OpenedFiles.{folder_calls};
 
+use crate::history::History;
 use crate::names::{NAMES, PATH_LEN, name_beside};
 use crate::noted::{Noted, PathCalls, make_beside};
 use crate::opening::{Folder, open_folder_of};
@@ -110,6 +111,13 @@ impl<'a, F: Files> NewFile<'a, F> {
             return Err(self.remove_after(error));
         }
         self.take_place()
+    }
+
+    /// Notes that it was opened, for whoever outlives it.
+    pub(crate) fn opening(&self) -> History
+        ensures { result.calls ≡ was_opened ∷ [] }
+    {
+        self.file.opening()
     }
 
     /// Removes it: for a save that failed. Nothing else is touched. Returns what was done.
