@@ -1,9 +1,10 @@
 -- What a save by path did, and what one that failed did.
 use Rattle.std.specs.Prelude.{◌≡◌, ◌∷◌, [], ℕ, List, MatchOption}
-use Rattle.cedar_disk.specs.Beginnings.{not_begun_calls}
+use Rattle.cedar_disk.specs.Beginnings.{not_begun_calls, not_begun_opened}
 use Rattle.cedar_disk.specs.PathFiles.{path_calls}
+use Rattle.cedar_disk.specs.Calls.{Call}
 use Rattle.cedar_disk.specs.SpecialFiles.{sent_calls}
-use Rattle.cedar_disk.specs.Words.{IsPlaced, IsSentTo, IsUnplacedAt, not_begun}
+use Rattle.cedar_disk.specs.Words.{IsPlaced, IsSentTo, IsUnplacedAt, not_begun, was_opened}
 use Rattle.cedar_format.specs.declared.error.CedarPersistenceError.{CedarPersistenceError}
 use Rattle.cedar_format.specs.declared.error.CedarPersistenceError.TheVariants.{AllocationFailed, Io}
 use Rattle.cedar_format.specs.Reading.{IsIo}
@@ -31,10 +32,14 @@ IsUnsaved path bytes (unsaved.Sent sent) = Unit {0}
 abbrev pub IsUnsavedAt : {F : Type 0} → List ℕ → List ℕ → SaveFailed F → Type 0
 IsUnsavedAt path bytes failed = IsUnsaved path bytes failed.done
 
+-- there was no memory for the buffer of 8192 bytes of what was opened to be written to
+abbrev pub IsBufferless : List Call → CedarPersistenceError → Type 0
+IsBufferless opened e = (opened ≡ was_opened ∷ []) × (e ≡ AllocationFailed 8192)
+
 -- why a save by path failed, by what it did. Where nothing was begun: the system's error, or, if there is none, that there was no
--- memory for the buffer of 8192 bytes. Once something was made or opened there: an error of the system
+-- memory for the buffer (`IsBufferless`). Once something was made or opened there: an error of the system
 abbrev pub IsErrorOf : {F : Type 0} → Unsaved F → CedarPersistenceError → Type 0
-IsErrorOf (unsaved.NotBegun failed) e = MatchOption failed.error (e ≡ AllocationFailed 8192) (λ cause. e ≡ Io cause)
+IsErrorOf (unsaved.NotBegun failed) e = MatchOption failed.error (IsBufferless (not_begun_opened failed) e) (λ cause. e ≡ Io cause)
 IsErrorOf (unsaved.Made calls) e = IsIo e
 IsErrorOf (unsaved.Sent sent) e = IsIo e
 

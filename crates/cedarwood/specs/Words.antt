@@ -57,7 +57,8 @@ pub use Rattle.cedarwood.specs.OnTable.{dictionary_of, IsOnTable}
 pub use Rattle.cedarwood.specs.RangeWalks.{entries_between, entries_left_before, GivesBetween}
 pub use Rattle.cedarwood.specs.RangeWalks.{GivesRange, IsEnd, IsRangePlace}
 pub use Rattle.cedarwood.specs.Room.{LacksRoom, SetsSearchLimit}
-pub use Rattle.cedarwood.specs.Saves.{IsErrorOf, IsSavedAt, IsUnsaved, IsUnsavedAt, TellsError}
+pub use Rattle.cedarwood.specs.Saves.{IsBufferless, IsErrorOf, IsSavedAt, IsUnsaved, IsUnsavedAt}
+pub use Rattle.cedarwood.specs.Saves.{TellsError}
 pub use Rattle.cedarwood.specs.Saving.{FailsToWrite, PassesAgain}
 pub use Rattle.cedarwood.specs.Shown.{entry_error_text, error_text, refused_pair_text, shown_text}
 pub use Rattle.cedarwood.specs.Shrinking.{ArePlaces, entry_of, IsEntryPlace, IsMadeOf, IsPutBack}

@@ -87,8 +87,8 @@ impl<L: Layout, const SLOTS: usize, A: Allocator + Copy> Trie<L, SLOTS, A> {
         ensures err { IfErr result (λ failed. FailsToWrite failed.error) }
 
         //= Its error is that of what was done: of the system once something was made or opened there; and else the one that the `NotBegun`
-        //  has, or, where it has none, want of memory for the 8192 bytes of the buffer.
-        //  [also save_v1_0_to_path_noted; by TellsError, IsErrorOf]
+        //  has, or, where it has none, want of memory for the 8192 bytes of the buffer, once something was opened to be written to.
+        //  [also save_v1_0_to_path_noted; by TellsError, IsErrorOf, IsBufferless]
         ensures told { IfErr result TellsError }
         ensures file { OnOk result (IsTableFile 1 SLOTS self.now.table (table_bytes 1 self.now.table)) }
         ensures passes { OnOk result (PassesAgain L.kind SLOTS 1 self.now.table) }

@@ -2,12 +2,12 @@
 
 ghost use Rattle.std.specs.Prelude.{◌≡◌, [], IfErr, IfOk, MatchOption, OnOk};
 ghost use Rattle.std.specs.Io.Buffered.{writer_buffer, writer_inner};
-ghost use Rattle.cedar_disk.specs.Beginnings.{unplaced_bytes, unplaced_path};
+ghost use Rattle.cedar_disk.specs.Beginnings.{not_begun_opened, unplaced_bytes, unplaced_path};
 ghost use Rattle.cedar_disk.specs.PathFiles.{path_calls};
 ghost use Rattle.cedar_disk.specs.SpecialFiles.{sent_calls, special_told};
 ghost use Rattle.cedar_disk.specs.Words.{address, IsPlaced, IsSentTo};
-ghost use Rattle.cedarwood.specs.Words.{AllocationFailed, Appends, FailsToWrite, Io, IsSavedAt};
-ghost use Rattle.cedarwood.specs.Words.{IsTableFile, IsUnsavedAt, IsVersion, PassesAgain};
+ghost use Rattle.cedarwood.specs.Words.{AllocationFailed, Appends, FailsToWrite, Io, IsBufferless};
+ghost use Rattle.cedarwood.specs.Words.{IsSavedAt, IsTableFile, IsUnsavedAt, IsVersion, PassesAgain};
 ghost use Rattle.cedarwood.specs.Words.{table_bytes, TellsError};
 
 use crate::{CedarPersistenceError, Layout, SaveFailed, Saved, Trie, Unsaved, Watched};
@@ -194,7 +194,7 @@ fn put_in_place<F: Files>(whole: Unplaced<'_, F>) -> Result<PathCalls<F>, SaveFa
 /// Why nothing was begun, as an error of the dictionary's files.
 fn fault_of<F>(failed: &NotBegun<F>) -> CedarPersistenceError
     ensures err { FailsToWrite result }
-    ensures told { MatchOption failed.now.error (result ≡ AllocationFailed 8192) (λ cause. result ≡ Io cause) }
+    ensures told { MatchOption failed.now.error (IsBufferless (not_begun_opened failed.now) result) (λ cause. result ≡ Io cause) }
 {
     match &failed.error {
         Some(error) => CedarPersistenceError::Io(*error),
