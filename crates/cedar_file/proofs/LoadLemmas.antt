@@ -43,30 +43,32 @@ abbrev no_table : Fields → Fields
 no_table T = T
 
 -- a refusal keeps what a load promises
-pub refuses : {X : Type 0} (table_in : X → Fields) (kind : LayoutKind) (slots limit : ℕ) (before after : Option (List ℕ)) (failed : Bool) (e : CedarPersistenceError)
-    → IfSome before (λ bytes. failed ≡ false → LoadAnswers no_table kind slots limit bytes (Err e)) → (IsIo e → failed ≡ true) → LacksNoMore (Passes (layout_byte kind) slots limit before) e
-    → LoadsBy table_in kind slots limit before after failed (Err e)
-refuses table_in kind slots limit before after failed e answer io lacks = record { bytes = tt; formed = tt; answer = answer; io = io; lacks = lacks }
+pub refuses : {X : Type 0} (table_in : X → Fields) (kind : LayoutKind) (slots limit : ℕ) (before after : Option (List ℕ)) (failed cut : Bool) (e : CedarPersistenceError)
+    → IfSome before (λ bytes. failed ≡ false → LoadAnswers no_table kind slots limit bytes (Err e)) → ((IsIo e → ⊥) → IfSome before (λ bytes. cut ≡ false → LoadAnswers no_table kind slots limit bytes (Err e)))
+    → (IsIo e → failed ≡ true) → LacksNoMore (Passes (layout_byte kind) slots limit before) e
+    → LoadsBy table_in kind slots limit before after failed cut (Err e)
+refuses table_in kind slots limit before after failed cut e answer decided io lacks = record { bytes = tt; formed = tt; answer = answer; decided = decided; io = io; lacks = lacks }
 
 -- what was loaded is part of something else now, which has the same table
-pub stands_in : {X Y : Type 0} (table_in : X → Fields) (shown_in : Y → Fields) (kind : LayoutKind) (slots limit : ℕ) (before after : Option (List ℕ)) (failed : Bool) (x : X) (y : Y)
-    → table_in x ≡ shown_in y → LoadsBy table_in kind slots limit before after failed (Ok x) → LoadsBy shown_in kind slots limit before after failed (Ok y)
-stands_in table_in shown_in kind slots limit before after failed x y same loads = record {
+pub stands_in : {X Y : Type 0} (table_in : X → Fields) (shown_in : Y → Fields) (kind : LayoutKind) (slots limit : ℕ) (before after : Option (List ℕ)) (failed cut : Bool) (x : X) (y : Y)
+    → table_in x ≡ shown_in y → LoadsBy table_in kind slots limit before after failed cut (Ok x) → LoadsBy shown_in kind slots limit before after failed cut (Ok y)
+stands_in table_in shown_in kind slots limit before after failed cut x y same loads = record {
   bytes = (loads.bytes.0, loads.bytes.1, subst (λ T. Consumes before after (table_bytes loads.bytes.0 T)) same loads.bytes.2);
   formed = subst (IsWellFormed slots) same loads.formed;
-  answer = answered before loads.answer;
+  answer = answered failed before loads.answer;
+  decided = λ no_io. answered cut before (loads.decided no_io);
   io = tt;
   lacks = tt;
 }
   where
-    answered : (old : Option (List ℕ)) → IfSome old (λ bytes. failed ≡ false → LoadAnswers table_in kind slots limit bytes (Ok x)) → IfSome old (λ bytes. failed ≡ false → LoadAnswers shown_in kind slots limit bytes (Ok y))
-    answered None told = tt
-    answered (Some bytes) told = λ fine. subst (λ T. LoadAnswers (λ (one : Unit {0}). T) kind slots limit bytes (Ok tt)) same (told fine)
+    answered : (flag : Bool) (old : Option (List ℕ)) → IfSome old (λ bytes. flag ≡ false → LoadAnswers table_in kind slots limit bytes (Ok x)) → IfSome old (λ bytes. flag ≡ false → LoadAnswers shown_in kind slots limit bytes (Ok y))
+    answered flag None told = tt
+    answered flag (Some bytes) told = λ fine. subst (λ T. LoadAnswers (λ (one : Unit {0}). T) kind slots limit bytes (Ok tt)) same (told fine)
 
 -- a refusal is one whatever would have been loaded
-pub stays_refused : {X Y : Type 0} (table_in : X → Fields) (shown_in : Y → Fields) (kind : LayoutKind) (slots limit : ℕ) (before after : Option (List ℕ)) (failed : Bool) (e : CedarPersistenceError)
-    → LoadsBy table_in kind slots limit before after failed (Err e) → LoadsBy shown_in kind slots limit before after failed (Err e)
-stays_refused table_in shown_in kind slots limit before after failed e loads = record { bytes = tt; formed = tt; answer = loads.answer; io = loads.io; lacks = loads.lacks }
+pub stays_refused : {X Y : Type 0} (table_in : X → Fields) (shown_in : Y → Fields) (kind : LayoutKind) (slots limit : ℕ) (before after : Option (List ℕ)) (failed cut : Bool) (e : CedarPersistenceError)
+    → LoadsBy table_in kind slots limit before after failed cut (Err e) → LoadsBy shown_in kind slots limit before after failed cut (Err e)
+stays_refused table_in shown_in kind slots limit before after failed cut e loads = record { bytes = tt; formed = tt; answer = loads.answer; decided = loads.decided; io = loads.io; lacks = loads.lacks }
 
 module _ (kind : LayoutKind) (slots limit : ℕ) where
   -- what is refused before the table was made

@@ -32,12 +32,15 @@ LoadAnswers table kind slots limit bytes answer =
     ⊎ MatchOption (header_answer (layout_byte kind) slots limit bytes) (IsDecided table slots bytes answer) (λ r. refusal answer ≡ Some r)
 
 -- all that a load promises of a source that had `before` left and has `after` now. Whatever is loaded has the fields
--- that `table` says. `failed` is whether a read of the source has failed so far
-pub record LoadsBy {X : Type 0} (table : X → Fields) (kind : LayoutKind) (slots limit : ℕ) (before after : Option (List ℕ)) (failed : Bool) (result : Result X CedarPersistenceError) : Type 0 where
+-- that `table` says. `failed` is whether a read of the source has failed so far, `cut` whether one has
+-- returned the input's end as a fault
+pub record LoadsBy {X : Type 0} (table : X → Fields) (kind : LayoutKind) (slots limit : ℕ) (before after : Option (List ℕ)) (failed cut : Bool) (result : Result X CedarPersistenceError) : Type 0 where
   -- whatever the source does, a table comes only with exactly its bytes, and it is well-formed
   pub bytes : IfOk result (λ x. (version : ℕ) × IsVersion version × Consumes before after (table_bytes version (table x)))
   pub formed : IfOk result (λ x. IsWellFormed slots (table x))
   -- a source that reports its bytes and doesn't fail, as bytes in memory, gets the result that they decide
   pub answer : IfSome before (λ bytes. failed ≡ false → LoadAnswers table kind slots limit bytes result)
+  -- so does one that fails, unless the result is `Io`: what was read in between is as it was
+  pub decided : (IsErrAnd result IsIo → ⊥) → IfSome before (λ bytes. cut ≡ false → LoadAnswers table kind slots limit bytes result)
   pub io : IfErr result (λ e. IsIo e → failed ≡ true)
   pub lacks : IfErr result (LacksNoMore (Passes (layout_byte kind) slots limit before))

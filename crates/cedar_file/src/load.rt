@@ -37,9 +37,10 @@ pub fn load_table<
     //= A table is loaded only from exactly its bytes, and it is well-formed, whatever the reader does. [by bytes, formed, LoadsBy]
     //= If the reader's bytes are known and it doesn't fail, they decide the result: the table that they encode, or the first refusal; or a
     //  list found no room. [by answer]
+    //= If it fails, they decide the result too, unless that is `Io`, or a read returned an end of the input as a fault. [by decided]
     //= `Io` is returned only if the reader failed, and a lack of memory only if a list of a header that has passed found no room. [by io,
     //  lacks]
-    ensures loads { LoadsBy (λ t. fields t) L.kind SLOTS memory_limit (S.remaining reader.old) (S.remaining reader.new) (S.failed reader.new) result }
+    ensures loads { LoadsBy (λ t. fields t) L.kind SLOTS memory_limit (S.remaining reader.old) (S.remaining reader.new) (S.failed reader.new) (S.cut reader.new) result }
 
     //= If a read was broken off, by a fault that is neither an end of the input nor an interruption, the result is neither a table nor
     //  `Truncated`. [by TellsBreaks]

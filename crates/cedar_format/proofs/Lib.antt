@@ -13,6 +13,7 @@ pub mod FileTable
 pub mod Writing
 pub mod Passing
 pub mod Missing
+pub mod HeaderPrefix
 pub mod HeaderReading
 pub mod Decoding
 pub mod Lacking

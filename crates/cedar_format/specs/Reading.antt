@@ -16,6 +16,10 @@ Misses left failed n (Io cause) = failed ≡ true
 Misses left failed n Truncated = failed ≡ false → EndsWithin left n
 Misses left failed n _ = ⊥
 
+-- an end of the input was returned since fewer than n bytes were left, unless a read returned the end as a fault (`cut`)
+abbrev pub EndsShort : Option (List ℕ) → Bool → ℕ → CedarPersistenceError → Type 0
+EndsShort left cut n e = e ≡ Truncated → cut ≡ false → EndsWithin left n
+
 -- the error is `Io`: the device failed
 abbrev pub IsIo : CedarPersistenceError → Type 0
 IsIo (Io cause) = ⊤

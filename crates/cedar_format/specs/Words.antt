@@ -9,8 +9,8 @@ pub use Rattle.cedar_format.specs.Format.{need, Passes, size_refusal, tables_len
 pub use Rattle.cedar_format.specs.Format.{u16_at, u64_at, version_refusal}
 pub use Rattle.cedar_format.specs.Numbers.{i16_bytes, i32_bytes, IsI16, IsI32, length-i16_bytes}
 pub use Rattle.cedar_format.specs.Numbers.{length-i32_bytes, u16_bytes, u64_bytes}
-pub use Rattle.cedar_format.specs.Reading.{EndsWithin, IsIo, IsLack, LacksTable, Misses, ReadsBy}
-pub use Rattle.cedar_format.specs.Reading.{ReadsRecords, TellsBreaks, Trails}
+pub use Rattle.cedar_format.specs.Reading.{EndsShort, EndsWithin, IsIo, IsLack, LacksTable, Misses}
+pub use Rattle.cedar_format.specs.Reading.{ReadsBy, ReadsRecords, TellsBreaks, Trails}
 pub use Rattle.cedar_format.specs.Records.{block_bytes, decoded_bytes, FitsBlock, FitsBody}
 pub use Rattle.cedar_format.specs.Records.{FitsInfo, FitsNode, info_bytes, node_bytes}
 pub use Rattle.cedar_format.specs.Refusal.{AllocationFailed, InvalidHeader, refusal, refusal_of}
@@ -21,6 +21,7 @@ pub use Rattle.cedar_slots.specs.Blocks.{blank_block}
 pub use Rattle.cedar_slots.specs.Places.{IsSlotLimit}
 pub use Rattle.cedar_slots.specs.Slots.{blank_info, blank_node}
 pub use Rattle.device_lines.specs.WatchedDevice.{device_of, DeviceAppends, has_failed, is_broken}
+pub use Rattle.device_lines.specs.WatchedDevice.{is_cut}
 pub use Rattle.std.proofs.Common.{length-append, rules}
 pub use Rattle.std.specs.Fmt.{DisplaysOnOk}
 pub use Rattle.std.specs.Io.{ReadsAtMost, WritesAtMost}

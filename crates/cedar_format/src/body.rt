@@ -4,7 +4,7 @@ ghost use Rattle.std.specs.Prelude.{◌*◌, ◌+◌, ◌/◌, ◌<◌, ◌^◌,
 ghost use Rattle.std.specs.Prelude.{length, OnOk, true, vec_capacity};
 ghost use Rattle.cedar_format.specs.Words.{blank_block, blank_info, blank_node, body_len, Consumes};
 ghost use Rattle.cedar_format.specs.Words.{CountsWithin, decoded_bytes, DecodesBy, DeviceAppends};
-ghost use Rattle.cedar_format.specs.Words.{filled_bytes, filled_list, FitsBody, FitsFilled};
+ghost use Rattle.cedar_format.specs.Words.{EndsShort, filled_bytes, filled_list, FitsBody, FitsFilled};
 ghost use Rattle.cedar_format.specs.Words.{has_failed, IsAtEnd, IsIo, IsSlotLimit, LacksTable};
 ghost use Rattle.cedar_format.specs.Words.{Misses, need, Passes, tables_len, TellsBreaks, Trails};
 
@@ -85,6 +85,7 @@ fn read_lists<S: Source, A: Allocator>(
     ensures fits { IfOk result (λ d. FitsBody d.nodes.items d.n_infos.items d.blocks.items d.reject.items) }
     ensures len { IfOk result (λ d. length (decoded_bytes d) ≡ body_len tables.header) }
     ensures misses { IfErr result (Misses (S.remaining reader.old) (S.failed reader.new) (body_len tables.header)) }
+    ensures short { IfErr result (EndsShort (S.remaining reader.old) (S.cut reader.new) (body_len tables.header)) }
     ensures failed { S.failed reader.old ≡ true → S.failed reader.new ≡ true }
     ensures told { TellsBreaks (S.broken reader.old) (S.broken reader.new) result }
 {
@@ -147,6 +148,8 @@ fn read_end<S: Source>(reader: &mut S) -> Result<(), CedarPersistenceError>
     ensures bytes { OnOk result (Consumes (S.remaining reader.old) (S.remaining reader.new) []) }
     ensures ended { OnOk result (S.failed reader.new ≡ false → IsAtEnd (S.remaining reader.old)) }
     ensures at_end { OnOk result (S.failed reader.new ≡ false → IsAtEnd (S.remaining reader.new)) }
+    ensures whole { OnOk result (S.cut reader.new ≡ false → IsAtEnd (S.remaining reader.old)) }
+    ensures at_whole { OnOk result (S.cut reader.new ≡ false → IsAtEnd (S.remaining reader.new)) }
     ensures trailing { IfErr result (Trails (S.remaining reader.old) (S.failed reader.new)) }
     ensures failed { S.failed reader.old ≡ true → S.failed reader.new ≡ true }
     ensures told { TellsBreaks (S.broken reader.old) (S.broken reader.new) result }
@@ -188,10 +191,12 @@ pub fn decode<S: Source, A: Allocator + Copy>(
     //= The result is the first refusal in the stated order; or, once the header has passed, that a list found no room, with its number of
     //  elements. [also decode_counted; by answer]
     //= After a success no input is left, if the reader has not failed. [also decode_counted; by at_end]
+    //= Whatever fails, the same holds unless the result is `Io`, or a read returned an end of the input as a fault. [also decode_counted; by
+    //  decided, whole]
     //= A lack of memory is reported only with the number of elements of one of the four lists of a header that has passed, even if the
     //  reader fails. [also decode_counted; by lacks]
     //= `Io` is returned only if the reader failed, now or before. [also decode_counted; by io]
-    ensures decodes { DecodesBy layout slots memory_limit (S.remaining reader.old) (S.remaining reader.new) (S.failed reader.new) result }
+    ensures decodes { DecodesBy layout slots memory_limit (S.remaining reader.old) (S.remaining reader.new) (S.failed reader.new) (S.cut reader.new) result }
 
     //= If a read was broken off, the result is neither a success nor `Truncated`. [also decode_counted, read_header, read_u8, read_u16,
     //  read_i16, read_i32, read_u64, read_usize; by TellsBreaks]
@@ -213,7 +218,7 @@ fn decode_uncounted<C: Ledger, S: Source, A: Allocator + Copy>(
     requires name { blank.name ≡ C.name }
     requires parts { blank.parts ≡ C.parts }
     requires some { 0 < blank.parts }
-    ensures decodes { DecodesBy layout slots memory_limit (S.remaining reader.old) (S.remaining reader.new) (S.failed reader.new) result }
+    ensures decodes { DecodesBy layout slots memory_limit (S.remaining reader.old) (S.remaining reader.new) (S.failed reader.new) (S.cut reader.new) result }
     ensures told { TellsBreaks (S.broken reader.old) (S.broken reader.new) result }
 {
     let mut asked = Ticks::<C>::new(blank);
@@ -235,7 +240,7 @@ pub fn decode_counted<S: Source, A: Allocator + Copy, C: Ledger>(
 ) -> Result<Decoded<A>, CedarPersistenceError>
     requires slots { IsSlotLimit slots }
 
-    ensures decodes { DecodesBy layout slots memory_limit (S.remaining reader.old) (S.remaining reader.new) (S.failed reader.new) result }
+    ensures decodes { DecodesBy layout slots memory_limit (S.remaining reader.old) (S.remaining reader.new) (S.failed reader.new) (S.cut reader.new) result }
     ensures told { TellsBreaks (S.broken reader.old) (S.broken reader.new) result }
 
     //= By its count nothing is requested from the allocator before the header has passed, and after that at most the need that was tested;

@@ -1,7 +1,7 @@
 //! The header of a file.
 
 ghost use Rattle.std.specs.Prelude.{◌+◌, ◌<◌, ◌^◌, ◌≡◌, ◌≢◌, ◌≤◌, ◌⊎◌, Err, false, IfErr, IfNone};
-ghost use Rattle.std.specs.Prelude.{IfOk, IfSome, IsSome, length, List, nat_eq, Ok, OnOk};
+ghost use Rattle.std.specs.Prelude.{IfOk, IfSome, IsErrAnd, IsSome, length, List, nat_eq, Ok, OnOk};
 ghost use Rattle.std.specs.Prelude.{slice_index, take, true, ℕ};
 ghost use Rattle.cedar_format.specs.Words.{Consumes, DeviceAppends, error_kind, FitsHeader};
 ghost use Rattle.cedar_format.specs.Words.{has_failed, header_at, header_bytes, header_refusal};
@@ -204,9 +204,10 @@ pub(crate) fn parse_header(bytes: &[u8], layout: u8) -> Result<Header, CedarPers
 
 /// Reads a header of this layout.
 pub fn read_header<S: Source>(reader: &mut S, layout: u8) -> Result<Header, CedarPersistenceError>
-    //= A header is read from exactly its bytes, and its refusal is the first one, never a lack of memory. [with refusal, io, room]
+    //= A header is read from exactly its bytes, and its refusal is the first one, never a lack of memory. [with refusal, decided, io, room]
     ensures bytes { IfOk result (λ h. (bytes : List ℕ) × Consumes (S.remaining reader.old) (S.remaining reader.new) bytes × IsHeader layout bytes h) }
     ensures refusal { IfSome (S.remaining reader.old) (λ bytes. S.failed reader.new ≡ false → refusal result ≡ header_refusal layout (take 88 bytes)) }
+    ensures decided { (IsErrAnd result IsIo → ⊥) → IfSome (S.remaining reader.old) (λ bytes. S.cut reader.new ≡ false → refusal result ≡ header_refusal layout (take 88 bytes)) }
     ensures io { IfErr result (λ e. IsIo e → S.failed reader.new ≡ true) }
     ensures room { IfErr result (λ e. IsLack e → ⊥) }
     ensures failed { S.failed reader.old ≡ true → S.failed reader.new ≡ true }

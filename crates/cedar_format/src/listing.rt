@@ -2,8 +2,8 @@
 
 ghost use Rattle.std.specs.Prelude.{◌*◌, ◌++◌, ◌+◌, ◌≡◌, ◌≤◌, [], All, flat_map, IfErr, length};
 ghost use Rattle.std.specs.Prelude.{OnOk, replicate, true, vec_capacity, vec_len};
-ghost use Rattle.cedar_format.specs.Words.{Consumes, DeviceAppends, filled_list, has_failed, IsIo};
-ghost use Rattle.cedar_format.specs.Words.{Misses, ReadsRecords, TellsBreaks};
+ghost use Rattle.cedar_format.specs.Words.{Consumes, DeviceAppends, EndsShort, filled_list};
+ghost use Rattle.cedar_format.specs.Words.{has_failed, IsIo, Misses, ReadsRecords, TellsBreaks};
 
 use crate::buffer::BUFFER_LEN;
 use crate::error::CedarPersistenceError;
@@ -28,6 +28,7 @@ pub(crate) fn read_records<S: Source, T: Record, A: Allocator>(
     ensures fits { OnOk result (All T.Fits records.new.items) }
     ensures len { OnOk result (length (flat_map T.bytes_of records.new.items) ≡ count * T.LEN) }
     ensures misses { IfErr result (Misses (S.remaining reader.old) (S.failed reader.new) (count * T.LEN)) }
+    ensures short { IfErr result (EndsShort (S.remaining reader.old) (S.cut reader.new) (count * T.LEN)) }
     ensures failed { S.failed reader.old ≡ true → S.failed reader.new ≡ true }
     ensures told { TellsBreaks (S.broken reader.old) (S.broken reader.new) result }
 {
@@ -55,6 +56,7 @@ fn read_piece<S: Source, T: Record, A: Allocator>(
     ensures bytes { OnOk result (ReadsRecords T.bytes_of (S.remaining reader.old) (S.remaining reader.new) records.old.items records.new.items) }
     ensures fits { OnOk result (All T.Fits records.new.items) }
     ensures misses { IfErr result (Misses (S.remaining reader.old) (S.failed reader.new) (count * T.LEN)) }
+    ensures short { IfErr result (EndsShort (S.remaining reader.old) (S.cut reader.new) (count * T.LEN)) }
     ensures failed { S.failed reader.old ≡ true → S.failed reader.new ≡ true }
     ensures told { TellsBreaks (S.broken reader.old) (S.broken reader.new) result }
 {

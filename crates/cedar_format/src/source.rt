@@ -2,9 +2,9 @@
 
 ghost use Rattle.std.specs.Prelude.{◌<◌, ◌≡◌, ◌≢◌, ◌≤◌, Bool, false, IfErr, IfNone, IfSome, length};
 ghost use Rattle.std.specs.Prelude.{List, OnOk, OnSome, Option, Some, take, true, ℕ};
-ghost use Rattle.cedar_format.specs.Words.{Consumes, device_of, error_kind, has_failed, Io};
-ghost use Rattle.cedar_format.specs.Words.{is_broken, IsAtEnd, IsLack, Misses, TellsBreaks};
-ghost use Rattle.cedar_format.specs.Words.{Truncated};
+ghost use Rattle.cedar_format.specs.Words.{Consumes, device_of, EndsShort, error_kind, has_failed};
+ghost use Rattle.cedar_format.specs.Words.{Io, is_broken, is_cut, IsAtEnd, IsLack, Misses};
+ghost use Rattle.cedar_format.specs.Words.{TellsBreaks, Truncated};
 
 use crate::buffer::take_bytes;
 use crate::error::CedarPersistenceError;
@@ -26,6 +26,9 @@ pub trait Source {
     /// Whether a read has been broken off so far, by a fault that is neither an end of the input nor an interruption.
     ghost broken: { Self → Bool };
 
+    /// Whether a read returned the input's end as a fault so far.
+    ghost cut: { Self → Bool };
+
     /// Fills the buffer.
     ///
     /// # Errors
@@ -34,6 +37,10 @@ pub trait Source {
         //= A `Source` fills a buffer with exactly the bytes that it had left, or its reading failed, or too few were left. [with misses]
         ensures bytes { OnOk result (Consumes (remaining self.old) (remaining self.new) buf.new) }
         ensures misses { IfErr result (Misses (remaining self.old) (failed self.new) (length buf.old)) }
+
+        //= An end of the input is where the bytes end, unless a read returned it as a fault. [also read_available.ended.cuts; by
+        //  EndsShort]
+        ensures short { IfErr result (EndsShort (remaining self.old) (cut self.new) (length buf.old)) }
 
         //= A device that has failed stays failed. [also read_available, write_lists.failed, read_header.failed, write_header.failed,
         //  write_i16.failed, write_i32.failed, write_usize.failed]
@@ -54,7 +61,8 @@ pub trait Source {
         ensures short { OnSome result.1 (result.0 < length buf.new) }
         ensures stays { failed self.old ≡ true → failed self.new ≡ true }
         ensures whole { IfNone result.1 (broken self.new ≡ broken self.old) }
-        ensures early { IfSome result.1 (λ e. error_kind e ≡ ErrorKind.UnexpectedEof → broken self.new ≡ broken self.old) };
+        ensures early { IfSome result.1 (λ e. error_kind e ≡ ErrorKind.UnexpectedEof → broken self.new ≡ broken self.old) }
+        ensures cuts { IfSome result.1 (λ e. error_kind e ≡ ErrorKind.UnexpectedEof → cut self.new ≡ true) };
 }
 
 impl Source for &[u8] {
@@ -63,6 +71,8 @@ impl Source for &[u8] {
     ghost failed = { λ bytes. false };
 
     ghost broken = { λ bytes. false };
+
+    ghost cut = { λ bytes. false };
 
     fn fill(&mut self, buf: &mut [u8]) -> Result<(), CedarPersistenceError> {
         if self.len() < buf.len() {
@@ -85,6 +95,8 @@ impl<R: Read> Source for Watched<R> {
     ghost failed = { has_failed };
 
     ghost broken = { is_broken };
+
+    ghost cut = { is_cut };
 
     fn fill(&mut self, buf: &mut [u8]) -> Result<(), CedarPersistenceError> {
         match self.read_exact(buf) {
@@ -115,6 +127,7 @@ impl<R: Read> Source for Watched<R> {
 /// Returns the error for a fault of the reader: its own end of input is an end of input.
 pub(crate) fn fault_of(error: io::Error) -> CedarPersistenceError
     ensures end { error_kind error ≡ ErrorKind.UnexpectedEof → result ≡ Truncated }
+    ensures only { result ≡ Truncated → error_kind error ≡ ErrorKind.UnexpectedEof }
     ensures other { error_kind error ≢ ErrorKind.UnexpectedEof → result ≡ Io error }
     ensures room { IsLack result → ⊥ }
 {

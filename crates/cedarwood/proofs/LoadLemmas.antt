@@ -1,5 +1,5 @@
 -- What was saved is loaded again, and what was loaded is saved again.
-use Rattle.std.proofs.Common.{◌≡◌, ◌⊎◌, ◌∙◌, ℕ, ◌≤◌, Bool, List, [], ◌∷◌, Option, Some, None, Result, Ok, Err, IfErr, ap, inl, inr, refl, sym, subst}
+use Rattle.std.proofs.Common.{◌≡◌, ◌⊎◌, ◌∙◌, ℕ, ◌≤◌, Bool, false, List, [], ◌∷◌, Option, Some, None, Result, Ok, Err, IfErr, ap, inl, inr, refl, sym, subst}
 use Rattle.std.specs.Prelude.{◌==◌, if◌then◌else◌, IfOk, IsErrAnd, MatchOption}
 use Rattle.std.specs.Io.KnownBytes.{prepend_known}
 use Rattle.std.specs.Io.Buffered.{reader_buffer, reader_capacity, reader_inner, reader_remaining}
@@ -87,9 +87,10 @@ file_left remaining reader buffered file same inner empty full =
     ∙ ap remaining inner
 
 -- a load behind a buffer is one of the file
-pub loads_opened : (kind : LayoutKind) (slots limit : ℕ) (before left after : Option (List ℕ)) (failed : Bool) (result : Result Dictionary CedarPersistenceError) → before ≡ left
-    → LoadsBy table_in kind slots limit before after failed result → LoadsOpened table_in kind slots limit left result
-loads_opened kind slots limit before left after failed result same loads = inr (after, failed, subst (λ o. LoadsBy table_in kind slots limit o after failed result) same loads)
+pub loads_opened : (kind : LayoutKind) (slots limit : ℕ) (before left after : Option (List ℕ)) (failed cut : Bool) (result : Result Dictionary CedarPersistenceError) → before ≡ left → cut ≡ false
+    → LoadsBy table_in kind slots limit before after failed cut result → LoadsOpened table_in kind slots limit left result
+loads_opened kind slots limit before left after failed cut result same uncut loads =
+    inr (inr (after, failed, subst (λ b. LoadsBy table_in kind slots limit left after failed b result) uncut (subst (λ o. LoadsBy table_in kind slots limit o after failed cut result) same loads)))
 
 -- a load by path is one of the file that was opened
 pub loads_from : {F T : Type 0} (kind : LayoutKind) (slots limit : ℕ) (remaining : T → Option (List ℕ)) (path : List ℕ) (opened : FileToRead F T) (file : T) (result : Result Dictionary CedarPersistenceError)
@@ -106,11 +107,27 @@ unopened kind slots limit remaining path (Err e) gives told io = inl (subst IsIo
 pub opened_formed : (kind : LayoutKind) (slots limit : ℕ) (left : Option (List ℕ)) (result : Result Dictionary CedarPersistenceError) → LoadsOpened table_in kind slots limit left result
     → IfOk result (λ d. IsWellFormed slots d.table)
 opened_formed kind slots limit left (Ok d) (inl lacks) = absurd lacks
-opened_formed kind slots limit left (Ok d) (inr loads) = loads.2.formed
+opened_formed kind slots limit left (Ok d) (inr (inl io)) = absurd io
+opened_formed kind slots limit left (Ok d) (inr (inr loads)) = loads.2.formed
 opened_formed kind slots limit left (Err e) loads = tt
+
+-- `Io` is no want of memory
+pub io_lacks : (layout slots limit : ℕ) (e : CedarPersistenceError) → IsIo e → LacksByPath layout slots limit e
+io_lacks layout slots limit (errors.Io cause) io = inr tt
+io_lacks layout slots limit errors.Truncated io = absurd io
+io_lacks layout slots limit errors.InvalidMagic io = absurd io
+io_lacks layout slots limit errors.TrailingData io = absurd io
+io_lacks layout slots limit (errors.UnsupportedVersion a b) io = absurd io
+io_lacks layout slots limit (errors.UnsupportedByteOrder a) io = absurd io
+io_lacks layout slots limit (errors.LayoutMismatch a b) io = absurd io
+io_lacks layout slots limit (errors.InvalidHeader a b) io = absurd io
+io_lacks layout slots limit (errors.AllocationLimitExceeded a b) io = absurd io
+io_lacks layout slots limit (errors.AllocationFailed n) io = absurd io
+io_lacks layout slots limit (errors.CorruptData a b i) io = absurd io
 
 pub opened_lacks : (kind : LayoutKind) (slots limit : ℕ) (left : Option (List ℕ)) (result : Result Dictionary CedarPersistenceError) → LoadsOpened table_in kind slots limit left result
     → IfErr result (LacksByPath (layout_byte kind) slots limit)
 opened_lacks kind slots limit left (Ok d) loads = tt
 opened_lacks kind slots limit left (Err e) (inl lacks) = inl lacks
-opened_lacks kind slots limit left (Err e) (inr loads) = lacks_by_path (layout_byte kind) slots limit left e loads.2.lacks
+opened_lacks kind slots limit left (Err e) (inr (inl io)) = io_lacks (layout_byte kind) slots limit e io
+opened_lacks kind slots limit left (Err e) (inr (inr loads)) = lacks_by_path (layout_byte kind) slots limit left e loads.2.lacks

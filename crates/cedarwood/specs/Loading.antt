@@ -1,5 +1,5 @@
 -- What a load of a dictionary returns: of a table, as `cedar_file` says it, and what is a dictionary's own.
-use Rattle.std.specs.Prelude.{◌≡◌, ◌≤◌, ◌⊎◌, ℕ, Bool, List, None, Option, Result, Ok, IsErrAnd}
+use Rattle.std.specs.Prelude.{◌≡◌, ◌≤◌, ◌⊎◌, ℕ, Bool, false, List, None, Option, Result, Ok, IsErrAnd}
 use Rattle.std.specs.Result.{IsOkAnd}
 use Rattle.cedar_model.specs.Table.Layouts.{LayoutKind, layout_byte}
 use Rattle.cedar_model.specs.Table.TableFields.{Fields}
@@ -17,12 +17,13 @@ pub use Rattle.cedar_file.specs.Loading.{IsDecided, LacksMemory, LoadAnswers, Lo
 abbrev pub LacksByPath : ℕ → ℕ → ℕ → CedarPersistenceError → Type 0
 LacksByPath layout slots limit e = (e ≡ AllocationFailed 8192) ⊎ LacksNoMore (Passes layout slots limit None) e
 
--- what a load promises of an open file that had `before` left: as of a reader (`LoadsBy`), or there was no memory for
--- the buffer of 8192 bytes
+-- what a load promises of an open file that had `before` left: there was no memory for the buffer of 8192 bytes, or the
+-- file couldn't be read, and the result is `Io`; or it is what a load promises of a reader (`LoadsBy`) whose reads have
+-- returned no end of the input as a fault, so that the file's bytes decide it (`decided`)
 abbrev pub LoadsOpened : {X : Type 0} → (X → Fields) → LayoutKind → ℕ → ℕ → Option (List ℕ) → Result X CedarPersistenceError → Type 0
 LoadsOpened table kind slots limit before result =
     IsErrAnd result (λ e. e ≡ AllocationFailed 8192)
-    ⊎ ((after : Option (List ℕ)) × (failed : Bool) × LoadsBy table kind slots limit before after failed result)
+    ⊎ (IsErrAnd result IsIo ⊎ ((after : Option (List ℕ)) × (failed : Bool) × LoadsBy table kind slots limit before after failed false result))
 
 -- what a load by path promises: the system hasn't opened the file, or a file was opened at this path among the files F, and
 -- the load does with what was left in it what it promises of an open file (`LoadsOpened`)

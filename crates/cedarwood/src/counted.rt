@@ -47,7 +47,7 @@ pub(crate) trait Counted<A: Allocator + Copy> {
         reads: &mut Ticks<D>,
     ) -> Result<Self, CedarPersistenceError>
         requires { IsLimit slots }
-        ensures loads { LoadsBy table kind slots memory_limit (S.remaining reader.old) (S.remaining reader.new) (S.failed reader.new) result }
+        ensures loads { LoadsBy table kind slots memory_limit (S.remaining reader.old) (S.remaining reader.new) (S.failed reader.new) (S.cut reader.new) result }
         ensures told { TellsBreaks (S.broken reader.old) (S.broken reader.new) result }
         ensures unbounded { IfOk result (λ loaded. search_limit loaded ≡ no_search_limit) };
 }
@@ -125,7 +125,7 @@ pub(crate) fn load_uncounted<C: Ledger, D: Ledger, T: Counted<A>, A: Allocator +
     requires limit { IsLimit T.slots }
     requires asked_blank { IsBlankOf C.name C.parts asked_blank }
     requires reads_blank { IsBlankOf D.name D.parts reads_blank }
-    ensures loads { LoadsBy T.table T.kind T.slots memory_limit (S.remaining reader.old) (S.remaining reader.new) (S.failed reader.new) result }
+    ensures loads { LoadsBy T.table T.kind T.slots memory_limit (S.remaining reader.old) (S.remaining reader.new) (S.failed reader.new) (S.cut reader.new) result }
     ensures told { TellsBreaks (S.broken reader.old) (S.broken reader.new) result }
     ensures unbounded { IfOk result (λ loaded. T.search_limit loaded ≡ no_search_limit) }
 {

@@ -20,6 +20,10 @@ has_failed w = w.failed
 abbrev pub is_broken : {D : Type 0} → Watched D → Bool
 is_broken w = w.broken
 
+-- whether one of its reads returned an end of the input as a fault so far
+abbrev pub is_cut : {D : Type 0} → Watched D → Bool
+is_cut w = w.cut
+
 -- a write of these bytes returned a fault, or took none of some bytes
 abbrev pub is_write_fault : {E : Type 0} → Result ℕ E → List ℕ → Bool
 is_write_fault (Ok n) bytes = n == 0 && not (length bytes == 0)

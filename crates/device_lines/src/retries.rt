@@ -5,7 +5,7 @@
 ghost use Rattle.std.specs.Prelude.{◌||◌, ◌≡◌, ◌≢◌, false, IfErr, is_err, length};
 ghost use Rattle.std.specs.Prelude.{OnErr, OnOk, true};
 ghost use Rattle.device_lines.specs.Words.{Appends, Consumes, device_of, EndsWithin, error_kind};
-ghost use Rattle.device_lines.specs.Words.{has_failed, is_broken, is_write_fault, Keeps};
+ghost use Rattle.device_lines.specs.Words.{has_failed, is_broken, is_cut, is_write_fault, Keeps};
 ghost use Rattle.device_lines.specs.Words.{ReadConsumes, ReadsAtMost, WriteAppends, WritesAtMost};
 
 use crate::watched::Watched;
@@ -29,6 +29,9 @@ impl<R: Read> Read for Watched<R> {
         ensures interrupted { IfErr result (λ e. error_kind e ≡ ErrorKind.Interrupted → is_broken self.new ≡ is_broken self.old) }
         ensures early { IfErr result (λ e. error_kind e ≡ ErrorKind.UnexpectedEof → is_broken self.new ≡ is_broken self.old) }
         ensures broken { IfErr result (λ e. error_kind e ≢ ErrorKind.Interrupted → error_kind e ≢ ErrorKind.UnexpectedEof → is_broken self.new ≡ true) }
+        ensures kept { OnOk result (is_cut self.new ≡ is_cut self.old) }
+        ensures sound { IfErr result (λ e. error_kind e ≢ ErrorKind.UnexpectedEof → is_cut self.new ≡ is_cut self.old) }
+        ensures cut { IfErr result (λ e. error_kind e ≡ ErrorKind.UnexpectedEof → is_cut self.new ≡ true) }
     {
         self.read_once(buf)
     }
@@ -46,6 +49,12 @@ impl<R: Read> Read for Watched<R> {
         ensures whole { OnOk result (is_broken self.new ≡ is_broken self.old) }
         ensures early { IfErr result (λ e. error_kind e ≡ ErrorKind.UnexpectedEof → is_broken self.new ≡ is_broken self.old) }
         ensures broken { IfErr result (λ e. error_kind e ≢ ErrorKind.Interrupted → error_kind e ≢ ErrorKind.UnexpectedEof → is_broken self.new ≡ true) }
+        ensures kept { OnOk result (is_cut self.new ≡ is_cut self.old) }
+        ensures sound { IfErr result (λ e. error_kind e ≢ ErrorKind.UnexpectedEof → is_cut self.new ≡ is_cut self.old) }
+
+        //= A `read_exact` that returns an end of the input has found fewer bytes than its buffer takes, unless a read returned that end as
+        //  a fault.
+        ensures short { IfErr result (λ e. error_kind e ≡ ErrorKind.UnexpectedEof → is_cut self.new ≡ false → EndsWithin (R.remaining (device_of self.old)) (length buf.old)) }
     {
         let mut filled = 0;
         let mut tries = u64::MAX;

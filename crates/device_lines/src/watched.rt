@@ -2,8 +2,8 @@
 
 ghost use Rattle.std.specs.Prelude.{◌||◌, ◌≡◌, ◌≢◌, false, IfErr, is_err, OnOk, true};
 ghost use Rattle.device_lines.specs.Words.{device_of, error_kind, has_failed, is_broken};
-ghost use Rattle.device_lines.specs.Words.{is_write_fault, Keeps, ReadConsumes, ReadsAtMost};
-ghost use Rattle.device_lines.specs.Words.{WriteAppends, WritesAtMost};
+ghost use Rattle.device_lines.specs.Words.{is_cut, is_write_fault, Keeps, ReadConsumes};
+ghost use Rattle.device_lines.specs.Words.{ReadsAtMost, WriteAppends, WritesAtMost};
 
 use std::io;
 use std::io::{ErrorKind, Read, Write};
@@ -17,6 +17,7 @@ pub struct Watched<D> {
     device: D,
     failed: bool,
     broken: bool,
+    cut: bool,
 }
 
 impl<D> Watched<D> {
@@ -30,17 +31,22 @@ impl<D> Watched<D> {
         //  interruption, and a call of a whole buffer only by such a `read`. [also read.whole.interrupted.early.broken,
         //  read_exact.whole.early.broken]
         ensures whole { is_broken result ≡ false }
+
+        //= `cut()` is false at first; a `read` sets it exactly if it returns an end of the input as a fault, of the kind
+        //  `UnexpectedEof`, and a call of a whole buffer only by such a `read`. [also read.kept.sound.cut, read_exact.kept.sound]
+        ensures uncut { is_cut result ≡ false }
     {
         Watched {
             device,
             failed: false,
             broken: false,
+            cut: false,
         }
     }
 
     /// Returns whether a call failed, or a write of some bytes took none.
     pub fn failed(&self) -> bool
-        //= `failed` and `broken` return these two flags. [also broken]
+        //= `failed`, `broken` and `cut` return these three flags. [also broken, cut]
         ensures { result ≡ has_failed self.now }
     {
         self.failed
@@ -51,6 +57,14 @@ impl<D> Watched<D> {
         ensures { result ≡ is_broken self.now }
     {
         self.broken
+    }
+
+    /// Returns whether a read returned the input's end as a fault, of the kind `UnexpectedEof`. Only such a reader can stop in front
+    /// of its end without a call that is broken off.
+    pub fn cut(&self) -> bool
+        ensures { result ≡ is_cut self.now }
+    {
+        self.cut
     }
 
     /// Returns the device.
@@ -74,17 +88,23 @@ impl<R: Read> Watched<R> {
         ensures interrupted { IfErr result (λ e. error_kind e ≡ ErrorKind.Interrupted → is_broken self.new ≡ is_broken self.old) }
         ensures early { IfErr result (λ e. error_kind e ≡ ErrorKind.UnexpectedEof → is_broken self.new ≡ is_broken self.old) }
         ensures broken { IfErr result (λ e. error_kind e ≢ ErrorKind.Interrupted → error_kind e ≢ ErrorKind.UnexpectedEof → is_broken self.new ≡ true) }
+        ensures kept { OnOk result (is_cut self.new ≡ is_cut self.old) }
+        ensures sound { IfErr result (λ e. error_kind e ≢ ErrorKind.UnexpectedEof → is_cut self.new ≡ is_cut self.old) }
+        ensures cut { IfErr result (λ e. error_kind e ≡ ErrorKind.UnexpectedEof → is_cut self.new ≡ true) }
     {
         let Watched {
             device,
             failed,
             broken,
+            cut,
         } = self;
         let taken = device.read(buf);
         if let Err(error) = &taken {
             *failed = true;
             let kind = error.kind();
-            if kind != ErrorKind::Interrupted && kind != ErrorKind::UnexpectedEof {
+            if kind == ErrorKind::UnexpectedEof {
+                *cut = true;
+            } else if kind != ErrorKind::Interrupted {
                 *broken = true;
             }
         }
@@ -99,6 +119,7 @@ impl<W: Write> Watched<W> {
         ensures bytes { WriteAppends (W.contents (device_of self.old)) (W.contents (device_of self.new)) result buf.now }
         ensures failed { has_failed self.new ≡ (has_failed self.old || is_write_fault result buf.now) }
         ensures whole { is_broken self.new ≡ is_broken self.old }
+        ensures kept { is_cut self.new ≡ is_cut self.old }
     {
         let Watched { device, failed, .. } = self;
         let written = device.write(buf);
@@ -115,6 +136,7 @@ impl<W: Write> Watched<W> {
         ensures bytes { Keeps (W.contents (device_of self.old)) (W.contents (device_of self.new)) }
         ensures failed { has_failed self.new ≡ (has_failed self.old || is_err result) }
         ensures whole { is_broken self.new ≡ is_broken self.old }
+        ensures kept { is_cut self.new ≡ is_cut self.old }
     {
         let Watched { device, failed, .. } = self;
         let flushed = device.flush();

@@ -33,13 +33,14 @@ abbrev pub NamesLayout : LayoutKind → Option (List ℕ) → Type 0
 NamesLayout kind known = IfSome known (λ bytes. kind ≡ file_layout bytes)
 
 -- what a load of either layout promises of an open file that had `before` left: there was no memory for the buffer of
--- 8192 bytes, or the first bytes couldn't be read; or it is what a load of one layout promises of a reader (`LoadsBy`), of
--- the layout that these bytes name (`NamesLayout`), and what was loaded is of that layout
+-- 8192 bytes, or the file couldn't be read, and the result is `Io`; or it is what a load of one layout promises of a reader
+-- (`LoadsBy`), of the layout that these bytes name (`NamesLayout`), and what was loaded is of that layout. No read has
+-- returned an end of the input as a fault then, so that the file's bytes decide it (`decided`)
 abbrev pub LoadsAnyOpened : ℕ → Option (List ℕ) → Result AnyCedar CedarPersistenceError → Type 0
 LoadsAnyOpened limit before result =
     IsErrAnd result (λ e. e ≡ AllocationFailed 8192) ⊎ (IsErrAnd result IsIo
     ⊎ ((kind : LayoutKind) × NamesLayout kind before × IfOk result (λ a. inner_layout a ≡ kind)
-    × ((after : Option (List ℕ)) × (failed : Bool) × LoadsBy table_in kind most_slots limit before after failed result)))
+    × ((after : Option (List ℕ)) × (failed : Bool) × LoadsBy table_in kind most_slots limit before after failed false result)))
 
 -- what a load of either layout by path promises: the system hasn't opened the file, or a file was opened at this path among
 -- the files F, and the load does with what was left in it what it promises of an open file (`LoadsAnyOpened`)

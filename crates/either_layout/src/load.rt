@@ -11,7 +11,8 @@ use crate::AnyCedar;
 use cedar_disk::open_to_read;
 use cedarwood::{Cedar, CedarPersistenceError, Layout, ReducedCedar, Source, Trie, Watched};
 use std::alloc::Global;
-use std::io::{BufReader, Cursor, Read};
+use std::io;
+use std::io::{BufReader, Cursor, ErrorKind, Read};
 use std::rt::Files;
 
 /// Where a file has the byte of its layout.
@@ -54,7 +55,7 @@ impl AnyCedar {
     ) -> Result<AnyCedar, CedarPersistenceError>
         //= A load of a named layout loads what the dictionary's own load of that layout does, and fails as that does. [with told; by LoadsBy,
         //  TellsBreaks]
-        ensures loads { LoadsBy table_in (layout_for is_reduced) most_slots memory_limit (S.remaining reader.old) (S.remaining reader.new) (S.failed reader.new) result }
+        ensures loads { LoadsBy table_in (layout_for is_reduced) most_slots memory_limit (S.remaining reader.old) (S.remaining reader.new) (S.failed reader.new) (S.cut reader.new) result }
         ensures told { TellsBreaks (S.broken reader.old) (S.broken reader.new) result }
 
         //= Nothing bounds the searches of a dictionary that was loaded. [also load_any, load_any_from_path]
@@ -87,7 +88,7 @@ impl AnyCedar {
     ) -> Result<AnyCedar, CedarPersistenceError>
         //= A load of any file's bytes is that of the layout that the file names: the default one, unless its byte names the reduced one. What
         //  is loaded is of that layout. [with layout; by LoadsBy, file_layout]
-        ensures loads { (left : Option (List ℕ)) × LoadsBy table_in (file_layout bytes.now) most_slots memory_limit (Some bytes.now) left false result }
+        ensures loads { (left : Option (List ℕ)) × LoadsBy table_in (file_layout bytes.now) most_slots memory_limit (Some bytes.now) left false false result }
         ensures layout { IfOk result (λ a. inner_layout a ≡ file_layout bytes.now) }
         ensures unbounded { IfOk result (λ a. (inner_dictionary a).search_limit ≡ no_search_limit) }
     {
@@ -121,10 +122,11 @@ impl AnyCedar {
         ensures formed { IfOk result (λ a. IsWellFormed most_slots (table_in a)) }
         ensures lacks { IfErr result (LacksInEither memory_limit) }
 
-        //= What a load of either layout by path returns comes from a file that it has opened at just that path, among the files that it was
-        //  given: from its first byte on it is what `load_any` makes of its bytes, as far as they are known, and of the layout that they
-        //  name. Or the load is refused, and no clause says that it had to be: nobody has the file then. No contract of the system's files
-        //  says which bytes these are. [by LoadsAnyFrom, LoadsAnyOpened, LoadsBy, NamesLayout]
+        //= A load of either layout by path has opened a file at just that path, among the files that it was given, and returns what `load_any`
+        //  makes of that file's bytes, from the first to the last, as far as they are known: of the layout that they name, under the limit
+        //  that the load was given. Or there was no memory for the buffer; or the system hasn't opened the file, or a read of it failed, and
+        //  the load returns `Io`. No contract of the system's files says which bytes these are. [by LoadsAnyFrom, LoadsAnyOpened, LoadsBy,
+        //  decided, NamesLayout]
         ensures loads { LoadsAnyFrom F memory_limit F.File.remaining path.now result }
         ensures unbounded { IfOk result (λ a. (inner_dictionary a).search_limit ≡ no_search_limit) }
     {
@@ -133,7 +135,8 @@ impl AnyCedar {
     }
 
     /// Loads the dictionary that was saved in a file that is open, of the layout that its first 14 bytes name. They are read first, and then
-    /// once more as what comes before the others.
+    /// once more as what comes before the others. A file ends where a read of it returns nothing: one that returns an end of the input as
+    /// a fault may have bytes left.
     fn load_opened<R: Read + Drop>(
         alloc: Global,
         file: R,
@@ -160,7 +163,12 @@ impl AnyCedar {
         }
         let is_reduced = names_reduced(&head);
         let mut whole = Watched::new(Cursor::new(head).chain(reader.into_inner()));
-        AnyCedar::load_as(alloc, is_reduced, &mut whole, memory_limit)
+        let loaded = AnyCedar::load_as(alloc, is_reduced, &mut whole, memory_limit);
+        let cut = whole.cut();
+        if cut {
+            return Err(CedarPersistenceError::Io(io::Error::from(ErrorKind::UnexpectedEof)));
+        }
+        loaded
     }
 }
 
@@ -172,7 +180,7 @@ fn load_bytes<L: Layout, const SLOTS: usize>(
     memory_limit: usize,
 ) -> Result<Trie<L, SLOTS, Global>, CedarPersistenceError>
     requires limit { IsLimit SLOTS }
-    ensures loads { (left : Option (List ℕ)) × LoadsBy (λ trie. trie.table) L.kind SLOTS memory_limit (Some bytes.now) left false result }
+    ensures loads { (left : Option (List ℕ)) × LoadsBy (λ trie. trie.table) L.kind SLOTS memory_limit (Some bytes.now) left false false result }
     ensures unbounded { IfOk result (λ trie. trie.search_limit ≡ no_search_limit) }
 {
     let mut left = bytes;

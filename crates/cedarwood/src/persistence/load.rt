@@ -39,11 +39,13 @@ impl<L: Layout, const SLOTS: usize, A: Allocator + Copy> Trie<L, SLOTS, A> {
         //  header and length. Otherwise it returns the dictionary whose table the bytes are in one of the versions, or that they are of no
         //  well-formed table in any; or, once the header has passed, that a list found no room. [also load_from_reader_with_limit,
         //  load_from_reader; by answer, LoadAnswers]
+        //= From a reader that fails, too, its bytes decide the result, unless that is `Io`, or a read returned an end of the input as a
+        //  fault. [also load_from_reader_with_limit, load_from_reader; by decided]
         //= A load returns `Io` only if the reader failed, now or before, and so never from bytes in memory. [also
         //  load_from_reader_with_limit, load_from_reader; by io]
         //= Lack of memory is reported only with the number of elements of one of the four lists of a header that has passed, even if the
         //  reader fails. [also load_from_reader_with_limit, load_from_reader; by lacks, LacksNoMore]
-        ensures loads { LoadsBy (λ trie. trie.table) L.kind SLOTS memory_limit (S.remaining reader.old) (S.remaining reader.new) (S.failed reader.new) result }
+        ensures loads { LoadsBy (λ trie. trie.table) L.kind SLOTS memory_limit (S.remaining reader.old) (S.remaining reader.new) (S.failed reader.new) (S.cut reader.new) result }
 
         //= If a read was broken off, a load returns neither a dictionary nor `Truncated`. [also load_from_reader_with_limit,
         //  load_from_reader; by TellsBreaks]
@@ -82,7 +84,7 @@ impl<L: Layout, const SLOTS: usize, A: Allocator + Copy> Trie<L, SLOTS, A> {
         memory_limit: usize,
     ) -> Result<Self, CedarPersistenceError>
         requires limit { IsLimit SLOTS }
-        ensures loads { LoadsBy (λ trie. trie.table) L.kind SLOTS memory_limit (S.remaining reader.old) (S.remaining reader.new) (S.failed reader.new) result }
+        ensures loads { LoadsBy (λ trie. trie.table) L.kind SLOTS memory_limit (S.remaining reader.old) (S.remaining reader.new) (S.failed reader.new) (S.cut reader.new) result }
         ensures told { TellsBreaks (S.broken reader.old) (S.broken reader.new) result }
         ensures unbounded { IfOk result (λ trie. trie.search_limit ≡ no_search_limit) }
     {
@@ -113,7 +115,7 @@ impl<L: Layout, const SLOTS: usize, A: Allocator + Copy> Trie<L, SLOTS, A> {
         reader: &mut S,
     ) -> Result<Self, CedarPersistenceError>
         requires limit { IsLimit SLOTS }
-        ensures loads { LoadsBy (λ trie. trie.table) L.kind SLOTS default_load_limit (S.remaining reader.old) (S.remaining reader.new) (S.failed reader.new) result }
+        ensures loads { LoadsBy (λ trie. trie.table) L.kind SLOTS default_load_limit (S.remaining reader.old) (S.remaining reader.new) (S.failed reader.new) (S.cut reader.new) result }
         ensures told { TellsBreaks (S.broken reader.old) (S.broken reader.new) result }
         ensures unbounded { IfOk result (λ trie. trie.search_limit ≡ no_search_limit) }
     {

@@ -14,7 +14,8 @@ use crate::{
 use cedar_disk::open_to_read;
 use cedar_format::{FULL_MINOR, MINOR};
 use std::alloc::Allocator;
-use std::io::{BufReader, Read};
+use std::io;
+use std::io::{BufReader, ErrorKind, Read};
 use std::rt::Files;
 
 impl<L: Layout, const SLOTS: usize, A: Allocator + Copy> Trie<L, SLOTS, A> {
@@ -172,10 +173,11 @@ impl<L: Layout, const SLOTS: usize, A: Allocator + Copy> Trie<L, SLOTS, A> {
         //  the limit that the load was given. [also load_from_path; by LacksByPath]
         ensures lacks { IfErr result (LacksByPath (layout_byte L.kind) SLOTS memory_limit) }
 
-        //= A load by path has opened a file at just that path, among the files that it was given, and does with it, from its first byte on,
-        //  what a load from a reader promises: a dictionary comes only with just the bytes of its table in that file, as far as they are
-        //  known, and these decide the result; or there was no memory for the buffer. Or the system hasn't opened it, and the load returns
-        //  `Io`. No contract of the system's files says which bytes these are. [also load_from_path; by LoadsFrom, LoadsOpened]
+        //= A load by path has opened a file at just that path, among the files that it was given, and the bytes of that file decide the
+        //  result, from the first to the last, as far as they are known, and as for bytes in memory: a dictionary comes only with just the
+        //  bytes of its table, and a refusal is the one that they give, under the limit that the load was given. Or there was no memory for
+        //  the buffer; or the system hasn't opened the file, or a read of it failed, and the load returns `Io`. No contract of the system's
+        //  files says which bytes these are. [also load_from_path; by LoadsFrom, LoadsOpened, decided]
         ensures loads { LoadsFrom F (λ trie. trie.table) L.kind SLOTS memory_limit F.File.remaining path.now result }
         ensures unbounded { IfOk result (λ trie. trie.search_limit ≡ no_search_limit) }
     {
@@ -183,7 +185,8 @@ impl<L: Layout, const SLOTS: usize, A: Allocator + Copy> Trie<L, SLOTS, A> {
         Self::load_opened(alloc, opened.into_file(), memory_limit)
     }
 
-    /// Loads the dictionary that was saved in a file that is open.
+    /// Loads the dictionary that was saved in a file that is open. A file ends where a read of it returns nothing: one that returns an
+    /// end of the input as a fault may have bytes left.
     fn load_opened<R: Read + Drop>(
         alloc: A,
         file: R,
@@ -197,7 +200,12 @@ impl<L: Layout, const SLOTS: usize, A: Allocator + Copy> Trie<L, SLOTS, A> {
             return Err(no_room());
         };
         let mut reader = Watched::new(buffered);
-        Self::load_from_reader_with_limit(alloc, &mut reader, memory_limit)
+        let loaded = Self::load_from_reader_with_limit(alloc, &mut reader, memory_limit);
+        let cut = reader.cut();
+        if cut {
+            return Err(CedarPersistenceError::Io(io::Error::from(ErrorKind::UnexpectedEof)));
+        }
+        loaded
     }
 
     /// `load_from_path_with_limit` with the default limit, 2^29 bytes.

@@ -1,4 +1,4 @@
-use Rattle.std.proofs.Common.{sym, ◌/◌, ◌≡◌, ◌∙◌, append-nil, ap, subst}
+use Rattle.std.proofs.Common.{Bool, sym, ◌/◌, ◌≡◌, ◌∙◌, append-nil, ap, subst}
 use Rattle.std.proofs.lemmas.Result.{err_from_is_err_and}
 use Rattle.std.proofs.KnownBytes.{Consumes-trans}
 use Rattle.std.specs.Io.KnownBytes.{Consumes}
@@ -8,7 +8,7 @@ use Rattle.cedar_slots.specs.Blocks.{blank_block}
 use Rattle.cedar_slots.specs.Slots.{blank_info, blank_node}
 use Rattle.cedar_format.proofs.FilledFile.{filled_file, listed_again}
 use Rattle.cedar_format.proofs.Asking.{asks_within, passes}
-use Rattle.cedar_format.proofs.Decoding.{refuses, wrong_header, wrong_sizes, no_memory, short_body, long_file, whole_file}
+use Rattle.cedar_format.proofs.Decoding.{long_file, misses_unless, no_memory, refuses, short_body, trails_unless, whole_file, wrong_header, wrong_sizes}
 use Rattle.cedar_format.proofs.Lacking.{missed, missed_io, no_lack, table_lacks, table_no_io, trailed, trailed_io}
 use Rattle.cedar_format.proofs.body.decode_counted.Goals as goal
 
@@ -16,15 +16,15 @@ pub returns-in_err-header-clause-decodes : goal.returns-in_err-header-clause-dec
 returns-in_err-header-clause-decodes g c =
     let told = c.in_err-header.ensures in
     let p = err_from_is_err_and c.from_residual.result c.from_residual.ensures.1 in
-    rw (p.1, p.2) (refuses c.args.layout c.args.slots c.args.memory_limit _ _ _ _ (wrong_header c.args.layout c.args.slots c.args.memory_limit _ _ _ told.refusal) told.io (no_lack _ _ told.room))
+    rw (p.1, p.2) (refuses c.args.layout c.args.slots c.args.memory_limit _ _ _ _ _ (wrong_header c.args.layout c.args.slots c.args.memory_limit _ _ _ told.refusal) (λ no_io. wrong_header c.args.layout c.args.slots c.args.memory_limit _ _ _ (told.decided no_io)) told.io (no_lack _ _ told.room))
 
 pub returns-in_err-check_sizes-clause-decodes : goal.returns-in_err-check_sizes-clause-decodes
 returns-in_err-check_sizes-clause-decodes g c =
     let read = c.in_ok-header.ensures.bytes in
     let wrong = c.in_err-check_sizes.ensures in
     let p = err_from_is_err_and c.from_residual-in_err-check_sizes.result c.from_residual-in_err-check_sizes.ensures.1 in
-    let answer = wrong_sizes c.args.layout c.args.slots c.args.memory_limit read.0 _ read.2 _ _ _ _ read.1 wrong.refusal in
-    rw (p.1, p.2) (refuses c.args.layout c.args.slots c.args.memory_limit _ _ _ _ answer (λ io. absurd (wrong.io io)) (no_lack _ _ wrong.room))
+    let answer = λ (flag : Bool). wrong_sizes c.args.layout c.args.slots c.args.memory_limit read.0 _ read.2 _ _ flag _ read.1 wrong.refusal in
+    rw (p.1, p.2) (refuses c.args.layout c.args.slots c.args.memory_limit _ _ _ _ _ (answer _) (λ no_io. answer _) (λ io. absurd (wrong.io io)) (no_lack _ _ wrong.room))
 
 pub returns-in_err-empty-clause-decodes : goal.returns-in_err-empty-clause-decodes
 returns-in_err-empty-clause-decodes g c =
@@ -32,25 +32,27 @@ returns-in_err-empty-clause-decodes g c =
     let sizes = sym c.in_ok-check_sizes.ensures.refusal in
     let lacks = c.in_err-empty.ensures.err in
     let p = err_from_is_err_and c.from_residual-in_err-empty.result c.from_residual-in_err-empty.ensures.1 in
-    let answer = no_memory c.args.layout c.args.slots c.args.memory_limit read.0 _ read.2 _ _ _ _ read.1 sizes lacks in
+    let answer = λ (flag : Bool). no_memory c.args.layout c.args.slots c.args.memory_limit read.0 _ read.2 _ _ flag _ read.1 sizes lacks in
     let header = passes c.args.layout c.args.slots c.args.memory_limit read.0 _ _ _ read.2 sizes read.1 in
-    rw (p.1, p.2) (refuses c.args.layout c.args.slots c.args.memory_limit _ _ _ _ answer (λ io. absurd (table_no_io c.in_ok-header.header _ lacks io)) (table_lacks _ c.in_ok-header.header _ header lacks))
+    rw (p.1, p.2) (refuses c.args.layout c.args.slots c.args.memory_limit _ _ _ _ _ (answer _) (λ no_io. answer _) (λ io. absurd (table_no_io c.in_ok-header.header _ lacks io)) (table_lacks _ c.in_ok-header.header _ header lacks))
 
 pub returns-in_err-lists-clause-decodes : goal.returns-in_err-lists-clause-decodes
 returns-in_err-lists-clause-decodes g c =
     let read = c.in_ok-header.ensures.bytes in
     let misses = c.in_err-lists.ensures.misses in
     let p = err_from_is_err_and c.from_residual-in_err-lists.result c.from_residual-in_err-lists.ensures.1 in
-    let answer = short_body c.args.layout c.args.slots c.args.memory_limit read.0 _ read.2 _ _ _ _ c.in_ok-empty.empty.header c.in_ok-empty.ensures.header read.1 (sym c.in_ok-check_sizes.ensures.refusal) misses in
-    rw (p.1, p.2) (refuses c.args.layout c.args.slots c.args.memory_limit _ _ _ _ answer (missed_io _ _ _ _ misses) (missed _ _ _ _ _ misses))
+    rw (p.1, p.2) (refuses c.args.layout c.args.slots c.args.memory_limit _ _ _ _ _ (short_body c.args.layout c.args.slots c.args.memory_limit read.0 _ read.2 _ _ _ _ c.in_ok-empty.empty.header c.in_ok-empty.ensures.header read.1 (sym c.in_ok-check_sizes.ensures.refusal) misses)
+    (λ no_io. (short_body c.args.layout c.args.slots c.args.memory_limit read.0 _ read.2 _ _ _ _ c.in_ok-empty.empty.header c.in_ok-empty.ensures.header read.1 (sym c.in_ok-check_sizes.ensures.refusal) (misses_unless _ _ _ _ _ misses c.in_err-lists.ensures.short no_io)))
+    (missed_io _ _ _ _ misses) (missed _ _ _ _ _ misses))
 
 pub returns-in_err-read_end-clause-decodes : goal.returns-in_err-read_end-clause-decodes
 returns-in_err-read_end-clause-decodes g c =
     let read = c.in_ok-header.ensures.bytes in
     let trails = c.in_err-read_end.ensures.trailing in
     let p = err_from_is_err_and c.from_residual-in_err-read_end.result c.from_residual-in_err-read_end.ensures.1 in
-    let answer = long_file c.args.layout c.args.slots c.args.memory_limit read.0 _ read.2 _ _ _ _ _ _ read.1 c.in_ok-lists.ensures.bytes (c.in_ok-lists.ensures.len ∙ ap body_len c.in_ok-empty.ensures.header) (sym c.in_ok-check_sizes.ensures.refusal) trails in
-    rw (p.1, p.2) (refuses c.args.layout c.args.slots c.args.memory_limit _ _ _ _ answer (trailed_io _ _ _ trails) (trailed _ _ _ _ trails))
+    rw (p.1, p.2) (refuses c.args.layout c.args.slots c.args.memory_limit _ _ _ _ _ (long_file c.args.layout c.args.slots c.args.memory_limit read.0 _ read.2 _ _ _ _ _ _ read.1 c.in_ok-lists.ensures.bytes (c.in_ok-lists.ensures.len ∙ ap body_len c.in_ok-empty.ensures.header) (sym c.in_ok-check_sizes.ensures.refusal) trails)
+    (λ no_io. (long_file c.args.layout c.args.slots c.args.memory_limit read.0 _ read.2 _ _ _ _ _ _ read.1 c.in_ok-lists.ensures.bytes (c.in_ok-lists.ensures.len ∙ ap body_len c.in_ok-empty.ensures.header) (sym c.in_ok-check_sizes.ensures.refusal) (trails_unless _ _ _ _ trails no_io)))
+    (trailed_io _ _ _ trails) (trailed _ _ _ _ trails))
 
 pub returns-clause-decodes : goal.returns-clause-decodes
 returns-clause-decodes g c =
@@ -76,14 +78,15 @@ returns-clause-decodes g c =
     tables.nodes.items tables.n_infos.items tables.blocks.items tables.reject.items nodes infos blocks filled_lists.reject in
     let spelled : body_bytes lists.nodes.items lists.n_infos.items lists.blocks.items lists.reject.items ≡ listed_bytes (listed_in tables.header) tables.nodes.items tables.n_infos.items tables.blocks.items tables.reject.items =
     again ∙ ap (λ h. listed_bytes (listed_in h) tables.nodes.items tables.n_infos.items tables.blocks.items tables.reject.items) (sym of_tables) in
-    let whole = whole_file c.args.layout c.args.slots c.args.memory_limit read.0 _ read.2 _ _ _ _ _ read.1 read_lists.bytes (read_lists.len ∙ ap body_len of_empty) sizes c.in_ok-read_end.ensures.ended in
     let file = filled_file c.args.slots c.args.memory_limit c.in_ok-header.header sizes
     lists.nodes.items lists.n_infos.items lists.blocks.items lists.reject.items nodes_len infos_len blocks_len reject_len
     tables.nodes.items tables.n_infos.items tables.blocks.items tables.reject.items nodes infos blocks filled_lists.reject read_lists.fits in record {
       bytes = (read.0, subst (λ h. IsHeader c.args.layout read.0 h) (sym of_tables) read.2, Consumes-trans _ _ _ _ _ read.1 (subst (Consumes _ _) (append-nil _ ∙ spelled) body));
       file = subst (λ h. IsFile c.args.slots c.args.memory_limit h tables.nodes.items tables.n_infos.items tables.blocks.items tables.reject.items) (sym of_tables) file;
-      answer = whole;
+      answer = whole_file c.args.layout c.args.slots c.args.memory_limit read.0 _ read.2 _ _ _ _ _ read.1 read_lists.bytes (read_lists.len ∙ ap body_len of_empty) sizes c.in_ok-read_end.ensures.ended;
       at_end = c.in_ok-read_end.ensures.at_end;
+      decided = λ no_io. whole_file c.args.layout c.args.slots c.args.memory_limit read.0 _ read.2 _ _ _ _ _ read.1 read_lists.bytes (read_lists.len ∙ ap body_len of_empty) sizes c.in_ok-read_end.ensures.whole;
+      whole = c.in_ok-read_end.ensures.at_whole;
       io = tt;
       lacks = tt;
     }

@@ -12,7 +12,7 @@ load_table-requires g c = let limit : IsSlotLimit g.row.SLOTS = limit_of g.row.S
 pub returns-in_err-table-clause-loads : goal.returns-in_err-table-clause-loads
 returns-in_err-table-clause-loads g c =
     let p = err_from_is_err_and c.from_residual.result c.from_residual.ensures.1 in
-    rw (p.1, p.2) (stays_refused (λ t. fields t) (λ trie. trie.table) g.L.Layout.kind g.row.SLOTS c.args.memory_limit _ _ _ _ c.in_err-table.ensures.loads)
+    rw (p.1, p.2) (stays_refused (λ t. fields t) (λ trie. trie.table) g.L.Layout.kind g.row.SLOTS c.args.memory_limit _ _ _ _ _ c.in_err-table.ensures.loads)
 
 pub returns-clause-loads : goal.returns-clause-loads
-returns-clause-loads g c = stands_in (λ t. fields t) (λ trie. trie.table) g.L.Layout.kind g.row.SLOTS c.args.memory_limit _ _ _ c.in_ok-table.table _ refl c.in_ok-table.ensures.loads
+returns-clause-loads g c = stands_in (λ t. fields t) (λ trie. trie.table) g.L.Layout.kind g.row.SLOTS c.args.memory_limit _ _ _ _ c.in_ok-table.table _ refl c.in_ok-table.ensures.loads

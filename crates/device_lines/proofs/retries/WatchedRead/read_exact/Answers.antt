@@ -9,4 +9,5 @@ loop-filled-preserved-in-Ok g c = record {
   consumed = filled_more _ _ _ c.loop-filled.buf c.read_once.new.buf c.loop-filled.filled c.in-Ok.count c.loop-filled.invariant.within (search rules) c.loop-filled.invariant.consumed c.in-Ok.ensures.bytes.0;
   failed = search rules;
   broken = search rules;
+  cut = search rules;
 }

@@ -9,6 +9,7 @@ invariant-loop-filled g l = record {
   consumed : Consumes (g.R.Read.remaining l.initial.self.device) (g.R.Read.remaining l.self.device) (take l.filled l.buf);
   failed : l.initial.self.failed ≡ true → l.self.failed ≡ true;
   broken : l.self.broken ≡ l.initial.self.broken;
+  cut : l.self.cut ≡ l.initial.self.cut;
 }
 
 abbrev pub decreases-loop-filled : goal.decreases-loop-filled

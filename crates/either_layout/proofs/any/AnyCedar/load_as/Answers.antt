@@ -6,20 +6,20 @@ use Rattle.either_layout.proofs.any.AnyCedar.load_as.Goals as goal
 
 pub returns-in-Ok-clause-loads : goal.returns-in-Ok-clause-loads
 returns-in-Ok-clause-loads g c =
-    loads_either c.args.memory_limit _ _ _ c.args.is_reduced reduced_layout (ap layout_for (sym c.if-is_reduced.true)) c.in-Ok.cedar _ refl c.in-Ok.ensures.loads
+    loads_either c.args.memory_limit _ _ _ _ c.args.is_reduced reduced_layout (ap layout_for (sym c.if-is_reduced.true)) c.in-Ok.cedar _ refl c.in-Ok.ensures.loads
 
 pub returns-in-Err-clause-loads : goal.returns-in-Err-clause-loads
 returns-in-Err-clause-loads g c =
-    refused_either c.args.memory_limit _ _ _ c.args.is_reduced reduced_layout (ap layout_for (sym c.if-is_reduced.true)) c.in-Err.error c.in-Err.ensures.loads
+    refused_either c.args.memory_limit _ _ _ _ c.args.is_reduced reduced_layout (ap layout_for (sym c.if-is_reduced.true)) c.in-Err.error c.in-Err.ensures.loads
 
 pub returns-in-Ok-load_from_reader_with_limit-clause-loads : goal.returns-in-Ok-load_from_reader_with_limit-clause-loads
 returns-in-Ok-load_from_reader_with_limit-clause-loads g c =
-    loads_either c.args.memory_limit _ _ _ c.args.is_reduced default_layout (ap layout_for (sym c.if-is_reduced.false)) c.in-Ok-load_from_reader_with_limit.cedar _ refl
+    loads_either c.args.memory_limit _ _ _ _ c.args.is_reduced default_layout (ap layout_for (sym c.if-is_reduced.false)) c.in-Ok-load_from_reader_with_limit.cedar _ refl
     c.in-Ok-load_from_reader_with_limit.ensures.loads
 
 pub returns-in-Err-load_from_reader_with_limit-clause-loads : goal.returns-in-Err-load_from_reader_with_limit-clause-loads
 returns-in-Err-load_from_reader_with_limit-clause-loads g c =
-    refused_either c.args.memory_limit _ _ _ c.args.is_reduced default_layout (ap layout_for (sym c.if-is_reduced.false)) c.in-Err-load_from_reader_with_limit.error
+    refused_either c.args.memory_limit _ _ _ _ c.args.is_reduced default_layout (ap layout_for (sym c.if-is_reduced.false)) c.in-Err-load_from_reader_with_limit.error
     c.in-Err-load_from_reader_with_limit.ensures.loads
 
 pub returns-in-Ok-clause-told : goal.returns-in-Ok-clause-told

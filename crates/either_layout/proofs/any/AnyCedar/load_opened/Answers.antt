@@ -1,4 +1,4 @@
-use Rattle.std.proofs.Common.{◌≡◌, ◌∙◌, ◌<◌, ◌≤◌, List, ℕ, Option, Some, ap, inl, inr, length, refl, rules, subst, take}
+use Rattle.std.proofs.Common.{◌≡◌, ◌∙◌, ◌<◌, ◌≤◌, List, ℕ, Option, Some, ap, inl, inr, length, refl, rules, subst, sym, take}
 use Rattle.std.proofs.lemmas.List.{take_all}
 use Rattle.std.specs.Io.Buffered.{reader_remaining}
 use Rattle.std.specs.Io.Chain.{chain_remaining}
@@ -21,13 +21,13 @@ returns-then-count-lt-HEAD_LEN-clause-loads g c =
     loads_short c.args.memory_limit _ _ _ (take read.result.0 read.new.buf) c.load_any.result left read.ensures.bytes ended c.load_any.ensures.layout c.load_any.ensures.loads
 
 pub returns-then-count-lt-HEAD_LEN-clause-lacks : goal.returns-then-count-lt-HEAD_LEN-clause-lacks
-returns-then-count-lt-HEAD_LEN-clause-lacks g c = lacks_either _ c.args.memory_limit _ _ _ c.load_any.result c.load_any.ensures.loads.1
+returns-then-count-lt-HEAD_LEN-clause-lacks g c = lacks_either _ c.args.memory_limit _ _ _ _ c.load_any.result c.load_any.ensures.loads.1
 
 pub returns-clause-formed : goal.returns-clause-formed
-returns-clause-formed g c = c.load_as.ensures.loads.formed
+returns-clause-formed g c = c.load_as-loaded.ensures.loads.formed
 
 pub returns-clause-lacks : goal.returns-clause-lacks
-returns-clause-lacks g c = lacks_either _ c.args.memory_limit _ _ _ c.load_as.result c.load_as.ensures.loads
+returns-clause-lacks g c = lacks_either _ c.args.memory_limit _ _ _ _ c.load_as-loaded.result c.load_as-loaded.ensures.loads
 
 pub returns-clause-loads : goal.returns-clause-loads
 returns-clause-loads g c =
@@ -44,4 +44,10 @@ returns-clause-loads g c =
     let whole =
     ap (chain_remaining (cursor_remaining (λ (bytes : List ℕ). Some bytes)) remaining) c.new-whole.ensures.device ∙ c.chain.ensures.bytes
     ∙ ap (λ (o : Option (List ℕ)). behind o (remaining c.into_inner.result)) cursor ∙ ap (λ r. behind (Some head) (remaining r)) c.into_inner.ensures in
-    loads_long c.args.memory_limit named.result _ _ c.load_as.result _ _ _ _ head left taken whole long named.ensures c.load_as.ensures.layout c.load_as.ensures.loads
+    loads_long c.args.memory_limit named.result _ _ _ c.load_as-loaded.result _ _ _ _ head left taken whole long named.ensures c.load_as-loaded.ensures.layout c.load_as-loaded.ensures.loads (sym c.cut-cut.ensures ∙ c.if-cut.false)
+
+pub returns-then-cut-clause-loads : goal.returns-then-cut-clause-loads
+returns-then-cut-clause-loads g c = inr (inl tt)
+
+pub returns-then-cut-clause-lacks : goal.returns-then-cut-clause-lacks
+returns-then-cut-clause-lacks g c = inl (inr tt)
