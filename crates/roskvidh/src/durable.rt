@@ -1,7 +1,9 @@
 //! Stores that are changed: a list's entries stored, or its words removed, as one change, of which a crash leaves all or none.
 
-ghost use Rattle.std.specs.Prelude.{◌≡◌, false, OnOk};
-ghost use Rattle.roskvidh.specs.Words.{IfOk, IsReady, Only};
+ghost use Rattle.std.specs.Prelude.{IfErr, OnOk};
+ghost use Rattle.roskvidh.specs.Words.{all_changed, changes_told, HasState, IfOk, IsBatchCause};
+ghost use Rattle.roskvidh.specs.Words.{IsReady, IsReadyStore, IsTriedAnew, LeavesStore, Only};
+ghost use Rattle.roskvidh.specs.Words.{state_of_words};
 
 use crate::changes::change_words;
 use crate::dictionary::SLOTS;
@@ -82,12 +84,19 @@ where
 
 /// Makes some changes as one. If the device fails, all of the dictionary is written to a new file, since another run would read what the
 /// system shows of the old one, and the disk needn't have that.
+///
+/// # Errors
+/// As of `apply_batch`. `Device` if the device has failed, and so has the compaction, which the store reports; then the store has failed.
 fn apply<D: ReplaceDevice + Drop>(
     store: &mut CedarStore<Global, D>,
     batch: &[Change<'_>],
 ) -> Result<(), DurableError>
     requires ready { IsReady D.seen D.may_leave store.old.journal.device store.old.journal.format store.old.journal.end (store.old.words.state) store.old.failed }
-    ensures done { OnOk result (store.new.failed ≡ false) }
+    ensures made { OnOk result (HasState state_of_words store.new (all_changed (store.old.words.state) (changes_told batch.now))) }
+    ensures ready { OnOk result (IsReadyStore D.seen D.may_leave state_of_words store.new) }
+    ensures tried { IfErr result (IsTriedAnew store.new) }
+    ensures err { IfErr result (LeavesStore state_of_words store.old store.new (all_changed (store.old.words.state) (changes_told batch.now))) }
+    ensures cause { IfErr result (IsBatchCause D.faults D.full store.old store.new (changes_told batch.now)) }
 {
     match store.apply_batch(batch) {
         Err(DurableError::Device(error)) => match store.compact() {
