@@ -40,12 +40,16 @@ def key_of(number):
 
 
 def run(*words):
-    """The seconds that a program takes, and the words that it prints."""
+    """The seconds that a program takes, the words that it prints, and the most memory that it had, in bytes."""
     began = time.perf_counter()
-    done = subprocess.run([*map(str, words)], stdout=subprocess.PIPE, text=True)
-    if done.returncode != 0:
-        sys.exit(f"durable: {words}: status {done.returncode}")
-    return time.perf_counter() - began, done.stdout.split()
+    with subprocess.Popen([*map(str, words)], stdout=subprocess.PIPE, text=True) as child:
+        printed = child.stdout.read().split()
+        _, status, used = os.wait4(child.pid, 0)
+        took = time.perf_counter() - began
+        child.returncode = os.waitstatus_to_exitcode(status)
+    if child.returncode != 0:
+        sys.exit(f"durable: {words}: status {child.returncode}")
+    return took, printed, 1024 * used.ru_maxrss
 
 
 class Here:
@@ -54,11 +58,15 @@ class Here:
     name = "here"
 
     def change(self, path, first, count, size):
-        started, _ = run(PROGRAM, "len", path)
+        started = run(PROGRAM, "len", path)[0]
         return run(PROGRAM, "fill", path, first, count, size)[0] - started
 
     def open(self, path):
         return run(PROGRAM, "len", path)[0]
+
+    def memory(self, path):
+        """The most memory of a program that only opens the file."""
+        return run(PROGRAM, "len", path)[2]
 
 
 class Sqlite:
@@ -108,6 +116,9 @@ class Built:
 
     def open(self, path):
         return float(run(self.program, "open", path, 0, 0, 0)[1][0])
+
+    def memory(self, path):
+        return run(self.program, "open", path, 0, 0, 0)[2]
 
     def read(self, path, first, count, size):
         """The seconds, and how many look-ups other threads made."""
@@ -167,6 +178,8 @@ def openings(stores, room, rounds, count):
         size = sum(each.stat().st_size for each in Path(room).rglob("*") if each.is_file())
         told(f"{store.name}, opening {count:,} keys", [1000 * store.open(path) for _ in range(rounds)], "ms")
         print(f"{'':44} {size:14,} bytes")
+        if hasattr(store, "memory"):
+            told("", [store.memory(path) / 1e6 for _ in range(rounds)], "MB of memory, with the program's own")
         remove(path)
 
 

@@ -511,13 +511,13 @@ public:
     /// last step failed, to put the folder on the disk.
     void save_to_path(const std::string &path, file_format version = file_format::v1_1) const {
         const cedar_dictionary mine = inside_;
-        detail::check_file(cedar_save_file(&mine, version == file_format::v1_0, detail::path_of(path)), path);
+        detail::check_saved(cedar_save_file(&mine, version == file_format::v1_0, detail::path_of(path)), path);
     }
 
-    /// As load, for the file at a path, of which at most 89 bytes more than `memory_limit` are read into memory.
+    /// As load, for the file at a path, of which at most 89 bytes more than `memory_limit` are read into memory. The error names the path.
     static dictionary load_from_path(const std::string &path, std::size_t memory_limit = CEDAR_LOAD_LIMIT) {
         dictionary loaded{closed()};
-        detail::check_file(cedar_load_file(&loaded.inside_, detail::path_of(path), memory_limit), path);
+        detail::check_opened(cedar_load_file(&loaded.inside_, detail::path_of(path), memory_limit), path);
         return loaded;
     }
 
@@ -616,11 +616,11 @@ enum class opening { created, existing, fresh, to_read };
 class store {
 public:
     /// Opens the file, and makes its changes again. CEDAR_STORE_LOCKED says that the store is open already, in another program or in this
-    /// one. A file that has to be there and isn't throws ENOENT, and one that has to be missing EEXIST.
+    /// one. A file that has to be there and isn't throws ENOENT, and one that has to be missing EEXIST. What is thrown names the path.
     explicit store(const std::string &path, layout kind = layout::standard, opening how = opening::created) {
         const std::uint32_t status = cedar_store_open_with(&inside_, detail::path_of(path), bits_of(kind, how));
-        if (status == CEDAR_STORE_DEVICE) detail::throw_file_error(errno, path);
-        check(status, cedar_store_damaged_at(&inside_));
+        detail::check_opened(status, path, cedar_store_damaged_at(&inside_));
+        words_.inside_ = inside_.dictionary;
     }
     store(const store &) = delete;
     store &operator=(const store &) = delete;
@@ -749,9 +749,7 @@ private:
     void check(std::uint32_t status, std::size_t position) {
         const int number = errno;
         words_.inside_ = inside_.dictionary;
-        if (status == CEDAR_STORE_DEVICE || status == CEDAR_STORE_KEPT || status == CEDAR_STORE_NO_ROOM) {
-            throw std::system_error(number, std::generic_category(), "the file of a store");
-        }
+        if (detail::is_of_device(status)) throw std::system_error(number, std::generic_category(), "the file of a store");
         detail::check(status, position);
     }
 

@@ -32,11 +32,13 @@ enum class edits { one, two };
 /// The version of a file's format: 1.1 lists the slots in use, 1.0 all slots.
 enum class file_format { v1_1, v1_0 };
 
-/// A call that was refused. what() is the library's text, followed by the position if there is one.
+/// A call that was refused. what() is the library's text, behind the path if a file was refused, followed by the position if there is one.
 class error : public std::runtime_error {
 public:
-    error(std::uint32_t status, std::optional<std::size_t> position, std::optional<std::size_t> index = std::nullopt)
-        : std::runtime_error(text_of(status, position, index)), status_(status), position_(position), index_(index) {}
+    error(std::uint32_t status, std::optional<std::size_t> position, std::optional<std::size_t> index = std::nullopt,
+          const std::string &path = std::string())
+        : std::runtime_error((path.empty() ? path : path + ": ") + text_of(status, position, index)),
+          status_(status), position_(position), index_(index) {}
 
     /// The status of cedar.h, such as CEDAR_NUL_BYTE.
     std::uint32_t status() const noexcept { return status_; }
@@ -161,8 +163,10 @@ const Item *array(const std::vector<Item> &items) noexcept {
     return items.empty() ? &none : items.data();
 }
 
-// Throws what a status says. `position` is what C has written, and `index` that of the pair which the status speaks of, if there are many.
-inline void check(std::uint32_t status, std::size_t position = 0, std::optional<std::size_t> index = std::nullopt) {
+// Throws what a status says. `position` is what C has written, `index` that of the pair which the status speaks of, if there are many, and
+// `path` that of the file, if it is one that was refused.
+inline void check(std::uint32_t status, std::size_t position = 0, std::optional<std::size_t> index = std::nullopt,
+                  const std::string &path = std::string()) {
     switch (status) {
     case CEDAR_OK: return;
     case CEDAR_MEMORY: throw std::bad_alloc();
@@ -170,8 +174,8 @@ inline void check(std::uint32_t status, std::size_t position = 0, std::optional<
     case CEDAR_DUPLICATE_KEY:
     case CEDAR_KEYS_NOT_SORTED: throw error(status, position, position);
     case CEDAR_NUL_BYTE:
-    case CEDAR_STORE_DAMAGED: throw error(status, position, index);
-    default: throw error(status, std::nullopt, index);
+    case CEDAR_STORE_DAMAGED: throw error(status, position, index, path);
+    default: throw error(status, std::nullopt, index, path);
     }
 }
 
@@ -231,11 +235,23 @@ inline const char *path_of(const std::string &path) {
     return path.c_str();
 }
 
-// As check, for a call on the file at a path. What errno has is read before anything else may change it.
-inline void check_file(std::uint32_t status, const std::string &path) {
+// Whether a call on a store's file failed or found no room.
+inline bool is_of_device(std::uint32_t status) noexcept {
+    return status == CEDAR_STORE_DEVICE || status == CEDAR_STORE_KEPT || status == CEDAR_STORE_NO_ROOM;
+}
+
+// As check, for a save to a path. What errno has is read before anything else may change it.
+inline void check_saved(std::uint32_t status, const std::string &path) {
     const int number = errno;
     if (status == CEDAR_FILE_UNREAD) throw_file_error(number, path);
     check(status);
+}
+
+// As check, for the file at a path that a call opened: the error names it. `position` is where in the file it is damaged.
+inline void check_opened(std::uint32_t status, const std::string &path, std::size_t position = 0) {
+    const int number = errno;
+    if (status == CEDAR_FILE_UNREAD || is_of_device(status)) throw_file_error(number, path);
+    check(status, position, std::nullopt, path);
 }
 
 } // namespace detail

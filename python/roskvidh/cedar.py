@@ -6,7 +6,7 @@ from itertools import chain
 from typing import Any, Iterable, Iterator, Literal, Mapping, Tuple, Type, TypeVar, Union, overload
 
 from . import _core
-from .files import Source, read_all
+from .files import Source, read_all, refusals_of
 from .words import Stats, Words
 
 K = TypeVar("K", bytes, str)
@@ -120,12 +120,15 @@ class Cedar(Words[K]):
     def load(cls, source: Source, *, text: bool = False, memory_limit: int = _core.LOAD_LIMIT) -> "Cedar[Any]":
         """Returns a dictionary that was saved, in either layout. `source` is a path, a file opened for bytes, or the bytes.
 
-        A file that is damaged, or needs more memory than the limit, raises CedarError. With `text=True` its keys have to be UTF-8.
+        A file that is damaged, or needs more memory than the limit, raises CedarError, whose text begins with the path, if that was given.
+        With `text=True` its keys have to be UTF-8.
 
         >>> Cedar.load(Cedar({b"net": 7}).to_bytes())
         Cedar({b'net': 7})
         """
-        return _restore(cls, text, read_all(source, memory_limit), memory_limit)
+        data = read_all(source, memory_limit)
+        with refusals_of(source):
+            return _restore(cls, text, data, memory_limit)
 
     def update(self, pairs: Pairs[K] = (), /, **keywords: int) -> None:  # type: ignore[override]
         """Stores the pairs of a mapping or of an iterable: the last value of a key counts.

@@ -3,7 +3,8 @@
 import errno
 import os
 import stat
-from typing import IO, Any, List, Union
+from contextlib import contextmanager
+from typing import IO, Any, Iterator, List, Union
 
 from . import _core
 
@@ -27,6 +28,17 @@ def read_all(source: Any, memory_limit: int) -> bytes:
         return data
     with open(os.fspath(source), "rb") as file:
         return _read(file, memory_limit + _BEYOND)
+
+
+@contextmanager
+def refusals_of(source: Any) -> Iterator[None]:
+    """Puts the path of a file, if `source` is one, before the text of an error by which what the file has is refused."""
+    try:
+        yield
+    except ValueError as error:
+        if isinstance(source, (str, os.PathLike)):
+            error.args = (f"{os.fsdecode(source)}: {error}",)
+        raise
 
 
 def _read(file: IO[bytes], most: int) -> bytes:

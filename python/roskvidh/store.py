@@ -7,6 +7,7 @@ from typing import Any, Iterable, Iterator, Literal, Optional, Tuple, TypeVar, U
 
 from . import _core
 from .cedar import Cedar, Pairs, _copied, _name_item, _pairs_of, _store_each
+from .files import refusals_of
 from .words import Words
 
 K = TypeVar("K", bytes, str)
@@ -35,7 +36,8 @@ class Store(Words[K]):
     all of them or none, and no others. batch() makes the changes of a block as one, or none of them.
 
     A file with a record that somebody else has changed raises a CedarError with the status 46, whose text says where that record begins.
-    If whole records may be in what an opening cuts off, it keeps that in a file beside this one, whose path is in `kept`.
+    The text of each CedarError by which an opening is refused begins with the path, and an OSError of an opening has it in `filename`. If
+    whole records may be in what an opening cuts off, it keeps that in a file beside this one, whose path is in `kept`.
 
     A call on the file that fails raises OSError. From then on each change raises CedarError and changes nothing, and look-ups go on, until
     compact() has written all to a new file. If the disk only has no room for a change, the OSError says so, and `failed` stays false: the
@@ -75,7 +77,8 @@ class Store(Words[K]):
         if mode not in _MODES:
             raise ValueError(f"a mode is one of {', '.join(map(repr, _MODES))}, and not {mode!r}")
         self.path = os.fspath(path)
-        self._open_store(os.fsencode(self.path), text, reduced, _MODES[mode])
+        with refusals_of(self.path):
+            self._open_store(os.fsencode(self.path), text, reduced, _MODES[mode])
         self._mode = mode
         self.sync_every = sync_every
         self.compaction = (2, 65536)

@@ -27,10 +27,14 @@ static int raise_status(uint32_t status, PyObject *text) {
     return -1;
 }
 
-/* Raises what a status says: MemoryError for want of memory or slots, OSError where a call on a store's file failed or found no room, which
- * has set errno, and CedarError for all else. */
+/* Whether a call on a store's file failed or found no room, which has set errno. */
+bool is_of_device(uint32_t status) {
+    return status == CEDAR_STORE_DEVICE || status == CEDAR_STORE_KEPT || status == CEDAR_STORE_NO_ROOM;
+}
+
+/* Raises what a status says: MemoryError for want of memory or slots, OSError where it is of the device, and CedarError for all else. */
 int fail_with(uint32_t status) {
-    if (status == CEDAR_STORE_DEVICE || status == CEDAR_STORE_KEPT || status == CEDAR_STORE_NO_ROOM) {
+    if (is_of_device(status)) {
         PyErr_SetFromErrno(PyExc_OSError);
         return -1;
     }

@@ -115,6 +115,7 @@ int cost_take(PyObject *given, uint32_t *cost);
 PyObject *key_give(Core *core, const uint8_t *at, size_t length);
 PyObject *pair_give(PyObject *key, int32_t value);
 int fail_with(uint32_t status);
+bool is_of_device(uint32_t status);
 int fail_at(uint32_t status, const char *what, size_t position);
 int key_test(const Span *key);
 void name_item(const char *what, size_t position);

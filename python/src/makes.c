@@ -473,7 +473,7 @@ PyObject *core_open_store(Core *core, PyObject *arguments) {
     Py_END_ALLOW_THREADS
     errno = cause;
     if (status != CEDAR_OK) {
-        if (status == CEDAR_STORE_DEVICE) PyErr_SetFromErrnoWithFilename(PyExc_OSError, path);
+        if (is_of_device(status)) PyErr_SetFromErrnoWithFilename(PyExc_OSError, path);
         else if (status == CEDAR_STORE_DAMAGED) fail_at(status, "byte", cedar_store_damaged_at(&fresh));
         else fail_with(status);
         return NULL;

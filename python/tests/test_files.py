@@ -263,6 +263,15 @@ class Files(unittest.TestCase):
             with self.assertRaises(CedarError) as caught:
                 Cedar.load(damaged)
             self.assertEqual((caught.exception.status, str(caught.exception)), (status, text))
+            # The file at a path is named, a file that is open isn't.
+            self.path.write_bytes(damaged)
+            for path in (self.path, str(self.path)):
+                with self.assertRaises(CedarError) as caught:
+                    Cedar.load(path)
+                self.assertEqual((caught.exception.status, str(caught.exception)), (status, f"{self.path}: {text}"))
+            with self.path.open("rb") as file, self.assertRaises(CedarError) as caught:
+                Cedar.load(file)
+            self.assertEqual(str(caught.exception), text)
         with self.assertRaises(CedarError) as caught:
             Cedar.load(data, memory_limit=100)
         self.assertEqual(caught.exception.status, 26)
@@ -300,7 +309,12 @@ class Files(unittest.TestCase):
             data = Cedar(dict.fromkeys(keys, 1)).to_bytes()
             with self.assertRaises(ValueError) as caught:
                 Cedar.load(data, text=True)
-            self.assertEqual(str(caught.exception), "the file has a key that isn't UTF-8: load it with text=False")
+            text = "the file has a key that isn't UTF-8: load it with text=False"
+            self.assertEqual(str(caught.exception), text)
+            self.path.write_bytes(data)
+            with self.assertRaises(ValueError) as caught:
+                Cedar.load(self.path, text=True)
+            self.assertEqual(str(caught.exception), f"{self.path}: {text}")
         data = Cedar({"käse": 1, "漢": 2}, text=True).to_bytes()
         self.assertEqual(Cedar.load(data, text=True), {"käse": 1, "漢": 2})
 

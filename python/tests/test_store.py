@@ -510,10 +510,13 @@ class Stores(unittest.TestCase):
                 Store(self.path)
             self.assertEqual((caught.exception.status, self.path.read_bytes()), (status, data))
             self.assertEqual("(at byte 13)" in str(caught.exception), status == 46)
-        with self.assertRaises(IsADirectoryError):
+            self.assertTrue(str(caught.exception).startswith(f"{self.path}: "))
+        with self.assertRaises(IsADirectoryError) as folder:
             Store(self.path.parent)
-        with self.assertRaises(FileNotFoundError):
+        with self.assertRaises(FileNotFoundError) as missing:
             Store(self.path.parent / "none" / "x")
+        names = (folder.exception.filename, missing.exception.filename)
+        self.assertEqual(names, (str(self.path.parent), str(self.path.parent / "none" / "x")))
         self.path.unlink()
         with Store(self.path) as s:
             s[b"\xff"] = 1

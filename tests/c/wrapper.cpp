@@ -1,5 +1,5 @@
 // The class of cedar.hpp: each member and each error, and random calls of each layout beside a std::map; so many as the argument says.
-// Linked with -Wl,--wrap=malloc,--wrap=realloc.
+// Linked with -Wl,--wrap=malloc,--wrap=realloc,--wrap=fsync,--wrap=renameat.
 #include "cedar.hpp"
 #include "check.h"
 #include <cerrno>
@@ -20,7 +20,27 @@ static bool is_met() {
     return true;
 }
 
+// The calls of this thread's saves by which a file comes to the disk: `s` syncs a file and `S` a folder, and `r` gives a new file its name.
+// The one that `failing` names fails.
+static thread_local std::string disk_calls;
+static thread_local char failing = 0;
+
+static bool is_made(char call) {
+    disk_calls += call;
+    return call != failing || (errno = EIO, false);
+}
+
 extern "C" {
+int __real_fsync(int file);
+int __real_renameat(int from_folder, const char *from, int to_folder, const char *to);
+int __wrap_fsync(int file) {
+    struct stat found;
+    CHECK(fstat(file, &found) == 0);
+    return is_made(S_ISDIR(found.st_mode) ? 'S' : 's') ? __real_fsync(file) : -1;
+}
+int __wrap_renameat(int from_folder, const char *from, int to_folder, const char *to) {
+    return is_made('r') ? __real_renameat(from_folder, from, to_folder, to) : -1;
+}
 void *__real_malloc(std::size_t size);
 void *__real_realloc(void *block, std::size_t size);
 void *__wrap_malloc(std::size_t size) { return is_met() ? __real_malloc(size) : nullptr; }
@@ -477,6 +497,23 @@ void places(const dictionary &d, const std::string &path) {
     CHECK(taken == bytes_at(path) && S_ISFIFO(look(pipe).st_mode) && std::remove(pipe.c_str()) == 0);
 }
 
+// A new file is on the disk before it takes the name, and the folder after that. If one of these calls fails, it is told, and only after
+// the last one the new file is there.
+void calls_of_saves(const dictionary &d, const std::string &path) {
+    dictionary few(d.kind());
+    few.update("few", 1);
+    disk_calls.clear();
+    d.save_to_path(path);
+    CHECK(disk_calls == "srS");
+    for (const char call : {'s', 'r', 'S'}) {
+        failing = call;
+        no_file(path, [&] { few.save_to_path(path); }, EIO);
+        failing = 0;
+        CHECK(dictionary::load_from_path(path).size() == (call == 'S' ? few.size() : d.size()));
+        CHECK(access((path + ".new").c_str(), F_OK) != 0 && errno == ENOENT);
+    }
+}
+
 // Two threads that save to one path: each file that is loaded is one of theirs.
 void two_savers(const dictionary &d, const std::string &path) {
     dictionary few(d.kind());
@@ -501,13 +538,15 @@ void paths(layout kind, const std::string &folder) {
     const std::vector<std::uint8_t> file = d.save();
     CHECK(bytes_at(path) == std::string(file.begin(), file.end()) && dictionary::load_from_path(path).get("777") == 777);
     no_file(beside, [&] { dictionary::load_from_path(beside); });
-    refused(CEDAR_FILE_MEMORY_LIMIT, {}, limit_text, [&] { dictionary::load_from_path(path, 100); });
+    refused(CEDAR_FILE_MEMORY_LIMIT, {}, path + ": " + limit_text, [&] { dictionary::load_from_path(path, 100); });
     // A file that doesn't end is read as far as the limit says.
-    refused(CEDAR_FILE_MAGIC, {}, "input is not a cedarwood serialized trie", [&] { dictionary::load_from_path("/dev/zero", 1000); });
+    const std::string foreign = "/dev/zero: input is not a cedarwood serialized trie";
+    refused(CEDAR_FILE_MAGIC, {}, foreign, [&] { dictionary::load_from_path("/dev/zero", 1000); });
     lacks_memory([&] { dictionary::load_from_path(path); });
     d.save_to_path(path, roskvidh::file_format::v1_0);
     CHECK(bytes_at(path)[10] == 0 && dictionary::load_from_path(path).size() == 19999);
     places(d, path);
+    calls_of_saves(d, path);
     two_savers(d, path);
     no_file(path + "/none", [&] { d.save_to_path(path + "/none"); }, ENOTDIR);
     // A path isn't cut at a byte 0.
@@ -612,11 +651,12 @@ void stores(layout kind, const std::string &folder) {
     CHECK(std::remove((path + ".none").c_str()) != 0);
     std::FILE *file = std::fopen(path.c_str(), "wb");
     CHECK(file != nullptr && std::fputs("no store at all", file) >= 0 && std::fclose(file) == 0);
-    refused(CEDAR_STORE_FOREIGN, std::nullopt, "the file is not of a store", [&] { roskvidh::store(path, kind); });
+    refused(CEDAR_STORE_FOREIGN, std::nullopt, path + ": the file is not of a store", [&] { roskvidh::store(path, kind); });
     const std::string damaged("\1\x08\0\0\0CEDARJ\2\xfd\xff\x47\x9c\x42\x09\4\0\0\0\0nit", 26);
     file = std::fopen(path.c_str(), "wb");
     CHECK(file != nullptr && std::fwrite(damaged.data(), 1, damaged.size(), file) == damaged.size() && std::fclose(file) == 0);
-    refused(CEDAR_STORE_DAMAGED, 13, "a record of the store's file is damaged (at byte 13)", [&] { roskvidh::store(path, kind); });
+    const std::string damaged_at = path + ": a record of the store's file is damaged (at byte 13)";
+    refused(CEDAR_STORE_DAMAGED, 13, damaged_at, [&] { roskvidh::store(path, kind); });
     std::remove(path.c_str());
 }
 
