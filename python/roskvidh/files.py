@@ -32,7 +32,7 @@ def read_all(source: Any, memory_limit: int) -> bytes:
 
 @contextmanager
 def refusals_of(source: Any) -> Iterator[None]:
-    """Puts the path of a file, if `source` is one, before the text of an error by which what the file has is refused."""
+    """Puts the path, if `source` is one, before the text of a ValueError, by which what is there is refused."""
     try:
         yield
     except ValueError as error:
