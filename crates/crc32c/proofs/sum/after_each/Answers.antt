@@ -3,7 +3,7 @@ use Rattle.std.specs.Prelude.{fold}
 use Rattle.std.proofs.lemmas.List.{take_all, take_more}
 use Rattle.std.proofs.lemmas.List.Sums.{fold-append}
 use Rattle.crc32c.specs.Sums.{after_byte}
-use Rattle.crc32c.proofs.sum.register_after.Goals as goal
+use Rattle.crc32c.proofs.sum.after_each.Goals as goal
 
 pub loop-byte-init : goal.loop-byte-init
 loop-byte-init c = refl
