@@ -4,7 +4,7 @@ ghost use Rattle.std.specs.Prelude.{◌*◌, ◌+◌, ◌++◌, ◌<◌, ◌^◌
 ghost use Rattle.std.specs.Prelude.{None, OnOk, Some, length, pos};
 ghost use Rattle.cedar_store.specs.Words.{batch_length, change_length, change_of, change_told};
 ghost use Rattle.cedar_store.specs.Words.{changes_of, changes_told, erase_at, fault};
-ghost use Rattle.cedar_store.specs.Words.{number_of_bytes, payload_of, put_at, record_of};
+ghost use Rattle.cedar_store.specs.Words.{number_of_bytes, payload_of, put_at};
 ghost use Rattle.cedar_store.specs.Words.{value_fault, AllByRecursion, FrameCause, IsFaultless};
 ghost use Rattle.cedar_store.specs.Words.{IsRecorded, PayloadCause};
 
@@ -131,60 +131,96 @@ fn batch_payload<A: Allocator + Copy>(
     ensures length { IfOk result (λ payload. length payload.items ≡ batch_length (changes_told changes.now)) }
     ensures cause { IfErr result (λ error. PayloadCause (batch_length (changes_told changes.now)) error) }
 {
-    let mut payload = Vec::with_capacity(alloc, 1)?;
+    let mut payload = Vec::with_capacity(alloc, batch_room(changes))?;
     payload.push(BATCH)?;
     for index in 0..changes.len() {
-        push_change(&mut payload, alloc, &changes[index])?;
+        push_change(&mut payload, &changes[index])?;
     }
     Ok(payload)
 }
 
-/// Writes a change as a record after some bytes.
-fn push_change<A: Allocator + Copy>(
+/// How many bytes the payload of a batch has, so that it is allocated once.
+fn batch_room(changes: &[Change<'_>]) -> usize {
+    let mut room: usize = 1;
+    for change in changes {
+        room = room.saturating_add(change_room(change));
+    }
+    room
+}
+
+/// How many bytes the record of a change has in a batch.
+fn change_room(change: &Change<'_>) -> usize {
+    match change {
+        Change::Update { key, .. } => key.len().saturating_add(10),
+        Change::Erase { key } => key.len().saturating_add(6),
+    }
+}
+
+/// Writes a change as a record after some bytes: an open gate, the payload's length, and the payload.
+fn push_change<A: Allocator>(
     bytes: &mut Vec<u8, A>,
-    alloc: A,
     change: &Change<'_>,
 ) -> Result<(), DurableError>
     requires { IsFaultless (change_told change.now) }
     ensures pushed { OnOk result (IsRecorded (change_told change.now) bytes.old.items bytes.new.items) }
     ensures cause { IfErr result (λ error. PayloadCause (change_length (change_told change.now)) error) }
 {
-    let payload = change_payload(alloc, change)?;
-    if payload.len() > MAX_PAYLOAD {
+    match change {
+        Change::Update { key, value } => push_put(bytes, key, *value),
+        Change::Erase { key } => push_erase(bytes, key),
+    }
+}
+
+/// Writes a put as a record after some bytes. The pair has no fault.
+fn push_put<A: Allocator>(
+    bytes: &mut Vec<u8, A>,
+    key: &[u8],
+    value: i32,
+) -> Result<(), DurableError>
+    requires { fault key.now value ≡ None }
+    ensures pushed { OnOk result (IsRecorded (put_at key.now value) bytes.old.items bytes.new.items) }
+    ensures cause { IfErr result (λ error. PayloadCause (length key.now + 5) error) }
+{
+    let len = key.len() + 5;
+    if len > MAX_PAYLOAD {
         return Err(DurableError::TooLong);
     }
-    push_record(bytes, &payload)?;
-    Ok(())
-}
-
-/// The payload of a change.
-fn change_payload<A: Allocator + Copy>(
-    alloc: A,
-    change: &Change<'_>,
-) -> Result<Vec<u8, A>, AllocError>
-    requires { IsFaultless (change_told change.now) }
-    ensures change { IfOk result (λ payload. change_of payload.items ≡ Some (change_told change.now)) }
-    ensures length { IfOk result (λ payload. length payload.items ≡ change_length (change_told change.now)) }
-{
-    match change {
-        Change::Update { key, value } => put_payload(alloc, key, *value),
-        Change::Erase { key } => erase_payload(alloc, key),
-    }
-}
-
-/// Writes a payload as a record after some bytes: an open gate, its length, and itself.
-fn push_record<A: Allocator>(bytes: &mut Vec<u8, A>, payload: &[u8]) -> Result<(), AllocError>
-    ensures { OnOk result (bytes.new.items ≡ bytes.old.items ++ record_of payload.now) }
-{
-    let len = payload.len();
+    let number = value as u32;
     let head = [
         1,
         (len % 256) as u8,
         (len / 256 % 256) as u8,
         (len / 65536 % 256) as u8,
         (len / 16777216 % 256) as u8,
+        PUT,
+        (number % 256) as u8,
+        (number / 256 % 256) as u8,
+        (number / 65536 % 256) as u8,
+        (number / 16777216 % 256) as u8,
     ];
     bytes.extend_from_slice(&head)?;
-    bytes.extend_from_slice(payload)?;
+    bytes.extend_from_slice(key)?;
+    Ok(())
+}
+
+/// Writes an erasure as a record after some bytes.
+fn push_erase<A: Allocator>(bytes: &mut Vec<u8, A>, key: &[u8]) -> Result<(), DurableError>
+    ensures pushed { OnOk result (IsRecorded (erase_at key.now) bytes.old.items bytes.new.items) }
+    ensures cause { IfErr result (λ error. PayloadCause (length key.now + 1) error) }
+{
+    let len = key.len() + 1;
+    if len > MAX_PAYLOAD {
+        return Err(DurableError::TooLong);
+    }
+    let head = [
+        1,
+        (len % 256) as u8,
+        (len / 256 % 256) as u8,
+        (len / 65536 % 256) as u8,
+        (len / 16777216 % 256) as u8,
+        ERASE,
+    ];
+    bytes.extend_from_slice(&head)?;
+    bytes.extend_from_slice(key)?;
     Ok(())
 }
