@@ -1,7 +1,7 @@
 -- The erasures of a batch that waited for its updates.
 use Rattle.std.specs.Prelude.{◌||◌, Bool, true, false}
-use Rattle.std.proofs.Common.{◌≡◌, ℕ, suc, zero, ◌+◌, ◌-◌, ◌≤◌, ◌<◌, List, [], ◌∷◌, length, drop, sym, ◌∙◌, ap, arith}
-use Rattle.std.proofs.lemmas.Bool.{true≢false, or_from}
+use Rattle.std.proofs.Common.{◌≡◌, inl, inr, ℕ, suc, zero, ◌+◌, ◌-◌, ◌≤◌, ◌<◌, List, [], ◌∷◌, length, drop, sym, ◌∙◌, ap, arith}
+use Rattle.std.proofs.lemmas.Bool.{true≢false, cases_Bool, or_from}
 use Rattle.std.proofs.lemmas.List.{drop-drop, drop_all, drop_more}
 use Rattle.cedarwood.specs.State.{State}
 use Rattle.cedar_store.specs.Batches.{all_erased_late, change_at, is_put_by, late_erased, puts}
@@ -47,3 +47,11 @@ put_here path changes n low here = ap (is_put_by path) (drop_more changes n (era
 pub put_later : (path : List ℕ) (changes : List Change) (n : ℕ) → n < length changes → puts path (change_at changes n) ≡ false
     → is_put_by path (drop (n + 1) changes) ≡ is_put_by path (drop n changes)
 put_later path changes n low here = sym (ap (is_put_by path) (drop_more changes n (erase_at []) low) ∙ ap (λ t. t || is_put_by path (drop (n + 1) changes)) here)
+
+-- a change that puts a value at a path is one of those from any earlier position on
+pub put_from : (path : List ℕ) (changes : List Change) (next n : ℕ) → next ≤ n → n < length changes → puts path (change_at changes n) ≡ true
+    → is_put_by path (drop next changes) ≡ true
+put_from path changes next n early low here = elim (cases_Bool (is_put_by path (drop next changes))) [
+  | inl put ↦ put
+  | inr lacks ↦ absurd (true≢false (sym (put_here path changes n low here) ∙ none_from path changes next n lacks early))
+]

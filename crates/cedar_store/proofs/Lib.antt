@@ -4,6 +4,7 @@ pub mod Compacted
 pub mod Counted
 pub mod FirstFaults
 pub mod Late
+pub mod Linked
 pub mod Opened
 pub mod Ordered
 pub mod Payloads

@@ -4,6 +4,7 @@ pub mod Causes
 pub mod Changes
 pub mod Compactions
 pub mod Files
+pub mod Links
 pub mod Shortening
 pub mod Shown
 pub mod Store

@@ -23,6 +23,8 @@ pub use Rattle.cedar_store.specs.Compactions.{CompactMemory, default_rule, is_be
 pub use Rattle.cedar_store.specs.Compactions.{IsBeforeReplacing, IsPutBehind, replace_error}
 pub use Rattle.cedar_store.specs.Files.{AddsRecord, format_named, IsCorrupt, record_count}
 pub use Rattle.cedar_store.specs.Files.{StandsFor, state_of, state_with}
+pub use Rattle.cedar_store.specs.Links.{AreLastPuts, AreLinkedPuts, heads_with}
+pub use Rattle.cedar_store.specs.Links.{key_place, links_with, sum_with}
 pub use Rattle.cedar_store.specs.Promises.{AddsPayload, CrashLeavesEither, CrashLeavesOldOr}
 pub use Rattle.cedar_store.specs.Promises.{CrashLeavesRecord, CrashLeavesState}
 pub use Rattle.cedar_store.specs.Promises.{CrashLeavesStateOrOld, FailsByDevice, HasState}

@@ -10,35 +10,48 @@ ghost use Rattle.cedar_store.specs.Words.{all_changed, all_erased_late, all_upda
 ghost use Rattle.cedar_store.specs.Words.{batch_length, change_at};
 ghost use Rattle.cedar_store.specs.Words.{change_fault, change_told, changes_of, changes_told};
 ghost use Rattle.cedar_store.specs.Words.{after_erase, first_refused, is_put_by, late_erased};
-ghost use Rattle.cedar_store.specs.Words.{only_updated, payload_of, puts, AllByRecursion, AreHeld};
+ghost use Rattle.cedar_store.specs.Words.{only_updated, payload_of, AllByRecursion, AreHeld};
+ghost use Rattle.cedar_store.specs.Words.{AreLastPuts};
 ghost use Rattle.cedar_store.specs.Words.{HasKey, IsFaultless, IsHeld, IsRefusedAt, IsShortage};
 ghost use Rattle.cedar_store.specs.Words.{PrepareCause, State};
 
 use crate::faults::first_refused;
 use crate::frames::batch_frame;
+use crate::last_puts::{LastPuts, updates_end};
 use crate::words::{Words, take_back};
 use crate::{Change, DurableError};
 use cedar_journal::Frame;
 use cedarwood::CedarError;
 use std::alloc::Allocator;
 
-/// Makes the updates of a batch in a dictionary whose labels ascend, and returns the batch's record for a file whose records end here, and
-/// what each key held before. If anything is refused, the dictionary stays as it was. `erase_rest` makes the rest, and `take_all_back` undoes
-/// it.
+/// A batch whose updates are made, and whose record isn't written.
+#[derive(Drop)]
+pub(crate) struct Prepared<A: Allocator> {
+    /// The record.
+    pub(crate) frame: Frame<A>,
+    /// What the key of each update held before it.
+    pub(crate) held: Vec<Option<i32>, A>,
+    /// Which keys are put behind each erasure.
+    pub(crate) puts: LastPuts<A>,
+}
+
+/// Makes the updates of a batch in a dictionary whose labels ascend, and the batch's record for a file whose records end here. If anything is
+/// refused, the dictionary stays as it was. `erase_rest` makes the rest, and `take_all_back` undoes it. Neither allocates.
 pub(crate) fn make<T: Words, A: Allocator + Copy>(
     words: &mut T,
     alloc: A,
     end: usize,
     changes: &[Change<'_>],
-) -> Result<(Frame<A>, Vec<Option<i32>, A>), DurableError>
+) -> Result<Prepared<A>, DurableError>
     requires { (T.state words.old).ordered ≡ true }
     ensures updated { OnOk result ((T.state words.new) ≡ all_updated (T.state words.old) (changes_told changes.now)) }
     ensures made { OnOk result (all_erased_late (T.state words.new) (changes_told changes.now) ≡ all_changed (T.state words.old) (changes_told changes.now)) }
-    ensures held { IfOk result (λ batch. AreHeld (T.state words.old) (changes_told changes.now) batch.1.items) }
-    ensures long { IfOk result (λ batch. length changes.now ≤ length batch.1.items) }
+    ensures held { IfOk result (λ batch. AreHeld (T.state words.old) (changes_told changes.now) batch.held.items) }
+    ensures long { IfOk result (λ batch. length changes.now ≤ length batch.held.items) }
     ensures faultless { OnOk result (AllByRecursion IsFaultless (changes_told changes.now)) }
-    ensures change { IfOk result (λ batch. changes_of (payload_of batch.0) ≡ Some (changes_told changes.now)) }
-    ensures length { IfOk result (λ batch. length (payload_of batch.0) ≡ batch_length (changes_told changes.now)) }
+    ensures change { IfOk result (λ batch. changes_of (payload_of batch.frame) ≡ Some (changes_told changes.now)) }
+    ensures length { IfOk result (λ batch. length (payload_of batch.frame) ≡ batch_length (changes_told changes.now)) }
+    ensures puts { IfOk result (λ batch. AreLastPuts batch.puts.heads.items batch.puts.links.items (changes_told changes.now)) }
     ensures room { OnOk result (end < 2 ^ 60) }
     ensures faulty { IfSome (first_refused 0 (changes_told changes.now)) (λ error. result ≡ Err error) }
     ensures err { OnErr result ((T.state words.new) ≡ (T.state words.old)) }
@@ -70,23 +83,25 @@ fn prepare<T: Words, A: Allocator + Copy>(
     alloc: A,
     end: usize,
     changes: &[Change<'_>],
-) -> Result<(Frame<A>, Vec<Option<i32>, A>), DurableError>
+) -> Result<Prepared<A>, DurableError>
     ensures updated { OnOk result ((T.state words.new) ≡ all_updated (T.state words.old) (changes_told changes.now)) }
-    ensures held { IfOk result (λ batch. AreHeld (T.state words.old) (changes_told changes.now) batch.1.items) }
-    ensures long { IfOk result (λ batch. length changes.now ≤ length batch.1.items) }
+    ensures held { IfOk result (λ batch. AreHeld (T.state words.old) (changes_told changes.now) batch.held.items) }
+    ensures long { IfOk result (λ batch. length changes.now ≤ length batch.held.items) }
     ensures keys { OnOk result (AllByRecursion HasKey (changes_told changes.now)) }
     ensures faultless { OnOk result (AllByRecursion IsFaultless (changes_told changes.now)) }
-    ensures change { IfOk result (λ batch. changes_of (payload_of batch.0) ≡ Some (changes_told changes.now)) }
-    ensures length { IfOk result (λ batch. length (payload_of batch.0) ≡ batch_length (changes_told changes.now)) }
+    ensures change { IfOk result (λ batch. changes_of (payload_of batch.frame) ≡ Some (changes_told changes.now)) }
+    ensures length { IfOk result (λ batch. length (payload_of batch.frame) ≡ batch_length (changes_told changes.now)) }
+    ensures puts { IfOk result (λ batch. AreLastPuts batch.puts.heads.items batch.puts.links.items (changes_told changes.now)) }
     ensures room { OnOk result (end < 2 ^ 60) }
     ensures err { OnErr result ((T.state words.new) ≡ (T.state words.old)) }
     ensures cause { IfErr result (λ error. PrepareCause (changes_told changes.now) end error) }
 {
     let mut held = Vec::with_capacity(alloc, changes.len())?;
     held.resize(changes.len(), None)?;
+    let puts = LastPuts::new(alloc, changes)?;
     update_all(words, changes, &mut held)?;
     match batch_frame(alloc, end, changes) {
-        Ok(frame) => Ok((frame, held)),
+        Ok(frame) => Ok(Prepared { frame, held, puts }),
         Err(error) => {
             take_all_back(words, changes, &held);
             Err(error)
@@ -163,17 +178,29 @@ fn take_one_back<T: Words>(words: &mut T, change: &Change<'_>, held: Option<i32>
 }
 
 /// Makes the erasures among some changes, but of keys that a later change puts.
-pub(crate) fn erase_rest<T: Words>(words: &mut T, changes: &[Change<'_>])
+pub(crate) fn erase_rest<T: Words, A: Allocator + Copy>(
+    words: &mut T,
+    changes: &[Change<'_>],
+    puts: &LastPuts<A>,
+)
+    requires { AreLastPuts puts.now.heads.items puts.now.links.items (changes_told changes.now) }
     ensures { (T.state words.new) ≡ all_erased_late (T.state words.old) (changes_told changes.now) }
 {
     let end = updates_end(changes);
     for index in 0..changes.len() {
-        erase_late(words, changes, index, end);
+        erase_late(words, changes, puts, index, end);
     }
 }
 
 /// Makes the change at an index if it is an erasure, unless a later change puts its key. The updates end here.
-fn erase_late<T: Words>(words: &mut T, changes: &[Change<'_>], index: usize, end: usize)
+fn erase_late<T: Words, A: Allocator + Copy>(
+    words: &mut T,
+    changes: &[Change<'_>],
+    puts: &LastPuts<A>,
+    index: usize,
+    end: usize,
+)
+    requires linked { AreLastPuts puts.now.heads.items puts.now.links.items (changes_told changes.now) }
     requires inside { index < length changes.now }
     requires within { end ≤ length changes.now }
     requires no_more { (path : List ℕ) → is_put_by path (drop end (changes_told changes.now)) ≡ false }
@@ -181,7 +208,9 @@ fn erase_late<T: Words>(words: &mut T, changes: &[Change<'_>], index: usize, end
 {
     match &changes[index] {
         Change::Update { .. } => {}
-        Change::Erase { key } => erase_unless(words, key, is_put(key, changes, index + 1, end)),
+        Change::Erase { key } => {
+            erase_unless(words, key, puts.is_put(key, changes, index + 1, end))
+        }
     }
 }
 
@@ -191,55 +220,5 @@ fn erase_unless<T: Words>(words: &mut T, key: &[u8], put: bool)
 {
     if !put {
         words.remove(key);
-    }
-}
-
-/// Where the last update among some changes ends: after it there are only erasures.
-fn updates_end(changes: &[Change<'_>]) -> usize
-    ensures within { result ≤ length changes.now }
-    ensures no_more { (path : List ℕ) → is_put_by path (drop result (changes_told changes.now)) ≡ false }
-{
-    let mut end = changes.len();
-    while end > 0 {
-        let last = end - 1;
-        if is_update(&changes[last]) {
-            return end;
-        }
-        end = last;
-    }
-    end
-}
-
-/// Whether a change is an update.
-fn is_update(change: &Change<'_>) -> bool
-    ensures { result ≡ false → (path : List ℕ) → puts path (change_told change.now) ≡ false }
-{
-    match change {
-        Change::Update { .. } => true,
-        Change::Erase { .. } => false,
-    }
-}
-
-/// Whether one of some changes from an index on puts a value at a key. The updates end here.
-fn is_put(key: &[u8], changes: &[Change<'_>], next: usize, end: usize) -> bool
-    requires within { end ≤ length changes.now }
-    requires no_more { (path : List ℕ) → is_put_by path (drop end (changes_told changes.now)) ≡ false }
-    ensures { result ≡ is_put_by key.now (drop next (changes_told changes.now)) }
-{
-    for index in next..end {
-        if puts(key, &changes[index]) {
-            return true;
-        }
-    }
-    false
-}
-
-/// Whether a change puts a value at a key.
-fn puts(path: &[u8], change: &Change<'_>) -> bool
-    ensures { result ≡ puts path.now (change_told change.now) }
-{
-    match change {
-        Change::Update { key, .. } => path == *key,
-        Change::Erase { .. } => false,
     }
 }

@@ -3,7 +3,7 @@
 ghost use Rattle.std.specs.Prelude.{◌+◌, ◌-◌, ◌<◌, ◌^◌, ◌≡◌, ◌⊎◌, false, IfErr, IfOk, IsErrOf};
 ghost use Rattle.std.specs.Prelude.{length, None, OnErr, OnOk, Some, true};
 ghost use Rattle.cedar_store.specs.Words.{AddsPayload, after_payloads, all_erased_late, all_stored};
-ghost use Rattle.cedar_store.specs.Words.{AllByRecursion, changes_told, CompactCause};
+ghost use Rattle.cedar_store.specs.Words.{AllByRecursion, AreLastPuts, changes_told, CompactCause};
 ghost use Rattle.cedar_store.specs.Words.{compacted_length, CrashLeavesOldOr, CrashLeavesState};
 ghost use Rattle.cedar_store.specs.Words.{CrashLeavesStateOrOld, end_behind, FailsByDevice};
 ghost use Rattle.cedar_store.specs.Words.{fault, IfKept, image_bytes, is_beyond, is_due};
@@ -18,6 +18,7 @@ ghost use Rattle.cedar_store.specs.Words.{state_with, walk};
 
 use crate::batch::erase_rest;
 use crate::frames::put_payload;
+use crate::last_puts::LastPuts;
 use crate::store::Store;
 use crate::words::Words;
 use crate::{Change, CompactError, DurableError};
@@ -125,7 +126,9 @@ impl<T: Words, A: Allocator + Copy, D: ReplaceDevice> Store<T, A, D> {
         &mut self,
         frame: &Frame<A>,
         changes: &[Change<'_>],
+        puts: &LastPuts<A>,
     ) -> Result<(), DurableError>
+        requires linked { AreLastPuts puts.now.heads.items puts.now.links.items (changes_told changes.now) }
         requires settled { IsSettled D.seen D.may_leave self.old.journal.device self.old.journal.format self.old.journal.end }
         requires usable { self.old.failed ≡ false }
         requires room { self.old.journal.end < 2 ^ 60 }
@@ -150,14 +153,14 @@ impl<T: Words, A: Allocator + Copy, D: ReplaceDevice> Store<T, A, D> {
     {
         match self.append(frame) {
             Ok(()) => {
-                erase_rest(&mut self.words, changes);
+                erase_rest(&mut self.words, changes, puts);
                 self.compact_if_due()
             }
             Err(error) => {
                 if !self.failed {
                     return Err(error);
                 }
-                erase_rest(&mut self.words, changes);
+                erase_rest(&mut self.words, changes, puts);
                 Err(error)
             }
         }

@@ -11,6 +11,7 @@ mod counts;
 mod error;
 mod faults;
 mod frames;
+mod last_puts;
 mod replay;
 mod store;
 mod words;

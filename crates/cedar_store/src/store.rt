@@ -18,6 +18,7 @@ ghost use Rattle.cedar_store.specs.Words.{number_at, Only, payload_of, put_at, R
 use crate::batch::{make, take_all_back};
 use crate::counts::count_records;
 use crate::frames::{erase_frame, put_frame};
+use crate::last_puts::LastPuts;
 use crate::replay::words_of;
 use crate::words::{Made, Words, take_back};
 use crate::{Change, CompactError, Compaction, DurableError};
@@ -315,8 +316,9 @@ impl<T: Words, A: Allocator + Copy, D: ReplaceDevice> Store<T, A, D> {
             return Err(DurableError::Failed);
         }
         let held = self.words.put(key, value)?;
+        let puts = LastPuts::unlinked(self.alloc);
         match put_frame(self.alloc, self.journal.end, key, value) {
-            Ok(frame) => match self.acknowledge(&frame, &[]) {
+            Ok(frame) => match self.acknowledge(&frame, &[], &puts) {
                 Ok(()) => Ok(held),
                 Err(error) => {
                     if self.failed {
@@ -453,7 +455,8 @@ impl<T: Words, A: Allocator + Copy, D: ReplaceDevice> Store<T, A, D> {
             return Ok(false);
         }
         let erasure = erase_frame(self.alloc, self.journal.end, key)?;
-        self.acknowledge(&erasure, &[Change::Erase { key }])?;
+        let puts = LastPuts::unlinked(self.alloc);
+        self.acknowledge(&erasure, &[Change::Erase { key }], &puts)?;
         Ok(true)
     }
 
@@ -485,12 +488,14 @@ impl<T: Words, A: Allocator + Copy, D: ReplaceDevice> Store<T, A, D> {
     /// has all of them or none. They are one record, and cost the two syncs of one change. A key ends with what its last change says. No
     /// changes are no change: nothing is written.
     ///
-    /// Put erasures after the updates if the order doesn't matter: an erasure with updates after it is compared with each of them.
+    /// An erasure isn't made if an update behind it puts its key. If erasures stand before updates, in a batch of 128 changes or more, that is
+    /// found by a sum over the key's bytes, in memory of 16 bytes for each change. The time grows with the number of the changes then, unless
+    /// keys are chosen so that their sums agree.
     ///
     /// # Errors
     /// `RefusedAt` with the index of a change whose pair has a fault, or for which memory or slots were refused; `Refused` if memory for
-    /// the record was refused, `TooLong` and `Full`: then nothing has changed. `NoRoom` if there was no room for it: nothing is made, and the
-    /// store goes on. `Device` if the device failed, and `Failed` from then on.
+    /// the batch or its record was refused, `TooLong` and `Full`: then nothing has changed. `NoRoom` if there was no room for it: nothing is
+    /// made, and the store goes on. `Device` if the device failed, and `Failed` from then on.
     pub fn apply_batch(&mut self, changes: &[Change<'_>]) -> Result<(), DurableError>
         requires ready { IsReadyStore D.seen D.may_leave T.state self.old }
 
@@ -535,14 +540,14 @@ impl<T: Words, A: Allocator + Copy, D: ReplaceDevice> Store<T, A, D> {
         if changes.is_empty() {
             return Ok(());
         }
-        let (batch, held) = make(&mut self.words, self.alloc, self.journal.end, changes)?;
-        match self.acknowledge(&batch, changes) {
+        let batch = make(&mut self.words, self.alloc, self.journal.end, changes)?;
+        match self.acknowledge(&batch.frame, changes, &batch.puts) {
             Ok(()) => Ok(()),
             Err(error) => {
                 if self.failed {
                     return Err(error);
                 }
-                take_all_back(&mut self.words, changes, &held);
+                take_all_back(&mut self.words, changes, &batch.held);
                 Err(error)
             }
         }

@@ -65,7 +65,7 @@ acknowledge-requires-clause-stands g c =
     let kept : all_erased_late (g.T.Words.state c.make.new.words) told ≡ all_changed s told = c.in_ok-batch.ensures.made in
     let ready : c.args.self.now.failed ≡ false = search rules in
     let change = ap (option_map (all_changed s)) c.in_ok-batch.ensures.change in
-    ap (option_and_then (λ t. after t (payload_of c.in_ok-batch.batch))) (c.requires.ready.consistent ready).same ∙ change ∙ ap Some (sym kept)
+    ap (option_and_then (λ t. after t (payload_of c.in_ok-batch.batch.frame))) (c.requires.ready.consistent ready).same ∙ change ∙ ap Some (sym kept)
 
 pub returns-in-Ok-clause-any_moment : goal.returns-in-Ok-clause-any_moment
 returns-in-Ok-clause-any_moment g c = λ ready.
@@ -96,7 +96,7 @@ returns-in-Ok-clause-recorded g c = λ _.
     let seen = g.D.Device.seen in
     let changes = changes_told c.args.changes.now in
     subst (λ n. IsRecordedIn seen g.T.Words.state n c.args.self.now c.acknowledge.new.self changes) c.in_ok-batch.ensures.length
-    (recorded_in (seen c.args.self.now.journal.device) (seen c.acknowledge.new.self.journal.device) (payload_of c.in_ok-batch.batch) changes c.in_ok-batch.ensures.change c.in-Ok.ensures.recorded)
+    (recorded_in (seen c.args.self.now.journal.device) (seen c.acknowledge.new.self.journal.device) (payload_of c.in_ok-batch.batch.frame) changes c.in_ok-batch.ensures.change c.in-Ok.ensures.recorded)
 
 pub returns-in-Ok-clause-made : goal.returns-in-Ok-clause-made
 returns-in-Ok-clause-made g c = (c.in-Ok.ensures.done, c.in-Ok.ensures.made ∙ c.in_ok-batch.ensures.made)
@@ -210,7 +210,7 @@ returns-clause-ready g c =
     let well : new.failed ≡ false = search rules in
     let room = lacks_room broke lacked old.failed new.failed e _ _ cause well left in
     let updated = ap state room.words ∙ c.in_ok-batch.ensures.updated in
-    let lent : c.deref.result.now ≡ c.in_ok-batch.held.items = search rules in
+    let lent : c.deref.result.now ≡ c.in_ok-batch.batch.held.items = search rules in
     let back : state c.take_all_back.new.words ≡ s = c.take_all_back.ensures s (subst (AreHeld s told) (sym lent) c.in_ok-batch.ensures.held) updated in
     let was = c.requires.ready.consistent usable in
     record {
@@ -236,7 +236,7 @@ returns-clause-err g c =
     let well : new.failed ≡ false = search rules in
     let room = lacks_room broke lacked old.failed new.failed e _ _ cause well left in
     let updated = ap state room.words ∙ c.in_ok-batch.ensures.updated in
-    let lent : c.deref.result.now ≡ c.in_ok-batch.held.items = search rules in
+    let lent : c.deref.result.now ≡ c.in_ok-batch.batch.held.items = search rules in
     let back : state c.take_all_back.new.words ≡ s = c.take_all_back.ensures s (subst (AreHeld s told) (sym lent) c.in_ok-batch.ensures.held) updated in
     leaves_unwritten broke lacked old.failed new.failed e _ _ _ cause (λ broken. absurd (false≢true (sym well ∙ broken))) (λ _ _. (well, room.end, back))
 

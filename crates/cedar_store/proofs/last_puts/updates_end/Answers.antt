@@ -3,7 +3,7 @@ use Rattle.cedar_store.specs.Batches.{is_put_by, puts, change_at}
 use Rattle.cedar_store.specs.Told.{change_told, changes_told}
 use Rattle.cedar_store.proofs.Late.{none_behind, one_less}
 use Rattle.cedar_store.proofs.Withdrawn.{as_many, blank, told_at}
-use Rattle.cedar_store.proofs.batch.updates_end.Goals as goal
+use Rattle.cedar_store.proofs.last_puts.updates_end.Goals as goal
 
 pub loop-end-init : goal.loop-end-init
 loop-end-init c =

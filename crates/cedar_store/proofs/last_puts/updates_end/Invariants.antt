@@ -1,7 +1,7 @@
 use Rattle.std.proofs.Common.{◌≡◌, ◌≤◌, ℕ, List, false, length, drop}
 use Rattle.cedar_store.specs.Batches.{is_put_by}
 use Rattle.cedar_store.specs.Told.{changes_told}
-use Rattle.cedar_store.proofs.batch.updates_end.Given as goal
+use Rattle.cedar_store.proofs.last_puts.updates_end.Given as goal
 
 abbrev pub invariant-loop-end : goal.invariant-loop-end
 invariant-loop-end l = record {

@@ -2,7 +2,7 @@ use Rattle.std.proofs.Common.{ap}
 use Rattle.std.proofs.lemmas.Bool.{true≢false}
 use Rattle.cedar_store.specs.Batches.{puts}
 use Rattle.cedar_store.specs.Told.{change_told}
-use Rattle.cedar_store.proofs.batch.is_update.Goals as goal
+use Rattle.cedar_store.proofs.last_puts.is_update.Goals as goal
 
 pub returns-in-Update : goal.returns-in-Update
 returns-in-Update c = λ e. absurd (true≢false e)

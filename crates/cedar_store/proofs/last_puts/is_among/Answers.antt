@@ -3,7 +3,7 @@ use Rattle.cedar_store.specs.Batches.{change_at, puts}
 use Rattle.cedar_store.specs.Told.{change_told, changes_told}
 use Rattle.cedar_store.proofs.Late.{none_from, put_here, put_later}
 use Rattle.cedar_store.proofs.Withdrawn.{as_many, blank, told_at}
-use Rattle.cedar_store.proofs.batch.is_put.Goals as goal
+use Rattle.cedar_store.proofs.last_puts.is_among.Goals as goal
 
 pub loop-index-init : goal.loop-index-init
 loop-index-init c = refl

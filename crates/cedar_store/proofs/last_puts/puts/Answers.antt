@@ -3,7 +3,7 @@ use Rattle.std.specs.Cmp.Lexicographic.{pointwise}
 use Rattle.std.proofs.Common.{◌≡◌, ◌∙◌, ap, rules, sym}
 use Rattle.cedar_store.specs.Batches.{puts}
 use Rattle.cedar_store.specs.Told.{change_told}
-use Rattle.cedar_store.proofs.batch.puts.Goals as goal
+use Rattle.cedar_store.proofs.last_puts.puts.Goals as goal
 
 pub returns-in-Update : goal.returns-in-Update
 returns-in-Update c =
