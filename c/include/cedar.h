@@ -459,8 +459,8 @@ enum {
  * bytes for each node of the dictionary and 12 for each key, or 36 for each node for leftmost keys, and never more than the 20 or 36 for
  * each of the dictionary's slots up to that of its last node, besides the copy of the dictionary. For leftmost keys it also takes 12 bytes
  * for each key that a path of the dictionary gives where it can't go on: a few in most dictionaries, and 6 m^2 bytes at most for a key of
- * m bytes. While it is made it takes two lists of 24 bytes for each node, lists of 12 bytes for each slot of the dictionary, and what
- * sorts of the nodes need. A list that grows may have room for twice as many.
+ * m bytes. While it is made it takes two lists of 24 bytes for each node, lists of at most 28 bytes for each slot of the dictionary, and
+ * what sorts of the nodes need. A list that grows may have room for twice as many.
  * Returns CEDAR_OK; CEDAR_IS_CLOSED if *d is closed; CEDAR_UNKNOWN_SEARCH; or CEDAR_MEMORY, for leftmost keys also if the paths would give
  * 2^32 keys, whatever memory there is. After an error *s is as it was. */
 uint32_t cedar_scanner_new(const cedar_dictionary *d, uint32_t search, cedar_scanner *s);

@@ -24,6 +24,7 @@ mod scanner;
 mod state;
 mod step;
 mod stream;
+mod weights;
 
 pub use earliest::Earliest;
 pub use kind::MatchKind;
