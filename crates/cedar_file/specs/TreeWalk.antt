@@ -67,6 +67,35 @@ pub record MeetsNode {E : Type 0} (size : ℕ) (T : Cells) (w : Walk) (s : ℕ) 
 abbrev pub HasRoom : Walk → Type 0
 HasRoom w = (w.met ≤ 2 ^ 32) × (w.numbers ≤ 2 ^ 32)
 
+-- what is known where a node whose base field names a base is met: its slot is in use
+pub record AtBased (T : Fields) (w : Walk) (s b : ℕ) : Type 0 where
+  pub inside : s < size_of T
+  pub room : HasRoom w
+  pub stored : (cells_in T).stored s ≡ AtBase b
+
+-- what is known where a node and its number's slot are met, with the number and the node's `child`
+pub record AtValued (T : Fields) (w : Walk) (s b : ℕ) (v : ℤ) (label : ℕ) : Type 0 where
+  pub inside : b < size_of T
+  pub room : HasRoom w
+  pub stored : (cells_in T).stored s ≡ AtBase b
+  pub owned : (cells_in T).check b ≡ pos s
+  pub value : v ≡ (cells_in T).base b
+  pub child : label ≡ (cells_in T).child s
+
+-- what is known where a node is met that keeps its number in its own base field
+pub record AtOwn (T : Fields) (w : Walk) (s : ℕ) (value : ℤ) : Type 0 where
+  pub inside : s < size_of T
+  pub room : HasRoom w
+  pub root : LooksLikeRoot (cells_in T)
+  pub stored : (cells_in T).stored s ≡ OwnNumber value
+
+-- what is known of a walk on its way
+pub record AtNode (T : Fields) (w : Walk) : Type 0 where
+  pub inside : w.node < size_of T
+  pub base : w.base ≡ base_of (cells_in T) w.node
+  pub room : HasRoom w
+  pub root : LooksLikeRoot (cells_in T)
+
 -- the walk once it has met the child under its label
 abbrev pub walk_down : Cells → Walk → Walk
 walk_down T w = walk_met T w (below T w.node w.label)

@@ -3,7 +3,8 @@ pub use Rattle.cedar_file.specs.Loading.{LoadsBy}
 pub use Rattle.cedar_file.specs.PlaceChecks.{BlankBlocks, BlankSlots, CountsInRange, free_count}
 pub use Rattle.cedar_file.specs.PlaceChecks.{free_here, HasBlankLabels, HasList}
 pub use Rattle.cedar_file.specs.PlaceChecks.{HasRing, in_ring, ring_count, StepsFrom}
-pub use Rattle.cedar_file.specs.TreeWalk.{ComesBackIn, GoesDown, GoesOn, GoesUp, HasRoom}
+pub use Rattle.cedar_file.specs.TreeWalk.{AtBased, AtNode, AtOwn, AtValued, ComesBackIn}
+pub use Rattle.cedar_file.specs.TreeWalk.{GoesDown, GoesOn, GoesUp}
 pub use Rattle.cedar_file.specs.TreeWalk.{LooksLikeRoot, MeetsNode, StepsDown, StepsUp}
 pub use Rattle.cedar_file.specs.TreeWalk.{walk_start}
 pub use Rattle.cedar_format.specs.Format.{CountsWithin, IsFile, need, trial_refusal}

@@ -1,4 +1,5 @@
 pub mod Blanks
+pub mod Casts
 pub mod ListsLemmas
 pub mod PlacementLemmas
 pub mod RingsLemmas

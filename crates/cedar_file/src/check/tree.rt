@@ -2,11 +2,11 @@
 
 ghost use Rattle.std.specs.Prelude.{◌*◌, ◌+◌, ◌/◌, ◌<◌, ◌^◌, ◌↔◌, ◌≡◌, ◌≢◌, ◌≤◌, count_by, IfOk};
 ghost use Rattle.std.specs.Prelude.{IsTrue, MatchOption, OnErr, OnOk, pos, ℕ};
-ghost use Rattle.cedar_file.specs.Words.{AtBase, base_in, base_of, block_at, cells, ComesBackIn};
-ghost use Rattle.cedar_file.specs.Words.{fields, GoesDown, GoesOn, GoesUp, HasRoom, is_held};
+ghost use Rattle.cedar_file.specs.Words.{AtBased, AtNode, AtOwn, AtValued, base_in, block_at, cells};
+ghost use Rattle.cedar_file.specs.Words.{ComesBackIn, fields, GoesDown, GoesOn, GoesUp, is_held};
 ghost use Rattle.cedar_file.specs.Words.{is_value, IsTable, IsWellFormed, LooksLikeRoot, MeetsNode};
-ghost use Rattle.cedar_file.specs.Words.{OwnNumber, range_with_len, reading, size_of, StepsDown};
-ghost use Rattle.cedar_file.specs.Words.{StepsUp, walk_start};
+ghost use Rattle.cedar_file.specs.Words.{range_with_len, reading, size_of, StepsDown, StepsUp};
+ghost use Rattle.cedar_file.specs.Words.{walk_start};
 
 use cedar_slots::{BLOCK_SIZE, BlockRecord, Corrupt, NInfoRecord, NodeRecord, Ticks};
 use cedar_table::{Layout, Stored, Table};
@@ -112,10 +112,7 @@ fn meet_own<L: Layout, const SLOTS: usize, A: Allocator, C: Ledger>(
     value: i32,
     reads: &mut Ticks<C>,
 ) -> Result<Walk, Corrupt>
-    requires inside { slot < size_of (fields table.now) }
-    requires room { HasRoom walk }
-    requires root { LooksLikeRoot (cells table.now) }
-    requires stored { (cells table.now).stored slot ≡ OwnNumber value }
+    requires { AtOwn (fields table.now) walk slot value }
     ensures meets { MeetsNode (size_of (fields table.now)) (cells table.now) walk slot result }
     ensures cost { reads.new ≡ reads.old + 1 }
 {
@@ -145,12 +142,7 @@ fn meet_valued<L: Layout, const SLOTS: usize, A: Allocator, C: Ledger>(
     child: u8,
     reads: &mut Ticks<C>,
 ) -> Result<Walk, Corrupt>
-    requires inside { base < size_of (fields table.now) }
-    requires room { HasRoom walk }
-    requires stored { (cells table.now).stored slot ≡ AtBase base }
-    requires owned { (cells table.now).check base ≡ pos slot }
-    requires value { value ≡ (cells table.now).base base }
-    requires child { child ≡ (cells table.now).child slot }
+    requires { AtValued (fields table.now) walk slot base value child }
     ensures meets { MeetsNode (size_of (fields table.now)) (cells table.now) walk slot result }
     ensures cost { reads.new ≡ reads.old + 1 }
 {
@@ -178,9 +170,7 @@ fn meet_based<L: Layout, const SLOTS: usize, A: Allocator, C: Ledger>(
     base: usize,
     reads: &mut Ticks<C>,
 ) -> Result<Walk, Corrupt>
-    requires inside { slot < size_of (fields table.now) }
-    requires room { HasRoom walk }
-    requires stored { (cells table.now).stored slot ≡ AtBase base }
+    requires { AtBased (fields table.now) walk slot base }
     ensures meets { MeetsNode (size_of (fields table.now)) (cells table.now) walk slot result }
     ensures cost { reads.new ≤ reads.old + 3 }
 {
@@ -213,11 +203,8 @@ fn go_down<L: Layout, const SLOTS: usize, A: Allocator, C: Ledger>(
     walk: Walk,
     reads: &mut Ticks<C>,
 ) -> Result<Walk, Corrupt>
-    requires inside { walk.node < size_of (fields table.now) }
-    requires base { walk.base ≡ base_of (cells table.now) walk.node }
+    requires at { AtNode (fields table.now) walk }
     requires label { 0 < walk.label }
-    requires room { HasRoom walk }
-    requires root { LooksLikeRoot (cells table.now) }
     ensures down { IfOk result (StepsDown (size_of (fields table.now)) (cells table.now) walk) }
     ensures faulty { OnErr result (GoesDown (size_of (fields table.now)) (cells table.now) walk → ⊥) }
     ensures cost { reads.new ≤ reads.old + 4 }
@@ -275,11 +262,8 @@ fn go_on<L: Layout, const SLOTS: usize, A: Allocator, C: Ledger>(
     walk: Walk,
     reads: &mut Ticks<C>,
 ) -> Result<Walk, Corrupt>
-    requires inside { walk.node < size_of (fields table.now) }
-    requires base { walk.base ≡ base_of (cells table.now) walk.node }
+    requires at { AtNode (fields table.now) walk }
     requires away { walk.label ≡ 0 → walk.node ≢ 0 }
-    requires room { HasRoom walk }
-    requires root { LooksLikeRoot (cells table.now) }
     ensures on { IfOk result (GoesOn (size_of (fields table.now)) (fields table.now).ordered (cells table.now) walk) }
     ensures faulty { OnErr result ((next : Walk) → GoesOn (size_of (fields table.now)) (fields table.now).ordered (cells table.now) walk next → ⊥) }
     ensures cost { reads.new ≤ reads.old + 4 }

@@ -1,4 +1,4 @@
-use Rattle.std.proofs.Common.{Bool, sym, ◌/◌, ◌≡◌, ◌∙◌, append-nil, ap, subst}
+use Rattle.std.proofs.Common.{Bool, sym, ◌/◌, ◌≡◌, ◌∙◌, append-nil, ap, inl, refl, subst}
 use Rattle.std.proofs.lemmas.Result.{err_from_is_err_and}
 use Rattle.std.proofs.KnownBytes.{Consumes-trans}
 use Rattle.std.specs.Io.KnownBytes.{Consumes}
@@ -116,3 +116,62 @@ returns-clause-passes g c =
     let read = c.in_ok-header.ensures.bytes in
     let same : c.fill_tables.result.header ≡ c.in_ok-header.header = c.fill_tables.ensures.header ∙ c.in_ok-lists.ensures.header ∙ c.in_ok-empty.ensures.header in
     subst (Passes c.args.layout c.args.slots c.args.memory_limit _) (sym same) (passes c.args.layout c.args.slots c.args.memory_limit read.0 _ _ _ read.2 (sym c.in_ok-check_sizes.ensures.refusal) read.1)
+
+pub returns-in_err-header-clause-told : goal.returns-in_err-header-clause-told
+returns-in_err-header-clause-told g c =
+    let p = err_from_is_err_and c.from_residual.result c.from_residual.ensures.1 in
+    rw (p.1, p.2) c.in_err-header.ensures.told
+
+pub returns-in_err-header-clause-passes : goal.returns-in_err-header-clause-passes
+returns-in_err-header-clause-passes g c =
+    let p = err_from_is_err_and c.from_residual.result c.from_residual.ensures.1 in
+    rw p.1 tt
+
+pub returns-in_err-check_sizes-clause-told : goal.returns-in_err-check_sizes-clause-told
+returns-in_err-check_sizes-clause-told g c =
+    let p = err_from_is_err_and c.from_residual-in_err-check_sizes.result c.from_residual-in_err-check_sizes.ensures.1 in
+    rw p.1 (λ _. c.in_ok-header.ensures.told)
+
+pub returns-in_err-check_sizes-clause-passes : goal.returns-in_err-check_sizes-clause-passes
+returns-in_err-check_sizes-clause-passes g c =
+    let p = err_from_is_err_and c.from_residual-in_err-check_sizes.result c.from_residual-in_err-check_sizes.ensures.1 in
+    rw p.1 tt
+
+pub returns-in_err-empty-clause-told : goal.returns-in_err-empty-clause-told
+returns-in_err-empty-clause-told g c =
+    let p = err_from_is_err_and c.from_residual-in_err-empty.result c.from_residual-in_err-empty.ensures.1 in
+    rw p.1 (λ _. c.in_ok-header.ensures.told)
+
+pub returns-in_err-empty-clause-passes : goal.returns-in_err-empty-clause-passes
+returns-in_err-empty-clause-passes g c =
+    let p = err_from_is_err_and c.from_residual-in_err-empty.result c.from_residual-in_err-empty.ensures.1 in
+    rw p.1 tt
+
+pub returns-in_err-lists-clause-told : goal.returns-in_err-lists-clause-told
+returns-in_err-lists-clause-told g c =
+    let p = err_from_is_err_and c.from_residual-in_err-lists.result c.from_residual-in_err-lists.ensures.1 in
+    rw (p.1, p.2) (λ ends. c.in_err-lists.ensures.told ends ∙ c.in_ok-header.ensures.told)
+
+pub returns-in_err-lists-clause-passes : goal.returns-in_err-lists-clause-passes
+returns-in_err-lists-clause-passes g c =
+    let p = err_from_is_err_and c.from_residual-in_err-lists.result c.from_residual-in_err-lists.ensures.1 in
+    rw p.1 tt
+
+pub returns-in_err-read_end-clause-told : goal.returns-in_err-read_end-clause-told
+returns-in_err-read_end-clause-told g c =
+    let p = err_from_is_err_and c.from_residual-in_err-read_end.result c.from_residual-in_err-read_end.ensures.1 in
+    rw (p.1, p.2) (λ ends. c.in_err-read_end.ensures.told ends ∙ (c.in_ok-lists.ensures.told ∙ c.in_ok-header.ensures.told))
+
+pub returns-in_err-read_end-clause-passes : goal.returns-in_err-read_end-clause-passes
+returns-in_err-read_end-clause-passes g c =
+    let p = err_from_is_err_and c.from_residual-in_err-read_end.result c.from_residual-in_err-read_end.ensures.1 in
+    rw p.1 tt
+
+pub returns-in_err-header-clause-asked : goal.returns-in_err-header-clause-asked
+returns-in_err-header-clause-asked g c = inl refl
+
+pub returns-in_err-check_sizes-clause-asked : goal.returns-in_err-check_sizes-clause-asked
+returns-in_err-check_sizes-clause-asked g c = inl refl
+
+pub returns-clause-told : goal.returns-clause-told
+returns-clause-told g c = c.in_ok-read_end.ensures.told ∙ (c.in_ok-lists.ensures.told ∙ c.in_ok-header.ensures.told)

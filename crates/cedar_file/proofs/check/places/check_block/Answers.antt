@@ -1,7 +1,8 @@
-use Rattle.std.proofs.Common.{[], ◌≡◌, ◌+◌, ◌*◌, ◌/◌, ◌<◌, ap, arith, cond, eqb, of_z, pos, refl, subst, sym, to_z, unsigned_abs, w32, ◌∙◌}
+use Rattle.std.proofs.Common.{[], ◌≡◌, ◌+◌, ◌*◌, ◌/◌, ◌<◌, FitsSigned, ap, arith, cond, eqb, of_z, pos, refl, rules, subst, sym, to_z, unsigned_abs, w32, ◌∙◌}
 use Rattle.std.proofs.lemmas.Bool.{and_parts, false≢true}
 use Rattle.std.proofs.lemmas.Int.{ints}
 use Rattle.cedar_slots.specs.declared.records.BlockRecord.{BlockRecord}
+use Rattle.cedar_slots.proofs.Casts.{cast_is, cast_natural, not_negative}
 use Rattle.cedar_file.specs.PlaceChecks.{free_count, free_here, HasRing}
 use Rattle.cedar_slots.specs.Slots.{is_free, SlotLink}
 use Rattle.cedar_slots.specs.Views.{places_of}
@@ -42,10 +43,11 @@ returns-then-record-lt0-clause-answer g c = λ has.
     let at = head_free (places_of c.args.places.now) c.args.block has.0 has.1 some in
     let here : at.0 / 256 ≡ c.args.block = here_block c.args.places.now.slots.nodes.items c.args.block at.0 at.2 in
     let head : c.read_block-record.result.e_head ≡ pos at.0 = ap (λ (n : BlockRecord). n.e_head) c.read_block-record.ensures.value ∙ at.1 in
+    let fits : FitsSigned w32 c.read_block-record.result.e_head = search rules in
     elim c.then-record-lt0.branch [
-      | then-record-lt0-via-then-record-lt0 w ↦ omega (arith, ints)
+      | then-record-lt0-via-then-record-lt0 w ↦ not_negative w32 _ fits at.0 head w.if-record-lt0.true
       | then-record-lt0-via-else-record-lt0+then-record-block w ↦
-          let same : unsigned_abs (to_z w32 (of_z w32 c.read_block-record.result.e_head)) ≡ at.0 = omega (arith, ints) in
+          let same : unsigned_abs (to_z w32 (of_z w32 c.read_block-record.result.e_head)) ≡ at.0 = cast_is w32 _ fits at.0 head in
           w.if-record-block.true (ap (λ n. n / 256) same ∙ here)
     ]
 
@@ -54,7 +56,7 @@ returns-then-not-read_free-clause-answer g c = λ has.
     let some : 0 < free_count c.args.places.now.slots.nodes.items c.args.block = omega (arith, c.in_ok-count.ensures.answer.1) in
     let at = head_free (places_of c.args.places.now) c.args.block has.0 has.1 some in
     let head : c.read_block-record.result.e_head ≡ pos at.0 = ap (λ (n : BlockRecord). n.e_head) c.read_block-record.ensures.value ∙ at.1 in
-    let same : unsigned_abs (to_z w32 (of_z w32 c.read_block-record.result.e_head)) ≡ at.0 = omega (arith, ints) in
+    let same : unsigned_abs (to_z w32 (of_z w32 c.read_block-record.result.e_head)) ≡ at.0 = cast_is w32 _ (search rules) at.0 head in
     absurd (false≢true (sym c.if-not-read_free.true ∙ c.read_free.ensures.value ∙ ap (is_free c.args.places.now.slots.nodes.items) same ∙ (and_parts _ _ at.2).0))
 
 pub returns-clause-answer : goal.returns-clause-answer
@@ -62,7 +64,8 @@ returns-clause-answer g c =
     let few = passing-le (free_here c.args.places.now.slots.nodes.items c.args.block) (256 * c.args.block) 256 in
     let same : c.read_block-record.result.num ≡ pos (free_count c.args.places.now.slots.nodes.items c.args.block + cond (eqb c.args.block 0) 1 0) = omega (arith, ints, few, c.in_ok-count.ensures.answer.1, c.root_count.ensures, root-le c.args.block) in
     let num = ap (λ (n : BlockRecord). n.num) (sym c.read_block-record.ensures.value) ∙ same in
-    let head : c.read_block-record.result.e_head ≡ pos (unsigned_abs (to_z w32 (of_z w32 c.read_block-record.result.e_head))) = omega (arith, ints) in
+    let fits : FitsSigned w32 c.read_block-record.result.e_head = search rules in
+    let head = cast_natural w32 _ fits c.if-record-lt0.false in
     let e_head = ap (λ (n : BlockRecord). n.e_head) (sym c.read_block-record.ensures.value) ∙ head in
     let some : 0 < free_count c.args.places.now.slots.nodes.items c.args.block = omega (arith, c.in_ok-count.ensures.answer.1) in
     ok_iff_same c.check_ring.result tt
@@ -70,7 +73,7 @@ returns-clause-answer g c =
     (λ has.
     let at = head_free (places_of c.args.places.now) c.args.block has.0 has.1 some in
     let there : c.read_block-record.result.e_head ≡ pos at.0 = ap (λ (n : BlockRecord). n.e_head) c.read_block-record.ensures.value ∙ at.1 in
-    let same_head : at.0 ≡ unsigned_abs (to_z w32 (of_z w32 c.read_block-record.result.e_head)) = omega (arith, ints) in
+    let same_head : at.0 ≡ unsigned_abs (to_z w32 (of_z w32 c.read_block-record.result.e_head)) = sym (cast_is w32 _ fits at.0 there) in
     subst (HasRing (SlotLink c.args.places.now.slots.nodes.items) (free_here c.args.places.now.slots.nodes.items c.args.block)) same_head at.3)
     c.check_ring.ensures.answer
 

@@ -13,7 +13,7 @@ returns-then-walk-ne0-clause-faulty g c =
     down_faulty (size_of (fields c.args.table.now)) c.args.table.now.ordered (cells c.args.table.now) c.args.walk _ (omega (arith, c.if-walk-ne0.true)) c.go_down.ensures.faulty
 
 pub go_up-requires : goal.go_up-requires
-go_up-requires g c = (search rules, (c.requires.inside, (c.requires.away c.if-walk-ne0.false, c.if-walk-ne0.false)))
+go_up-requires g c = (search rules, (c.requires.at.inside, (c.requires.away c.if-walk-ne0.false, c.if-walk-ne0.false)))
 
 pub returns-clause-on : goal.returns-clause-on
 returns-clause-on g c =

@@ -11,7 +11,7 @@ meet_valued-requires g c =
     let fits_check : FitsSigned w32 c.read_node-number.result.check = search rules in
     let own = sym (to_z-of_z w32 c.read_node-number.result.check fits_check ∙ c.read_node-number.ensures.check) ∙ c.names.ensures.0 c.if-names.true in
     let inside : c.args.base < size_of (fields c.args.table.now) = omega (arith, c.if-base-size.false, c.size.ensures) in
-    (search rules, (inside, (c.requires.room, (c.requires.stored, (own, (to_z-of_z w32 c.read_node-number.result.base fits ∙ c.read_node-number.ensures.base, c.read_info-child.ensures.child))))))
+    (search rules, record { inside = inside; room = c.requires.room; stored = c.requires.stored; owned = own; value = to_z-of_z w32 c.read_node-number.result.base fits ∙ c.read_node-number.ensures.base; child = c.read_info-child.ensures.child })
 
 pub returns-then-base-size-clause-meets : goal.returns-then-base-size-clause-meets
 returns-then-base-size-clause-meets g c = record {

@@ -77,4 +77,4 @@ go_on-requires g c =
     ] in
     let few : c.loop-step._step < 2 * size_of (fields c.args.table.now) = omega (arith, c.loop-step-test.true, c.size-step-end.ensures) in
     let most : size_of (fields c.args.table.now) ≤ 2 ^ 30 = omega (arith, c.args.table.now.shaped.blocks.active_in, c.args.table.now.shaped.blocks.fits) in
-    (search rules, (on.inside, (on.base, (away, ((omega (arith, on.met, few, most), omega (arith, on.numbers, few, most)), c.requires.root)))))
+    (search rules, (record { inside = on.inside; base = on.base; room = (omega (arith, on.met, few, most), omega (arith, on.numbers, few, most)); root = c.requires.root }, away))

@@ -113,3 +113,45 @@ returns-clause-answer g c =
     let end : number_at i.2.0 (drop c.loop-label.label-index q) ≡ Some c.in_ok-value.value = at_end i.2.0 q c.loop-label.label-index c.loop-label-test.false ∙ sym (c.in_ok-value.ensures.answer i.2.0 i.2.1) in
     ap (λ (v : ℤ). Some (v, length k)) (to_z-of_z w32 c.in_ok-value.value fits)
     ∙ sym (exact_is (tree_of (fields c.args.self.now)) k (Some c.in_ok-value.value) (i.2.2 ∙ end))
+
+pub returns-in_err-node-clause-cost : goal.returns-in_err-node-clause-cost
+returns-in_err-node-clause-cost g c = omega (arith, c.loop-rest.invariant.0, c.in-len4-up.len_at_least, c.in_err-node.ensures.cost)
+
+pub returns-in_err-node-2-clause-cost : goal.returns-in_err-node-2-clause-cost
+returns-in_err-node-2-clause-cost g c = omega (arith, c.loop-rest.invariant.0, c.in-len4-up.len_at_least, c.in_ok-node.ensures.found, c.in_err-node-2.ensures.cost)
+
+pub returns-in_err-node-3-clause-cost : goal.returns-in_err-node-3-clause-cost
+returns-in_err-node-3-clause-cost g c = omega (arith, c.loop-rest.invariant.0, c.in-len4-up.len_at_least, c.in_ok-node.ensures.found, c.in_ok-node-2.ensures.found, c.in_err-node-3.ensures.cost)
+
+pub returns-in_err-node-4-clause-cost : goal.returns-in_err-node-4-clause-cost
+returns-in_err-node-4-clause-cost g c = omega (arith, c.loop-rest.invariant.0, c.in-len4-up.len_at_least, c.in_ok-node.ensures.found, c.in_ok-node-2.ensures.found, c.in_ok-node-3.ensures.found, c.in_err-node-4.ensures.cost)
+
+pub returns-in_err-node-5-clause-cost : goal.returns-in_err-node-5-clause-cost
+returns-in_err-node-5-clause-cost g c = omega (arith, c.loop-rest.invariant.0, c.loop-label.invariant.0, c.loop-label-test.true, c.in_err-node-5.ensures.cost)
+
+pub returns-in_err-value-clause-cost : goal.returns-in_err-value-clause-cost
+returns-in_err-value-clause-cost g c = omega (arith, c.loop-rest.invariant.0, c.loop-label.invariant.0, c.loop-label-test.false, c.loop-label.auto.label-index-end, c.in_err-value.ensures.cost)
+
+pub returns-clause-cost : goal.returns-clause-cost
+returns-clause-cost g c = omega (arith, c.loop-rest.invariant.0, c.loop-label.invariant.0, c.loop-label-test.false, c.loop-label.auto.label-index-end, c.in_ok-value.ensures.cost)
+
+pub returns-clause-least : goal.returns-clause-least
+returns-clause-least g c = omega (arith, c.loop-rest.invariant.0, c.loop-label.invariant.0, c.loop-label-test.false, c.in_ok-value.ensures.grows)
+
+pub returns-in_err-node-clause-least : goal.returns-in_err-node-clause-least
+returns-in_err-node-clause-least g c = rw c.from_residual.ensures tt
+
+pub returns-in_err-node-2-clause-least : goal.returns-in_err-node-2-clause-least
+returns-in_err-node-2-clause-least g c = rw c.from_residual-in_err-node-2.ensures tt
+
+pub returns-in_err-node-3-clause-least : goal.returns-in_err-node-3-clause-least
+returns-in_err-node-3-clause-least g c = rw c.from_residual-in_err-node-3.ensures tt
+
+pub returns-in_err-node-4-clause-least : goal.returns-in_err-node-4-clause-least
+returns-in_err-node-4-clause-least g c = rw c.from_residual-in_err-node-4.ensures tt
+
+pub returns-in_err-node-5-clause-least : goal.returns-in_err-node-5-clause-least
+returns-in_err-node-5-clause-least g c = rw c.from_residual-in_err-node-5.ensures tt
+
+pub returns-in_err-value-clause-least : goal.returns-in_err-value-clause-least
+returns-in_err-value-clause-least g c = rw c.from_residual-in_err-value.ensures tt
