@@ -14,7 +14,8 @@ pub use Rattle.cedar_format.specs.Reading.{ReadsBy, ReadsRecords, TellsBreaks, T
 pub use Rattle.cedar_format.specs.Records.{block_bytes, decoded_bytes, FitsBlock, FitsBody}
 pub use Rattle.cedar_format.specs.Records.{FitsInfo, FitsNode, info_bytes, node_bytes}
 pub use Rattle.cedar_format.specs.Refusal.{AllocationFailed, InvalidHeader, refusal, refusal_of}
-pub use Rattle.cedar_format.specs.Shown.{fault_prefix, refusal_text}
+pub use Rattle.cedar_format.specs.Shown.{corrupt_text, fault_prefix, field_text, layout_text}
+pub use Rattle.cedar_format.specs.Shown.{limit_text, refusal_text, version_text}
 pub use Rattle.cedar_format.specs.Statements.{HeadersAreReadAgain, OneTable, TablesPass}
 pub use Rattle.cedar_format.specs.declared.error.CedarPersistenceError.TheVariants.{Io, Truncated}
 pub use Rattle.cedar_slots.specs.Blocks.{blank_block}
