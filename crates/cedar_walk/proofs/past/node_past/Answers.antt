@@ -1,6 +1,6 @@
 use Rattle.std.proofs.Common.{◌++◌, Option, ℤ, rules, subst, sym}
 use Rattle.cedar_table.specs.Table.Views.{fields}
-use Rattle.cedar_walk.specs.Visits.{ComesTo, left_after, path_to}
+use Rattle.cedar_walk.specs.Visits.{ComesTo, left_after, path_to, SkipsToNode}
 use Rattle.cedar_walk.proofs.WalkLemmas.NextNode.{node_inside, node_stands}
 use Rattle.cedar_walk.proofs.past.node_past.Goals as goal
 
@@ -20,3 +20,6 @@ returns g c = λ start at.
     let comes = c.in_ok-place.ensures start at in
     let is = c.number_of.ensures _ (node_stands _ T c.requires.well_formed (start ++ path_to T place.depth place.slot) place.slot comes.below) in
     subst (λ (o : Option ℤ). ComesTo T start (left_after T start c.args.depth c.args.node) (path_to T c.args.depth c.args.node) (record { slot = place.slot; depth = place.depth; label = place.label; number = o })) (sym is) comes
+
+pub returns-in_err-place : goal.returns-in_err-place
+returns-in_err-place g c = subst (SkipsToNode (fields c.args.table.now) c.args.depth c.args.node) (sym c.from_residual.ensures) c.in_err-place.ensures

@@ -1,6 +1,9 @@
 use Rattle.std.proofs.Common.{◌++◌, rules, subst, sym}
 use Rattle.cedar_table.specs.Table.Views.{fields}
-use Rattle.cedar_walk.specs.Visits.{ComesToNumber, path_to}
+use Rattle.cedar_walk.specs.Visits.{ComesToNumber, GoesToNumber, path_to}
+use Rattle.cedar_walk.specs.Pending.{IsPending}
+use Rattle.cedar_walk.specs.declared.visits.Numbered.{Numbered}
+use Rattle.std.specs.Prelude.{IfSome}
 use Rattle.cedar_walk.proofs.WalkLemmas.NextNumber.{deep_not_root}
 use Rattle.cedar_walk.proofs.pending.numbered_after_with_pending.Goals as goal
 
@@ -35,3 +38,9 @@ returns-clause-found g c = λ start at.
 
 pub returns-clause-kept : goal.returns-clause-kept
 returns-clause-kept g c = c.numbered_from_with_pending.ensures.kept
+
+pub returns-in_err-place-clause-found : goal.returns-in_err-place-clause-found
+returns-in_err-place-clause-found g c = subst (GoesToNumber (fields c.args.table.now) c.args.depth c.args.node) (sym c.from_residual.ensures) c.in_err-place.ensures
+
+pub returns-in_err-place-clause-kept : goal.returns-in_err-place-clause-kept
+returns-in_err-place-clause-kept g c = subst (λ o. IfSome o (λ (next : Numbered). IsPending (fields c.args.table.now) c.place_with_pending.new.siblings next.depth next.slot)) (sym c.from_residual.ensures) tt

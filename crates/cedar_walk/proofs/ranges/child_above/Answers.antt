@@ -1,4 +1,4 @@
-use Rattle.std.proofs.Common.{◌<◌, ◌≤◌, arith, rules}
+use Rattle.std.proofs.Common.{◌<◌, ◌≤◌, arith, inl, inr, rules}
 use Rattle.cedar_model.specs.Queries.{node_at}
 use Rattle.cedar_model.specs.Tree.{Forest, IsSoundBelow}
 use Rattle.cedar_model.proofs.OrderLemmas.{sound_node_at}
@@ -50,3 +50,15 @@ loop-next-preserved g c = λ w at.
     let T = fields c.args.table.now in
     let most : c.loop-next.next ≤ c.args.label = omega (arith, c.if-next-label.false) in
     (sibling_on _ T c.requires.well_formed c.requires.ordered w c.args.node c.args.label c.loop-next.next c.slot_below.result c.sibling-next.result at (c.loop-next.invariant w at) c.loop-next-test.true most c.slot_below.ensures c.sibling-next.ensures).0
+
+pub returns-then-next-label-clause-first : goal.returns-then-next-label-clause-first
+returns-then-next-label-clause-first g c = c.loop-next.invariant
+
+pub returns-then-next-label-clause-above : goal.returns-then-next-label-clause-above
+returns-then-next-label-clause-above g c = inr c.if-next-label.true
+
+pub returns-clause-first : goal.returns-clause-first
+returns-clause-first g c = c.loop-next.invariant
+
+pub returns-clause-above : goal.returns-clause-above
+returns-clause-above g c = inl c.loop-next-test.false

@@ -1,7 +1,7 @@
 use Rattle.std.proofs.Common.{◌++◌, ap, rules, subst, sym}
 use Rattle.cedar_model.specs.Walks.{visited_entries}
 use Rattle.cedar_table.specs.Table.Views.{fields}
-use Rattle.cedar_walk.specs.Visits.{ComesToNumber, path_to}
+use Rattle.cedar_walk.specs.Visits.{ComesToNumber, GoesToNumber, path_to}
 use Rattle.cedar_walk.proofs.WalkLemmas.NextNumber.{deep_not_root}
 use Rattle.cedar_walk.proofs.visits.numbered_after.Goals as goal
 
@@ -26,3 +26,7 @@ returns g c = λ start at.
     let T = fields c.args.table.now in
     let comes = c.in_ok-place.ensures start at in
     subst (λ left. ComesToNumber T start left c.numbered_from.result) (sym (ap visited_entries comes.visits)) (c.numbered_from.ensures start comes.below)
+
+pub returns-in_err-place : goal.returns-in_err-place
+returns-in_err-place g c =
+    subst (GoesToNumber (fields c.args.table.now) c.args.depth c.args.node) (sym c.from_residual.ensures) (λ start at. ap visited_entries (c.in_err-place.ensures start at))
