@@ -1,3 +1,4 @@
+pub mod Asked
 pub mod Changes
 pub mod Step
 pub mod Words

@@ -1,4 +1,5 @@
 -- The words of clauses, from one place.
+pub use Rattle.cedar_edit.specs.Asked.{TakesAlone}
 pub use Rattle.cedar_edit.specs.Changes.{AddsLeaf, cells_besides, ChainsRest, ComesBehind, IsInWay}
 pub use Rattle.cedar_edit.specs.Changes.{LacksLoneNumber, LacksNumberSlot, MakesAtMost}
 pub use Rattle.cedar_edit.specs.Changes.{MovesForLabel, MovesIn, MovesPrefixOut, OwnsNumberAlone}

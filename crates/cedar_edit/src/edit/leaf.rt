@@ -6,7 +6,7 @@ ghost use Rattle.cedar_edit.specs.Words.{ComesBehind, EditsNode, fields, Forest,
 ghost use Rattle.cedar_edit.specs.Words.{HasChain, HasNode, Held, InRange, IsAt, IsNodeOf, IsTable};
 ghost use Rattle.cedar_edit.specs.Words.{LeadsTo, Node, OwnsNothing, Removes, SameFrame};
 ghost use Rattle.cedar_edit.specs.Words.{SeeksBehind, SeeksPlace, SetsChild, SetsSibling, size_of};
-ghost use Rattle.cedar_edit.specs.Words.{without};
+ghost use Rattle.cedar_edit.specs.Words.{TakesAlone, without};
 
 use cedar_model::Layout;
 use cedar_slots::BLOCK_SIZE;
@@ -101,15 +101,7 @@ pub(crate) fn add_only<L: Layout, const SLOTS: usize, A: Allocator>(
     child: usize,
     label: u8,
 )
-    requires sound { IsTable SLOTS (fields table.old).places }
-    requires node_in { node < size_of (fields table.old) }
-    requires not_root { node ≢ 0 }
-    requires node { (f : Forest) × HasNode (fields table.old) f node }
-    requires positive { 0 < label }
-    requires based { InRange (size_of (fields table.old)) ((cells table.old).stored node) }
-    requires alone { OwnsNothing (cells table.old) node }
-    requires free { Held (cells table.old) (below (cells table.old) node label) → ⊥ }
-    requires slot { child ≡ below (cells table.old) node label }
+    requires { TakesAlone SLOTS (fields table.old) node child label }
     ensures sound { IsTable SLOTS (fields table.new).places }
     ensures slot { child ≡ below (cells table.new) node label }
     ensures added { AddsLabel (size_of (fields table.old)) (fields table.old).ordered (cells table.old) (cells table.new) node label }

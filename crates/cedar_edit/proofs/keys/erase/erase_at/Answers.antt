@@ -42,6 +42,12 @@ overflow_sub-entries g c =
     let some = some_entry g.row.SLOTS (fields c.args.table.now) held.0 c.requires.well_formed held.2 in
     omega (arith, some, c.entries.ensures, c.trim.ensures.frame.settings.entries, c.drop_any_number.ensures.frame.settings.entries)
 
+pub entries-requires : goal.entries-requires
+entries-requires g c = search rules
+
+pub set_entries-requires : goal.set_entries-requires
+set_entries-requires g c = search rules
+
 -- the table after, with one entry less
 last : (g : _) → goal.After-set_entries g → Fields
 last g c = record (fields c.trim.new.table) { entries = c.entries.result - 1 }

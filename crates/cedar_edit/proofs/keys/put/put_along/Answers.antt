@@ -17,6 +17,7 @@ use Rattle.cedar_model.proofs.UpdateLemmas.AlongKey.{node_walked, walked_same}
 use Rattle.cedar_model.specs.Edit.Packing.{joins, StaysSmall}
 use Rattle.cedar_edit.proofs.PackingLemmas.{number_small}
 use Rattle.cedar_edit.proofs.PutLemmas.{done_put, refused_put}
+use Rattle.cedar_edit.proofs.StepLemmas.{on_no_refusal}
 use Rattle.cedar_edit.proofs.keys.put.put_along.Goals as goal
 
 pub returns-in_err-end-clause-puts : goal.returns-in_err-end-clause-puts
@@ -171,3 +172,18 @@ returns-else-is_new-clause-marks g c = put_keeps g.row.SLOTS (fields c.args.tabl
 
 pub returns-else-is_new-clause-new_mark : goal.returns-else-is_new-clause-new_mark
 returns-else-is_new-clause-new_mark g c = new_mark g.row.SLOTS (fields c.args.table.now) (fields c.walk_in.new.table) (fields c.put_number.new.table) c.args.key.now c.in_ok-end.end c.requires.well_formed c.requires.key c.in_ok-end.ensures.walked refl (λ o. c.in_default.ensures.marks o) (λ r z. c.in_default.ensures.marks_own r z)
+
+pub returns-in_err-end-clause-small : goal.returns-in_err-end-clause-small
+returns-in_err-end-clause-small g c = on_no_refusal c.from_residual.result c.in_err-end.field-0.0 _ c.from_residual.ensures.1
+
+pub returns-in_err-end-clause-new_mark : goal.returns-in_err-end-clause-new_mark
+returns-in_err-end-clause-new_mark g c = on_no_refusal c.from_residual.result c.in_err-end.field-0.0 _ c.from_residual.ensures.1
+
+pub set_entries-requires : goal.set_entries-requires
+set_entries-requires g c = search rules
+
+pub entries-requires : goal.entries-requires
+entries-requires g c = search rules
+
+pub walk_in-requires : goal.walk_in-requires
+walk_in-requires g c = (search rules, (c.requires.well_formed, (c.requires.key, c.requires.way)))

@@ -31,7 +31,7 @@ add_only-requires g c =
       path = n.1.path;
       at = room.placed.at n.1.path n.1.at;
     } in
-    (search rules, (room.sound, (room.placed.inside, (c.requires.not_root, ((n.0, node), (c.requires.positive, (room.placed.based c.requires.not_root, (room.alone, (room.placed.free, room.slot)))))))))
+    (search rules, record { sound = room.sound; node_in = room.placed.inside; not_root = c.requires.not_root; node = (n.0, node); positive = c.requires.positive; based = room.placed.based c.requires.not_root; alone = room.alone; free = room.placed.free; slot = room.slot })
 
 pub returns-clause-stepped : goal.returns-clause-stepped
 returns-clause-stepped g c =

@@ -13,3 +13,6 @@ returns-clause-taken g c = λ taken. ((λ e. c.if-base_of-eq0.false (c.base_of.e
 
 pub returns-clause-open : goal.returns-clause-open
 returns-clause-open g c = λ n _. c.is_free_slot.ensures.0 (one_is c.is_free_slot.result n)
+
+pub returns-then-base_of-eq0-clause-taken : goal.returns-then-base_of-eq0-clause-taken
+returns-then-base_of-eq0-clause-taken g c = λ yes. absurd (cc)
