@@ -7,6 +7,7 @@ ghost use Rattle.cedar_edit.specs.Words.{HasChain, HasNode, Held, InRange, IsAt,
 ghost use Rattle.cedar_edit.specs.Words.{LeadsTo, Node, OwnsNothing, Removes, SameFrame};
 ghost use Rattle.cedar_edit.specs.Words.{SeeksBehind, SeeksPlace, SetsChild, SetsSibling, size_of};
 ghost use Rattle.cedar_edit.specs.Words.{TakesAlone, without};
+ghost use Rattle.cedar_edit.specs.Words.{MayLoseLabel, SeeksOwned, TakesFree, TakesReserved};
 
 use cedar_model::Layout;
 use cedar_slots::BLOCK_SIZE;
@@ -65,12 +66,7 @@ pub(crate) fn add_label<L: Layout, const SLOTS: usize, A: Allocator>(
     node: usize,
     label: u8,
 ) -> usize
-    requires sound { IsTable SLOTS (fields table.old).places }
-    requires node_in { node < size_of (fields table.old) }
-    requires node { (f : Forest) × HasNode (fields table.old) f node }
-    requires positive { 0 < label }
-    requires based { (node ≡ 0 → ⊥) → InRange (size_of (fields table.old)) ((cells table.old).stored node) }
-    requires free { Held (cells table.old) (below (cells table.old) node label) → ⊥ }
+    requires { TakesFree SLOTS (fields table.old) node label }
     ensures sound { IsTable SLOTS (fields table.new).places }
     ensures slot { result ≡ below (cells table.new) node label }
 
@@ -123,13 +119,7 @@ pub(crate) fn add_reserved<L: Layout, const SLOTS: usize, A: Allocator>(
     node: usize,
     label: u8,
 ) -> usize
-    requires sound { IsTable SLOTS (fields table.old).places }
-    requires node_in { node < size_of (fields table.old) }
-    requires not_root { node ≢ 0 }
-    requires node { (f : Forest) × IsNodeOf (size_of (fields table.old)) (cells_besides (fields table.old) node label) (fields table.old).ordered f node }
-    requires positive { 0 < label }
-    requires based { InRange (size_of (fields table.old)) ((cells table.old).stored node) }
-    requires reserved { (cells table.old).check (below (cells table.old) node label) ≡ pos 0 }
+    requires { TakesReserved SLOTS (fields table.old) node label }
     ensures sound { IsTable SLOTS (fields table.new).places }
     ensures slot { result ≡ below (cells table.new) node label }
     ensures added { AddsLabel (size_of (fields table.old)) (fields table.old).ordered (cells_besides (fields table.old) node label) (cells table.new) node label }
@@ -151,12 +141,7 @@ fn slot_to<L: Layout, const SLOTS: usize, A: Allocator>(
     node: usize,
     label: u8,
 ) -> Option<usize>
-    requires node_in { node < size_of (fields table.now) }
-    requires based { base_of (cells table.now) node < size_of (fields table.now) }
-    requires chain { HasChain (size_of (fields table.now)) (cells table.now) (fields table.now).ordered node }
-    requires root { (c : ℕ) → (cells table.now).check 0 ≢ pos c }
-    requires positive { 0 < label }
-    requires owned { (cells table.now).check (below (cells table.now) node label) ≡ pos node }
+    requires { SeeksOwned (fields table.now) node label }
     ensures { MatchOption result ((cells table.now).child node ≡ label) (LeadsTo (size_of (fields table.now)) (cells table.now) node label) }
 {
     let first = table.child(node);
@@ -201,12 +186,7 @@ pub(crate) fn remove_label<L: Layout, const SLOTS: usize, A: Allocator>(
     node: usize,
     label: u8,
 )
-    requires sound { IsTable SLOTS (fields table.old).places }
-    requires node_in { node < size_of (fields table.old) }
-    requires node { (f : Forest) × HasNode (fields table.old) f node }
-    requires positive { 0 < label }
-    requires owned { (cells table.old).check (below (cells table.old) node label) ≡ pos node }
-    requires bare { Node (size_of (fields table.old)) (cells table.old) (below (cells table.old) node label) None [] }
+    requires { MayLoseLabel SLOTS (fields table.old) node label }
     ensures sound { IsTable SLOTS (fields table.new).places }
     ensures removed { Removes (size_of (fields table.old)) (cells table.old) (cells table.new) node label }
     ensures tree { EditsNode (size_of (fields table.old)) (cells table.old) (fields table.new) node (λ n. n) (λ u. without u label) }

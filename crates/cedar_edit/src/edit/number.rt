@@ -4,6 +4,8 @@ ghost use Rattle.std.specs.Prelude.{◌<◌, ◌≡◌, ◌⊎◌, None, pos, So
 ghost use Rattle.cedar_edit.specs.Words.{below, cells, cells_besides, DropsNumber, EditsNode};
 ghost use Rattle.cedar_edit.specs.Words.{fields, Forest, HasNode, Held, InRange, IsNodeOf, IsTable};
 ghost use Rattle.cedar_edit.specs.Words.{OwnsNothing, SameFrame, SetsNumber, size_of};
+ghost use Rattle.cedar_edit.specs.Words.{MayLoseNumber, NumbersAlone, NumbersReserved};
+ghost use Rattle.cedar_edit.specs.Words.{TakesNumber};
 
 use cedar_model::Layout;
 use cedar_slots::NodeRecord;
@@ -17,12 +19,7 @@ pub(crate) fn set_number<L: Layout, const SLOTS: usize, A: Allocator>(
     node: usize,
     value: i32,
 )
-    requires sound { IsTable SLOTS (fields table.old).places }
-    requires node_in { node < size_of (fields table.old) }
-    requires not_root { 0 < node }
-    requires node { (f : Forest) × HasNode (fields table.old) f node }
-    requires based { InRange (size_of (fields table.old)) ((cells table.old).stored node) }
-    requires place { ((cells table.old).check (below (cells table.old) node 0) ≡ pos node) ⊎ (Held (cells table.old) (below (cells table.old) node 0) → ⊥) }
+    requires { TakesNumber SLOTS (fields table.old) node }
     ensures sound { IsTable SLOTS (fields table.new).places }
     ensures set { SetsNumber (size_of (fields table.old)) (cells table.old) (cells table.new) node value }
     ensures tree { EditsNode (size_of (fields table.old)) (cells table.old) (fields table.new) node (λ _. Some value) (λ u. u) }
@@ -52,14 +49,7 @@ pub(crate) fn set_only<L: Layout, const SLOTS: usize, A: Allocator>(
     slot: usize,
     value: i32,
 )
-    requires sound { IsTable SLOTS (fields table.old).places }
-    requires node_in { node < size_of (fields table.old) }
-    requires not_root { 0 < node }
-    requires node { (f : Forest) × HasNode (fields table.old) f node }
-    requires based { InRange (size_of (fields table.old)) ((cells table.old).stored node) }
-    requires alone { OwnsNothing (cells table.old) node }
-    requires free { Held (cells table.old) (below (cells table.old) node 0) → ⊥ }
-    requires slot { slot ≡ below (cells table.old) node 0 }
+    requires { NumbersAlone SLOTS (fields table.old) node slot }
     ensures sound { IsTable SLOTS (fields table.new).places }
     ensures set { SetsNumber (size_of (fields table.old)) (cells table.old) (cells table.new) node value }
     ensures tree { EditsNode (size_of (fields table.old)) (cells table.old) (fields table.new) node (λ _. Some value) (λ u. u) }
@@ -77,12 +67,7 @@ pub(crate) fn set_reserved<L: Layout, const SLOTS: usize, A: Allocator>(
     node: usize,
     value: i32,
 )
-    requires sound { IsTable SLOTS (fields table.old).places }
-    requires node_in { node < size_of (fields table.old) }
-    requires not_root { 0 < node }
-    requires node { (f : Forest) × IsNodeOf (size_of (fields table.old)) (cells_besides (fields table.old) node 0) (fields table.old).ordered f node }
-    requires based { InRange (size_of (fields table.old)) ((cells table.old).stored node) }
-    requires reserved { (cells table.old).check (below (cells table.old) node 0) ≡ pos 0 }
+    requires { NumbersReserved SLOTS (fields table.old) node }
     ensures sound { IsTable SLOTS (fields table.new).places }
     ensures set { SetsNumber (size_of (fields table.old)) (cells_besides (fields table.old) node 0) (cells table.new) node value }
     ensures tree { EditsNode (size_of (fields table.old)) (cells_besides (fields table.old) node 0) (fields table.new) node (λ _. Some value) (λ u. u) }
@@ -101,12 +86,7 @@ pub(crate) fn drop_number<L: Layout, const SLOTS: usize, A: Allocator>(
     table: &mut Table<L, SLOTS, A>,
     node: usize,
 )
-    requires sound { IsTable SLOTS (fields table.old).places }
-    requires node_in { node < size_of (fields table.old) }
-    requires not_root { 0 < node }
-    requires node { (f : Forest) × HasNode (fields table.old) f node }
-    requires based { InRange (size_of (fields table.old)) ((cells table.old).stored node) }
-    requires owned { (cells table.old).check (below (cells table.old) node 0) ≡ pos node }
+    requires { MayLoseNumber SLOTS (fields table.old) node }
     ensures sound { IsTable SLOTS (fields table.new).places }
     ensures dropped { DropsNumber (size_of (fields table.old)) (cells table.old) (cells table.new) node }
     ensures tree { EditsNode (size_of (fields table.old)) (cells table.old) (fields table.new) node (λ _. None) (λ u. u) }

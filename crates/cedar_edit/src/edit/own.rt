@@ -6,6 +6,7 @@ ghost use Rattle.cedar_edit.specs.Words.{FieldSet, Forest, HasNode, IsAt, IsTabl
 ghost use Rattle.cedar_edit.specs.Words.{MakesIfFull, MayMakeBlock, node_at, OwnNumber};
 ghost use Rattle.cedar_edit.specs.Words.{OwnsNothing, reduced_layout, root_of, SameFrame, size_of};
 ghost use Rattle.cedar_edit.specs.Words.{TableHolds};
+ghost use Rattle.cedar_edit.specs.Words.{MayLoseOwn, MayMoveOwn};
 
 use crate::edit::number::set_number;
 use cedar_model::{Layout, Stored};
@@ -46,11 +47,7 @@ pub(crate) fn drop_own_number<L: Layout, const SLOTS: usize, A: Allocator>(
     table: &mut Table<L, SLOTS, A>,
     node: usize,
 )
-    requires sound { IsTable SLOTS (fields table.old).places }
-    requires node_in { node < size_of (fields table.old) }
-    requires not_root { node ≢ 0 }
-    requires node { (f : Forest) × HasNode (fields table.old) f node }
-    requires alone { OwnsNothing (cells table.old) node }
+    requires { MayLoseOwn SLOTS (fields table.old) node }
     ensures sound { IsTable SLOTS (fields table.new).places }
     ensures set { FieldSet (cells table.old) (cells table.new) node (AtBase 0) }
     ensures tree { EditsNode (size_of (fields table.old)) (cells table.old) (fields table.new) node (λ _. None) (λ u. u) }
@@ -66,11 +63,7 @@ pub(crate) fn move_number<L: Layout, const SLOTS: usize, A: Allocator>(
     node: usize,
     value: i32,
 ) -> Result<(), Shortage>
-    requires sound { IsTable SLOTS (fields table.old).places }
-    requires node_in { node < size_of (fields table.old) }
-    requires not_root { node ≢ 0 }
-    requires node { (f : Forest) × HasNode (fields table.old) f node }
-    requires own { (cells table.old).stored node ≡ OwnNumber value }
+    requires { MayMoveOwn SLOTS (fields table.old) node value }
     ensures sound { IsTable SLOTS (fields table.new).places }
     ensures tree { (f : Forest) → TableHolds (fields table.old) f → TableHolds (fields table.new) f }
     ensures at { (w : List ℕ) (s : ℕ) → IsAt (cells table.old) w s → IsAt (cells table.new) w s }

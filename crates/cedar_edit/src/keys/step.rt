@@ -6,6 +6,8 @@ ghost use Rattle.cedar_edit.specs.Words.{HasNode, Held, is_value, IsTable, Lacks
 ghost use Rattle.cedar_edit.specs.Words.{MayMakeBlock, OwnNumber, OwnsNothing, Placed, PutsInBase};
 ghost use Rattle.cedar_edit.specs.Words.{PutsInSlot, PutsMark, size_of, StepsTo, TableHolds};
 ghost use Rattle.cedar_edit.specs.Words.{TakesFreeSlot, TakesNoBlock, TakesSingle, WantsSlot};
+ghost use Rattle.cedar_edit.specs.Words.{ExtendsLeaf, GoesToSlot, NumbersLeaf, PutsNumberAt};
+ghost use Rattle.cedar_edit.specs.Words.{StepsFrom};
 
 use crate::edit::leaf::{add_label, add_only, add_reserved};
 use crate::edit::number::{set_number, set_only, set_reserved};
@@ -51,12 +53,7 @@ pub(crate) fn extend_leaf<L: Layout, const SLOTS: usize, A: Allocator>(
     node: usize,
     label: u8,
 ) -> Result<usize, Shortage>
-    requires sound { IsTable SLOTS (fields table.old).places }
-    requires node_in { node < size_of (fields table.old) }
-    requires not_root { node ≢ 0 }
-    requires node { (f : Forest) × HasNode (fields table.old) f node }
-    requires positive { 0 < label }
-    requires leaf { (cells table.old).stored node ≡ AtBase 0 }
+    requires { ExtendsLeaf SLOTS (fields table.old) node label }
     ensures sound { IsTable SLOTS (fields table.new).places }
     ensures stepped { IfOk result (StepsTo (fields table.old) (fields table.new) node label) }
     ensures step { MayMakeBlock SLOTS (fields table.old) (fields table.new) result }
@@ -74,11 +71,7 @@ fn number_leaf<L: Layout, const SLOTS: usize, A: Allocator>(
     node: usize,
     value: i32,
 ) -> Result<(), Shortage>
-    requires sound { IsTable SLOTS (fields table.old).places }
-    requires node_in { node < size_of (fields table.old) }
-    requires not_root { node ≢ 0 }
-    requires node { (f : Forest) × HasNode (fields table.old) f node }
-    requires leaf { (cells table.old).stored node ≡ AtBase 0 }
+    requires { NumbersLeaf SLOTS (fields table.old) node }
     ensures sound { IsTable SLOTS (fields table.new).places }
     ensures set { OnOk result (EditsNode (size_of (fields table.old)) (cells table.old) (fields table.new) node (λ _. Some value) (λ u. u)) }
     ensures marks { OnOk result (PutsMark (cells table.old) (cells table.new) node true) }
@@ -172,11 +165,7 @@ pub(crate) fn follow_or_add<L: Layout, const SLOTS: usize, A: Allocator>(
     label: u8,
     search_limit: usize,
 ) -> Result<usize, Shortage>
-    requires sound { IsTable SLOTS (fields table.old).places }
-    requires node_in { node < size_of (fields table.old) }
-    requires node { (f : Forest) × HasNode (fields table.old) f node }
-    requires positive { 0 < label }
-    requires no_own_number { (v : ℤ) → (cells table.old).stored node ≢ OwnNumber v }
+    requires { StepsFrom SLOTS (fields table.old) node label }
     ensures sound { IsTable SLOTS (fields table.new).places }
 
     //= `follow_or_add` goes to a node's child or adds it as a bare leaf, at its ascending place or first.
@@ -213,11 +202,7 @@ fn put_in_slot<L: Layout, const SLOTS: usize, A: Allocator>(
     value: i32,
     search_limit: usize,
 ) -> Result<(), Shortage>
-    requires sound { IsTable SLOTS (fields table.old).places }
-    requires node_in { node < size_of (fields table.old) }
-    requires not_root { node ≢ 0 }
-    requires node { (f : Forest) × HasNode (fields table.old) f node }
-    requires no_own_number { (v : ℤ) → (cells table.old).stored node ≢ OwnNumber v }
+    requires { GoesToSlot SLOTS (fields table.old) node }
     ensures sound { IsTable SLOTS (fields table.new).places }
     ensures set { OnOk result (EditsNode (size_of (fields table.old)) (cells table.old) (fields table.new) node (λ _. Some value) (λ u. u)) }
     ensures marks { OnOk result (PutsMark (cells table.old) (cells table.new) node true) }
@@ -249,11 +234,7 @@ pub(crate) fn put_number<L: Layout, const SLOTS: usize, A: Allocator>(
     value: i32,
     search_limit: usize,
 ) -> Result<(), Shortage>
-    requires sound { IsTable SLOTS (fields table.old).places }
-    requires node_in { node < size_of (fields table.old) }
-    requires not_root { node ≢ 0 }
-    requires node { (f : Forest) × HasNode (fields table.old) f node }
-    requires value { is_value value ≡ true }
+    requires { PutsNumberAt SLOTS (fields table.old) node value }
     ensures sound { IsTable SLOTS (fields table.new).places }
 
     //= `put_number` sets a node's number; if it fails, all slots are as before; it makes one block at most. [with step; by MayMakeBlock]

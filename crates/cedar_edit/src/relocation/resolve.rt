@@ -6,6 +6,7 @@ ghost use Rattle.cedar_edit.specs.Words.{Among, below, cells, ChainsRest, fields
 ghost use Rattle.cedar_edit.specs.Words.{MayMakeBlock, MovesForLabel, OwnsLabels, Reserves};
 ghost use Rattle.cedar_edit.specs.Words.{SetReserved, size_of, StandsBelow, TellsLonger, WantsSlot};
 ghost use Rattle.cedar_edit.specs.Words.{with_label};
+ghost use Rattle.cedar_edit.specs.Words.{AreNodes};
 
 use crate::relocation::moving::{goes_before, relocate_around, relocate_with};
 use arrayvec::ArrayVec;
@@ -93,12 +94,7 @@ fn is_longer<L: Layout, const SLOTS: usize, A: Allocator>(
     one: usize,
     other: usize,
 ) -> bool
-    requires one_in { one < size_of (fields table.now) }
-    requires other_in { other < size_of (fields table.now) }
-    requires one_not_root { one ≢ 0 }
-    requires other_not_root { other ≢ 0 }
-    requires one_node { IsNode (size_of (fields table.now)) (cells table.now) one }
-    requires other_node { IsNode (size_of (fields table.now)) (cells table.now) other }
+    requires { AreNodes (fields table.now) one other }
     ensures { TellsLonger (size_of (fields table.now)) (cells table.now) one other result }
 {
     let mut left = second_label(table, one);

@@ -16,7 +16,7 @@ slot_to-before-requires g c =
     let size = size_of (fields c.args.table.now) in
     let n = c.requires.node in
     let chain = chain_of_node size T (fields c.args.table.now).ordered n.0 c.args.node n.1 in
-    (search rules, (c.requires.node_in, ((owned_inside size T (fields c.args.table.now).ordered c.args.node c.args.label chain (omega (arith, c.requires.node_in)) (omega arith) c.requires.owned).0, (chain, (n.1.holds.root, (c.requires.positive, c.requires.owned))))))
+    (search rules, record { node_in = c.requires.node_in; based = (owned_inside size T (fields c.args.table.now).ordered c.args.node c.args.label chain (omega (arith, c.requires.node_in)) (omega arith) c.requires.owned).0; chain = chain; root = n.1.holds.root; positive = c.requires.positive; owned = c.requires.owned })
 
 pub sibling-next-requires : goal.sibling-next-requires
 sibling-next-requires g c =

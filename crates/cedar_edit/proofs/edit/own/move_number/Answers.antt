@@ -50,7 +50,7 @@ set_number-requires g c =
     let based : InRange (size_of (fields c.set_base.new.self)) ((cells c.set_base.new.self).stored c.args.node) = subst (λ st. InRange (size_of (fields c.set_base.new.self)) st) (sym set.set) (place.not_first, subst (λ m. c.in_ok-slot.slot < m) (sym same) place.in_use) in
     let here : (f : Forest) × IsNodeOf (size_of (fields c.set_base.new.self)) (cells c.set_base.new.self) (fields c.set_base.new.self).ordered f c.args.node =
     (_, subst (λ m. IsNodeOf m (cells c.set_base.new.self) (fields c.set_base.new.self).ordered (edit_at n.1.path (λ _. None) (λ x. x) n.0) c.args.node) (sym same) node) in
-    (search rules, (c.set_base.ensures.sound, (omega (arith, c.requires.node_in, more, same), (omega (arith, c.requires.not_root), (here, (based, inr free))))))
+    (search rules, record { sound = c.set_base.ensures.sound; node_in = omega (arith, c.requires.node_in, more, same); not_root = omega (arith, c.requires.not_root); node = here; based = based; place = inr free })
 
 -- the tree and all paths are as they were
 same_tree : (g : _) (c : goal.After-set_number g) → ((f : Forest) → HoldsTree (size_of (fields c.args.table.now)) (cells c.args.table.now) f → HoldsTree (size_of (fields c.set_number.new.table)) (cells c.set_number.new.table) f)

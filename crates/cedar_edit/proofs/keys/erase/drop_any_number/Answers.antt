@@ -16,7 +16,7 @@ drop_number-requires g c =
     let size = size_of (fields c.args.table.now) in
     let n = c.requires.node.1 in
     let mine : T.check (below T c.args.node 0) ≡ pos c.args.node = (at_number size T c.requires.node.0 n.path c.args.node n.holds n.at (λ v e. let z = sym c.in-AtBase.is ∙ c.stored_at.ensures ∙ e in cc)).0 c.requires.node.2 in
-    (search rules, (c.requires.sound, (c.requires.node_in, (c.requires.not_root, ((c.requires.node.0, n), (number_based size T c.requires.node.0 n.path c.args.node n.holds n.at mine, mine))))))
+    (search rules, record { sound = c.requires.sound; node_in = c.requires.node_in; not_root = c.requires.not_root; node = (c.requires.node.0, n); based = number_based size T c.requires.node.0 n.path c.args.node n.holds n.at mine; owned = mine })
 
 pub returns-in-AtBase-clause-at : goal.returns-in-AtBase-clause-at
 returns-in-AtBase-clause-at g c = λ w on.
@@ -30,7 +30,7 @@ drop_own_number-requires g c =
     let n = c.requires.node.1 in
     let unbased = not_at_base (T.stored c.args.node) (λ b e. c.in_default.not-AtBase b (c.stored_at.ensures ∙ e)) in
     let alone = leaf_alone size T c.requires.node.0 n.path c.args.node n.holds n.at (λ z. omega (arith, z, c.requires.not_root)) unbased in
-    (search rules, (c.requires.sound, (c.requires.node_in, (omega (arith, c.requires.not_root), ((c.requires.node.0, n), alone)))))
+    (search rules, record { sound = c.requires.sound; node_in = c.requires.node_in; not_root = omega (arith, c.requires.not_root); node = (c.requires.node.0, n); alone = alone })
 
 pub returns-in_default : goal.returns-in_default
 returns-in_default g c =

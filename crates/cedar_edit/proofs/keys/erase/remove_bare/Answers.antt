@@ -55,19 +55,7 @@ remove_label-requires g c =
     let label = label_read (cells c.args.table.now) c.base_of.result c.owner-owner.result c.args.node c.base_of.ensures in
     let up = above (cells c.args.table.now) n.path c.args.node c.owner-owner.result _ n.holds.root n.at c.owner-owner.ensures label in
     let inside : c.owner-owner.result < size_of T = node_inside (size_of T) (cells c.args.table.now) (in_use T) (omega (arith, c.requires.node_in)) up.path c.owner-owner.result up.at in
-    let bare : Node (size_of T) (cells c.args.table.now) c.args.node _ _ = bare_node (size_of T) (cells c.args.table.now) c.args.node _ (at_node (size_of T) (cells c.args.table.now) c.requires.node.0 n.path c.args.node n.holds n.at) c.requires.node.2 in (
-      search rules,
-      (
-        c.requires.sound,
-        (
-          inside,
-          (
-            (c.requires.node.0, record { holds = n.holds; ascending = n.ascending; path = up.path; at = up.at }),
-            (omega (arith, up.not_zero), (ap (cells c.args.table.now).check up.slot ∙ c.owner-owner.ensures, subst (λ s. Node (size_of T) (cells c.args.table.now) s _ _) (sym up.slot) bare)),
-          ),
-        ),
-      ),
-    )
+    let bare : Node (size_of T) (cells c.args.table.now) c.args.node _ _ = bare_node (size_of T) (cells c.args.table.now) c.args.node _ (at_node (size_of T) (cells c.args.table.now) c.requires.node.0 n.path c.args.node n.holds n.at) c.requires.node.2 in (search rules, record { sound = c.requires.sound; node_in = inside; node = (c.requires.node.0, record { holds = n.holds; ascending = n.ascending; path = up.path; at = up.at }); positive = omega (arith, up.not_zero); owned = ap (cells c.args.table.now).check up.slot ∙ c.owner-owner.ensures; bare = subst (λ s. Node (size_of T) (cells c.args.table.now) s _ _) (sym up.slot) bare })
 
 pub returns-clause-tree : goal.returns-clause-tree
 returns-clause-tree g c = λ f w h at.

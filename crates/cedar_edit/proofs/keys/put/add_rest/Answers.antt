@@ -16,7 +16,7 @@ follow_or_add-requires g c =
     let i = c.args.known in
     let more : i < length c.args.key.now = c.requires.more in
     let k = walked_at g.row.SLOTS T T c.args.key.now i c.args.front more c.requires.front in
-    (search rules, (k.table, (k.inside, (node_walked _ _ _ _ _ _ _ k, (k.bytes.0, way_on _ _ _ _ _ _ _ _ k c.requires.way)))))
+    (search rules, record { sound = k.table; node_in = k.inside; node = node_walked _ _ _ _ _ _ _ k; positive = k.bytes.0; no_own_number = way_on _ _ _ _ _ _ _ _ k c.requires.way })
 
 pub trim-requires : goal.trim-requires
 trim-requires g c =
@@ -59,7 +59,7 @@ pub extend_leaf-requires : goal.extend_leaf-requires
 extend_leaf-requires g c =
     let i = c.loop-index.index in let key = c.args.key.now in
     let k = walked_at g.row.SLOTS (fields c.args.table.now) (fields c.loop-index.table) key i c.loop-index.node c.loop-index-test.true c.loop-index.invariant.walked in
-    (search rules, (k.table, (k.inside, (c.loop-index.invariant.not_root, (node_walked _ _ _ _ _ _ _ k, (k.bytes.0, c.loop-index.invariant.leaf))))))
+    (search rules, record { sound = k.table; node_in = k.inside; not_root = c.loop-index.invariant.not_root; node = node_walked _ _ _ _ _ _ _ k; positive = k.bytes.0; leaf = c.loop-index.invariant.leaf })
 
 pub trim-requires-in-Err-extend_leaf : goal.trim-requires-in-Err-extend_leaf
 trim-requires-in-Err-extend_leaf g c =

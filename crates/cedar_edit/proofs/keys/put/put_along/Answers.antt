@@ -35,7 +35,7 @@ put_number-requires g c =
     let mid = fields c.walk_in.new.table in
     let fits : FitsSigned w32 c.args.value = search rules in
     let same : to_z w32 (of_z w32 c.args.value) ≡ c.args.value = to_z-of_z w32 c.args.value fits in
-    (search rules, (k.table, (k.inside, (not_root g.row.SLOTS (fields c.args.table.now) mid c.args.key.now c.in_ok-end.end c.requires.well_formed c.requires.key k, (node_walked _ _ _ _ _ _ _ k, ap is_value same ∙ c.requires.value)))))
+    (search rules, record { sound = k.table; node_in = k.inside; not_root = not_root g.row.SLOTS (fields c.args.table.now) mid c.args.key.now c.in_ok-end.end c.requires.well_formed c.requires.key k; node = node_walked _ _ _ _ _ _ _ k; value = ap is_value same ∙ c.requires.value })
 
 pub trim-requires : goal.trim-requires
 trim-requires g c =

@@ -25,7 +25,7 @@ add_reserved-requires g c =
       path = n.1.path;
       at = k.at n.1.path n.1.at;
     } in
-    (search rules, (c.in_ok-node.ensures.sound, (k.inside, (k.not_root, ((n.0, node), (c.requires.positive, (k.based, k.reserved)))))))
+    (search rules, record { sound = c.in_ok-node.ensures.sound; node_in = k.inside; not_root = k.not_root; node = (n.0, node); positive = c.requires.positive; based = k.based; reserved = k.reserved })
 
 pub returns-clause-stepped : goal.returns-clause-stepped
 returns-clause-stepped g c =

@@ -107,7 +107,7 @@ returns-clause-owned g c = λ o.
 pub extend_leaf-requires : goal.extend_leaf-requires
 extend_leaf-requires g c =
     let is = c.is_new_leaf.ensures.leaf c.if-is_new_leaf.true in
-    (search rules, (c.requires.sound, (c.requires.node_in, (is.0, (c.requires.node, (c.requires.positive, is.1))))))
+    (search rules, record { sound = c.requires.sound; node_in = c.requires.node_in; not_root = is.0; node = c.requires.node; positive = c.requires.positive; leaf = is.1 })
 
 pub returns-then-is_new_leaf-clause-owned : goal.returns-then-is_new_leaf-clause-owned
 returns-then-is_new_leaf-clause-owned g c = λ o. absurd (c.extend_leaf.ensures.absent o)
@@ -130,7 +130,7 @@ add_label-requires g c =
     placed_here g.row.SLOTS (fields c.args.table.now) c.args.node c.args.label
     (record { sound = c.requires.sound; node_in = c.requires.node_in; node = c.requires.node; positive_at_root = λ _. c.requires.positive; no_own_number = c.requires.no_own_number; absent = absent; slot_free = open_slot })
     (omega arith) (omega (arith, c.args.table.now.shaped.blocks.some)) (omega (arith, c.ranges.label.fits)) (c.is_new_leaf.ensures.based (λ t. let f = c.if-is_new_leaf.false in cc)) in
-    (search rules, (c.requires.sound, (c.requires.node_in, (c.requires.node, (c.requires.positive, (placed.based, placed.free))))))
+    (search rules, record { sound = c.requires.sound; node_in = c.requires.node_in; node = c.requires.node; positive = c.requires.positive; based = placed.based; free = placed.free })
 
 pub returns-clause-stepped : goal.returns-clause-stepped
 returns-clause-stepped g c =

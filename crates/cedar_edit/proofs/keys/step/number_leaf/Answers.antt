@@ -36,7 +36,7 @@ set_only-requires g c =
       path = n.1.path;
       at = room.placed.at n.1.path n.1.at;
     } in
-    (search rules, (room.sound, (room.placed.inside, (omega (arith, c.requires.not_root), ((n.0, node), (room.placed.based c.requires.not_root, (room.alone, (room.placed.free, room.slot))))))))
+    (search rules, record { sound = room.sound; node_in = room.placed.inside; not_root = omega (arith, c.requires.not_root); node = (n.0, node); based = room.placed.based c.requires.not_root; alone = room.alone; free = room.placed.free; slot = room.slot })
 
 pub returns-clause-set : goal.returns-clause-set
 returns-clause-set g c = λ f w h on.

@@ -38,7 +38,7 @@ set_number-requires g c =
     let n = c.requires.node in
     let mine : T.check (below T c.args.node 0) ≡ pos c.args.node = ap T.check (sym c.slot_below-slot.ensures) ∙ c.is_owned_by.ensures.0 c.if-is_owned_by.true in
     let range = owner_ranged (size_of (fields c.args.table.now)) T (fields c.args.table.now).ordered n.0 c.args.node (below T c.args.node 0) n.1 c.requires.not_root c.requires.no_own_number mine in
-    (search rules, (c.requires.sound, (c.requires.node_in, (omega (arith, c.requires.not_root), (n, (range, inl mine))))))
+    (search rules, record { sound = c.requires.sound; node_in = c.requires.node_in; not_root = omega (arith, c.requires.not_root); node = n; based = range; place = inl mine })
 
 pub returns-then-is_owned_by-clause-set : goal.returns-then-is_owned_by-clause-set
 returns-then-is_owned_by-clause-set g c = λ f w h on.
@@ -115,7 +115,7 @@ returns-then-is_owned_by-clause-marks g c =
 pub number_leaf-requires : goal.number_leaf-requires
 number_leaf-requires g c =
     let is = c.is_new_leaf.ensures.leaf c.if-is_new_leaf.true in
-    (search rules, (c.requires.sound, (c.requires.node_in, (is.0, (c.requires.node, is.1)))))
+    (search rules, record { sound = c.requires.sound; node_in = c.requires.node_in; not_root = is.0; node = c.requires.node; leaf = is.1 })
 
 pub returns-then-is_new_leaf-clause-set : goal.returns-then-is_new_leaf-clause-set
 returns-then-is_new_leaf-clause-set g c =
@@ -137,7 +137,7 @@ set_number-requires-2 g c =
     let based : base_of T c.args.node ≢ 0 = elim (c.is_new_leaf.ensures.based (λ t. let f = c.if-is_new_leaf.false in cc)) [ inl root ↦ absurd (c.requires.not_root root.1) | inr b ↦ b ] in
     let range = (based_node (size_of (fields c.args.table.now)) T (fields c.args.table.now).ordered n.0 c.args.node n.1 c.requires.no_own_number based).1 in
     let free : Held T (below T c.args.node 0) → ⊥ = subst (λ s. Held T s → ⊥) c.slot_below-slot.ensures (c.is_taken.ensures.«open» (λ t. let f = c.if-is_taken.false in cc) based) in
-    (search rules, (c.requires.sound, (c.requires.node_in, (omega (arith, c.requires.not_root), (n, (range, inr free))))))
+    (search rules, record { sound = c.requires.sound; node_in = c.requires.node_in; not_root = omega (arith, c.requires.not_root); node = n; based = range; place = inr free })
 
 pub returns-clause-set : goal.returns-clause-set
 returns-clause-set g c = λ f w h on.

@@ -51,7 +51,7 @@ put_in_slot-requires g c =
     let yes = c.keeps_own.ensures.1 (own_reduced g.L.Layout.kind _ v e, ap base_in e) in
     let no = c.if-keeps_own.false in
     cc in
-    (search rules, (c.requires.sound, (c.requires.node_in, (c.requires.not_root, (c.requires.node, no_own)))))
+    (search rules, record { sound = c.requires.sound; node_in = c.requires.node_in; not_root = c.requires.not_root; node = c.requires.node; no_own_number = no_own })
 
 pub returns-clause-set : goal.returns-clause-set
 returns-clause-set g c =

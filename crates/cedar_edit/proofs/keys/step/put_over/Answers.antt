@@ -29,7 +29,7 @@ set_reserved-requires g c =
       at = k.at n.1.path n.1.at;
     } in
     let other : c.in_ok-node.node ≢ 0 = k.not_root in
-    (search rules, (c.in_ok-node.ensures.sound, (k.inside, (omega (arith, other), ((n.0, node), (k.based, k.reserved))))))
+    (search rules, record { sound = c.in_ok-node.ensures.sound; node_in = k.inside; not_root = omega (arith, other); node = (n.0, node); based = k.based; reserved = k.reserved })
 
 pub returns-clause-set : goal.returns-clause-set
 returns-clause-set g c = λ f w h on.

@@ -34,7 +34,7 @@ drop_number-requires g c =
     let at = c.in-Some.ensures.2 in
     let lone = c.in-Some-lone_number.ensures in
     let not_root = below_root g.row.SLOTS T w c.args.key.now c.in-Some.node _ at lone.0 lone.1 lone.2 in
-    (search rules, (w.table, (c.in-Some.ensures.0, (omega (arith, not_root), ((_, key_node g.row.SLOTS T w c.args.key.now c.in-Some.node at), (number_based (size_of T) (cells c.args.table.now) (tree_of T).children c.args.key.now c.in-Some.node w.stands at lone.0, lone.0))))))
+    (search rules, record { sound = w.table; node_in = c.in-Some.ensures.0; not_root = omega (arith, not_root); node = (_, key_node g.row.SLOTS T w c.args.key.now c.in-Some.node at); based = number_based (size_of T) (cells c.args.table.now) (tree_of T).children c.args.key.now c.in-Some.node w.stands at lone.0; owned = lone.0 })
 
 pub set_own_number-requires : goal.set_own_number-requires
 set_own_number-requires g c =

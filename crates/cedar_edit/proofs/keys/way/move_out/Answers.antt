@@ -30,7 +30,7 @@ move_number-requires g c =
     let fits : FitsSigned w32 c.in-OwnNumber.value = search rules in
     let same : to_z w32 (of_z w32 c.in-OwnNumber.value) ≡ c.in-OwnNumber.value = to_z-of_z w32 c.in-OwnNumber.value fits in
     let own : (cells c.args.table.now).stored c.in-Some.node ≡ OwnNumber c.in-OwnNumber.value = sym c.stored_at.ensures ∙ c.in-OwnNumber.is in
-    (search rules, (w.table, (c.in-Some.ensures.0, (own_no_root g.row.SLOTS T c.in-Some.node c.in-OwnNumber.value w own, ((_, key_node g.row.SLOTS T w c.args.key.now c.in-Some.node c.in-Some.ensures.2), own ∙ ap OwnNumber (sym same))))))
+    (search rules, record { sound = w.table; node_in = c.in-Some.ensures.0; not_root = own_no_root g.row.SLOTS T c.in-Some.node c.in-OwnNumber.value w own; node = (_, key_node g.row.SLOTS T w c.args.key.now c.in-Some.node c.in-Some.ensures.2); own = own ∙ ap OwnNumber (sym same) })
 
 pub returns-in_err-move_number-clause-well_formed : goal.returns-in_err-move_number-clause-well_formed
 returns-in_err-move_number-clause-well_formed g c =

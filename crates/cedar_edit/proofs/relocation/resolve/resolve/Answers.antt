@@ -23,7 +23,7 @@ pub is_longer-requires : goal.is_longer-requires
 is_longer-requires g c =
     let n = c.requires.node in
     let k = conflict (fields c.args.table.now) n.0 c.args.node c.args.label (follow_on n.1.path []) n.1.holds n.1.at.0 n.1.at.1 c.requires.not_root c.requires.based (omega (arith, c.ranges.label)) c.child_slot-slot.result c.owner-owner.result c.child_slot-slot.ensures c.owner-owner.ensures in
-    (search rules, (k.owner_in, (c.requires.node_in, (k.owner_not_root, (c.requires.not_root, (k.owner, k.node))))))
+    (search rules, record { one_in = k.owner_in; other_in = c.requires.node_in; one_not_root = k.owner_not_root; other_not_root = c.requires.not_root; one_node = k.owner; other_node = k.node })
 
 pub move_with-requires : goal.move_with-requires
 move_with-requires g c =
