@@ -1,4 +1,5 @@
 -- How far walks that are under way are in a table.
+pub mod Asked
 pub mod Batch
 pub mod Fronts
 pub mod Visits

@@ -6,6 +6,7 @@ ghost use Rattle.std.specs.Prelude.{OnErr, vec_capacity, ℕ};
 ghost use Rattle.cedar_walk.specs.Words.{cells, fields, FindsNumber, FirstKeyOutgrows};
 ghost use Rattle.cedar_walk.specs.Words.{GoesToNumber, IsBelow, IsNumberedBelow, IsWellFormed};
 ghost use Rattle.cedar_walk.specs.Words.{KeyGoesOn, NextKeyOutgrows};
+ghost use Rattle.cedar_walk.specs.Words.{GoesOnBelow};
 
 use crate::visits::{Numbered, label_after_number, number_held, place_after};
 use cedar_model::Layout;
@@ -20,9 +21,7 @@ fn numbered_from_with_key<L: Layout, const SLOTS: usize, A: Allocator, B: Alloca
     depth: usize,
     key: &mut Vec<u8, B>,
 ) -> Result<Numbered, AllocError>
-    requires well_formed { IsWellFormed SLOTS (fields table.now) }
-    requires below { (start : List ℕ) × IsBelow (cells table.now) start depth node }
-    requires not_root { node ≢ 0 }
+    requires { GoesOnBelow SLOTS (fields table.now) node depth }
     ensures found { IfOk result (FindsNumber (fields table.now) depth node) }
     ensures key { IfOk result (KeyGoesOn (fields table.now) depth node key.old.items key.new.items) }
     ensures full { OnErr result (FirstKeyOutgrows (fields table.now) depth node (length key.old.items) (vec_capacity key.old)) }

@@ -7,6 +7,7 @@ ghost use Rattle.cedar_walk.specs.Words.{below, cells, ComesToFirst, fields, Fin
 ghost use Rattle.cedar_walk.specs.Words.{first_sibling_label, GoesKeeping, GoesToNumber, IsAt};
 ghost use Rattle.cedar_walk.specs.Words.{IsBelow, IsNumberedBelow, IsPending, IsWellFormed};
 ghost use Rattle.cedar_walk.specs.Words.{kept_behind, node_at, NoneLeft, owner_of, tree_of, walk};
+ghost use Rattle.cedar_walk.specs.Words.{GoesOnFrom, GoesOnPending, MayKeep};
 
 use crate::visits::{
     Numbered, Place, child_under, first_child, label_after_number, next_after, next_sibling,
@@ -125,11 +126,7 @@ fn keep_sibling<L: Layout, const SLOTS: usize, A: Allocator>(
     label: u8,
     siblings: &mut PendingSiblings,
 )
-    requires well_formed { IsWellFormed SLOTS (fields table.now) }
-    requires at { (start : List ℕ) × IsBelow (cells table.now) start depth node }
-    requires deep { 0 < depth }
-    requires label { label ≡ below (cells table.now) (owner_of (cells table.now) node) node }
-    requires kept { IsPending (fields table.now) siblings.old (depth - 1) (owner_of (cells table.now) node) }
+    requires { MayKeep SLOTS (fields table.now) node depth label siblings.old }
     ensures { IsPending (fields table.now) siblings.new depth node }
 {
     let next = next_sibling(table, node);
@@ -154,10 +151,7 @@ fn place_with_pending<L: Layout, const SLOTS: usize, A: Allocator>(
     label: u8,
     siblings: &mut PendingSiblings,
 ) -> Option<Place>
-    requires well_formed { IsWellFormed SLOTS (fields table.now) }
-    requires below { (start : List ℕ) × IsBelow (cells table.now) start depth node }
-    requires first { (w : List ℕ) → IsAt (cells table.now) w node → label ≡ first_sibling_label (node_at (tree_of (fields table.now)) w).children }
-    requires kept { IsPending (fields table.now) siblings.old depth node }
+    requires { GoesOnFrom SLOTS (fields table.now) node depth label siblings.old }
     ensures { MatchOption result (NoneLeft (fields table.now) depth node) (GoesKeeping (fields table.now) depth node siblings.new) }
 {
     if label != 0 {
@@ -181,10 +175,7 @@ fn numbered_from_with_pending<L: Layout, const SLOTS: usize, A: Allocator>(
     depth: usize,
     siblings: &mut PendingSiblings,
 ) -> Numbered
-    requires well_formed { IsWellFormed SLOTS (fields table.now) }
-    requires below { (start : List ℕ) × IsBelow (cells table.now) start depth node }
-    requires not_root { node ≢ 0 }
-    requires kept { IsPending (fields table.now) siblings.old depth node }
+    requires { GoesOnPending SLOTS (fields table.now) node depth siblings.old }
     ensures found { FindsNumber (fields table.now) depth node result }
     ensures kept { IsPending (fields table.now) siblings.new result.depth result.slot }
 {

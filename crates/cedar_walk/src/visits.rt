@@ -6,6 +6,7 @@ ghost use Rattle.cedar_walk.specs.Words.{first_sibling_label, GoesToNode, GoesTo
 ghost use Rattle.cedar_walk.specs.Words.{GoesToPlace, has_label, IsAt, IsBelow, IsNumberedBelow};
 ghost use Rattle.cedar_walk.specs.Words.{IsWellFormed, label_after, left_after, left_at, node_at};
 ghost use Rattle.cedar_walk.specs.Words.{size_of, Stands, Tree, tree_of, walk};
+ghost use Rattle.cedar_walk.specs.Words.{GoesOnBelow, HasChildUnder, HoldsNumber, StandsUnder};
 
 use cedar_model::{Layout, Stored};
 use cedar_table::Table;
@@ -73,8 +74,7 @@ pub(crate) fn next_sibling<L: Layout, const SLOTS: usize, A: Allocator>(
     table: &Table<L, SLOTS, A>,
     node: usize,
 ) -> u8
-    requires well_formed { IsWellFormed SLOTS (fields table.now) }
-    requires at { (w : List ℕ) × (l : ℕ) × IsAt (cells table.now) (w ++ l ∷ []) node }
+    requires { StandsUnder SLOTS (fields table.now) node }
     ensures { (w : List ℕ) (l : ℕ) → IsAt (cells table.now) (w ++ l ∷ []) node → result ≡ label_after (tree_of (fields table.now)) w l }
 {
     table.sibling(node)
@@ -86,8 +86,7 @@ pub(crate) fn parent<L: Layout, const SLOTS: usize, A: Allocator>(
     table: &Table<L, SLOTS, A>,
     node: usize,
 ) -> usize
-    requires well_formed { IsWellFormed SLOTS (fields table.now) }
-    requires at { (w : List ℕ) × (l : ℕ) × IsAt (cells table.now) (w ++ l ∷ []) node }
+    requires { StandsUnder SLOTS (fields table.now) node }
 
     //= `parent` returns the slot of the node above. [with check]
     ensures above { (w : List ℕ) (l : ℕ) → IsAt (cells table.now) (w ++ l ∷ []) node → IsAt (cells table.now) w result }
@@ -102,8 +101,7 @@ pub(crate) fn number_held<L: Layout, const SLOTS: usize, A: Allocator>(
     table: &Table<L, SLOTS, A>,
     node: usize,
 ) -> i32
-    requires node_in { node < size_of (fields table.now) }
-    requires held { (t : Tree) × (v : ℤ) × Stands (size_of (fields table.now)) (cells table.now) node t × (t.number ≡ Some v) }
+    requires { HoldsNumber (fields table.now) node }
     ensures { (t : Tree) → Stands (size_of (fields table.now)) (cells table.now) node t → t.number ≡ Some result }
 {
     match table.stored_at_node(node) {
@@ -138,8 +136,7 @@ pub(crate) fn child_under<L: Layout, const SLOTS: usize, A: Allocator>(
     label: u8,
     depth: usize,
 ) -> Place
-    requires well_formed { IsWellFormed SLOTS (fields table.now) }
-    requires at { (w : List ℕ) × IsAt (cells table.now) w node × (has_label (node_at (tree_of (fields table.now)) w).children label ≡ true) }
+    requires { HasChildUnder SLOTS (fields table.now) node label }
     ensures slot { result.slot ≡ below (cells table.now) node label }
     ensures depth { result.depth ≡ depth }
     ensures label { result.label ≡ label }
@@ -231,9 +228,7 @@ pub(crate) fn numbered_from<L: Layout, const SLOTS: usize, A: Allocator>(
     node: usize,
     depth: usize,
 ) -> Numbered
-    requires well_formed { IsWellFormed SLOTS (fields table.now) }
-    requires below { (start : List ℕ) × IsBelow (cells table.now) start depth node }
-    requires not_root { node ≢ 0 }
+    requires { GoesOnBelow SLOTS (fields table.now) node depth }
     ensures { FindsNumber (fields table.now) depth node result }
 {
     let mut slot = node;

@@ -1,4 +1,4 @@
-use Rattle.std.proofs.Common.{◌≡◌, ◌≢◌, ◌<◌, rules, subst, sym}
+use Rattle.std.proofs.Common.{◌≡◌, ◌≢◌, ◌<◌, subst, sym}
 use Rattle.std.specs.Prelude.{MatchOption}
 use Rattle.cedar_model.specs.Table.Cells.{Held}
 use Rattle.cedar_model.specs.Edit.NodeEdits.{LinkedBehind, LinkedChild}
@@ -6,15 +6,6 @@ use Rattle.cedar_table.specs.Table.Views.{cells, fields}
 use Rattle.cedar_model.specs.Table.TableFields.{size_of}
 use Rattle.cedar_bulk.proofs.BulkLemmas.LastLabel.{last_child, last_sibling}
 use Rattle.cedar_bulk.proofs.append.link_last.Goals as goal
-
-pub set_sibling-requires : goal.set_sibling-requires
-set_sibling-requires g c =
-    let T = fields c.args.table.now in
-    let place = subst (λ o. MatchOption o (Unit {0}) (λ b. (b < size_of T) × Held (cells c.args.table.now) b × (b ≢ c.args.slot))) c.in-Some.is c.requires.before in
-    (search rules, (c.requires.sound, (place.0, place.1)))
-
-pub set_child-requires : goal.set_child-requires
-set_child-requires g c = (search rules, (c.requires.sound, (c.requires.node_in, c.requires.node_held)))
 
 pub returns-in-Some-clause-linked : goal.returns-in-Some-clause-linked
 returns-in-Some-clause-linked g c =

@@ -16,7 +16,7 @@ returns-then-label-eq0 g c =
 pub child_under-place-requires : goal.child_under-place-requires
 child_under-place-requires g c =
     let at = at_top (fields c.args.table.now) in
-    (search rules, (c.requires, ([], at, first_there _ (c.first_child-label.ensures [] at) c.if-label-eq0.false)))
+    (search rules, record { well_formed = c.requires; at = ([], at, first_there _ (c.first_child-label.ensures [] at) c.if-label-eq0.false) })
 
 pub loop-next-init : goal.loop-next-init
 loop-next-init g c =
@@ -34,7 +34,7 @@ pub numbered_from-requires : goal.numbered_from-requires
 numbered_from-requires g c =
     let on = c.loop-next.invariant.on in
     let place = c.loop-next.place in
-    (search rules, (c.requires, (([], on.below), deep_not_root _ (fields c.args.table.now) c.requires [] place.depth place.slot on.below on.deep)))
+    (search rules, record { well_formed = c.requires; below = ([], on.below); not_root = deep_not_root _ (fields c.args.table.now) c.requires [] place.depth place.slot on.below on.deep })
 
 pub returns : goal.returns
 returns g c = last_is (fields c.args.table.now) c.loop-next.place c.numbered_from.result c.loop-next.invariant c.in_default.ensures (c.numbered_from.ensures [] c.loop-next.invariant.on.below)

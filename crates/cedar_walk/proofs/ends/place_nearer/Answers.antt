@@ -13,7 +13,7 @@ next_sibling-beside-requires g c =
     let k = c.requires.well_formed in
     let place = c.args.place in
     let owner = owner_of (cells c.args.table.now) place.slot in
-    (search rules, (k, ([] ++ path_to T (place.depth - 1) owner, below (cells c.args.table.now) owner place.slot, hangs _ T k place c.requires.on)))
+    (search rules, record { well_formed = k; at = ([] ++ path_to T (place.depth - 1) owner, below (cells c.args.table.now) owner place.slot, hangs _ T k place c.requires.on) })
 
 pub parent-above-requires : goal.parent-above-requires
 parent-above-requires g c =
@@ -21,7 +21,7 @@ parent-above-requires g c =
     let k = c.requires.well_formed in
     let place = c.args.place in
     let owner = owner_of (cells c.args.table.now) place.slot in
-    (search rules, (k, ([] ++ path_to T (place.depth - 1) owner, below (cells c.args.table.now) owner place.slot, hangs _ T k place c.requires.on)))
+    (search rules, record { well_formed = k; at = ([] ++ path_to T (place.depth - 1) owner, below (cells c.args.table.now) owner place.slot, hangs _ T k place c.requires.on) })
 
 pub child_under-requires : goal.child_under-requires
 child_under-requires g c =
@@ -32,7 +32,7 @@ child_under-requires g c =
     let l = c.next_sibling-beside.result in
     let o = c.parent-above.ensures.check in
     let read = c.next_sibling-beside.ensures in
-    (search rules, (k, ([] ++ path_to T (place.depth - 1) p, above_here _ T k place c.requires.on p l o read, sibling_here _ T k place c.requires.on p l o read c.if-beside-ne0.true)))
+    (search rules, record { well_formed = k; at = ([] ++ path_to T (place.depth - 1) p, above_here _ T k place c.requires.on p l o read, sibling_here _ T k place c.requires.on p l o read c.if-beside-ne0.true) })
 
 pub returns-then-beside-ne0 : goal.returns-then-beside-ne0
 returns-then-beside-ne0 g c =
@@ -57,7 +57,7 @@ child_under-requires-then-first-ne0 g c =
     let T = fields c.args.table.now in
     let place = c.args.place in
     let path = [] ++ path_to T place.depth place.slot in
-    (search rules, (c.requires.well_formed, (path, c.requires.on.below, first_there _ (c.first_child-first.ensures path c.requires.on.below) c.if-first-ne0.true)))
+    (search rules, record { well_formed = c.requires.well_formed; at = (path, c.requires.on.below, first_there _ (c.first_child-first.ensures path c.requires.on.below) c.if-first-ne0.true) })
 
 pub returns-then-first-ne0 : goal.returns-then-first-ne0
 returns-then-first-ne0 g c =

@@ -14,7 +14,7 @@ pub numbered_from_with_pending-requires : goal.numbered_from_with_pending-requir
 numbered_from_with_pending-requires g c =
     let T = fields c.args.table.now in
     let at = subst (λ w. IsAt (cells c.args.table.now) w c.in_ok-node.node) (sym (append-nil c.args.query.now)) c.in_ok-node.ensures.2 in
-    (search rules, (c.requires, ((c.args.query.now, at), (c.if-node-ne0.true, subst (λ xs. IsPending T xs 0 c.in_ok-node.node) (sym c.clear.ensures) tt))))
+    (search rules, record { well_formed = c.requires; below = (c.args.query.now, at); not_root = c.if-node-ne0.true; kept = subst (λ xs. IsPending T xs 0 c.in_ok-node.node) (sym c.clear.ensures) tt })
 
 pub returns-then-node-ne0-clause-found : goal.returns-then-node-ne0-clause-found
 returns-then-node-ne0-clause-found g c =
@@ -37,7 +37,7 @@ pub child_under-place-requires : goal.child_under-place-requires
 child_under-place-requires g c =
     let query = c.args.query.now in
     let at = c.in_ok-node.ensures.2 in
-    (search rules, (c.requires, (query, at, first_there _ (c.first_child-label.ensures query at) c.if-label-eq0.false)))
+    (search rules, record { well_formed = c.requires; at = (query, at, first_there _ (c.first_child-label.ensures query at) c.if-label-eq0.false) })
 
 pub keep_sibling-requires : goal.keep_sibling-requires
 keep_sibling-requires g c =
@@ -46,7 +46,7 @@ keep_sibling-requires g c =
     let at = subst (λ w. IsAt (cells c.args.table.now) w c.in_ok-node.node) (sym (append-nil query)) c.in_ok-node.ensures.2 in
     let on = leads_down _ T c.requires 0 c.in_ok-node.node c.first_child-label.result c.child_under-place.result c.clear.new.self (query, at) c.first_child-label.ensures c.if-label-eq0.false
     c.child_under-place.ensures.slot c.child_under-place.ensures.depth c.child_under-place.ensures.label (subst (λ xs. IsPending T xs 0 c.in_ok-node.node) (sym c.clear.ensures) tt) in
-    (search rules, (c.requires, ((query, (on.leads.comes query at).below), (on.leads.deep, (on.leads.last, on.kept)))))
+    (search rules, record { well_formed = c.requires; at = (query, (on.leads.comes query at).below); deep = on.leads.deep; label = on.leads.last; kept = on.kept })
 
 pub numbered_from_with_pending-requires-2 : goal.numbered_from_with_pending-requires-2
 numbered_from_with_pending-requires-2 g c =
@@ -57,7 +57,7 @@ numbered_from_with_pending-requires-2 g c =
     let on = leads_down _ T c.requires 0 c.in_ok-node.node c.first_child-label.result place c.clear.new.self (query, at) c.first_child-label.ensures c.if-label-eq0.false
     c.child_under-place.ensures.slot c.child_under-place.ensures.depth c.child_under-place.ensures.label (subst (λ xs. IsPending T xs 0 c.in_ok-node.node) (sym c.clear.ensures) tt) in
     let below = (on.leads.comes query at).below in
-    (search rules, (c.requires, ((query, below), (deep_not_root _ T c.requires query place.depth place.slot below on.leads.deep, c.keep_sibling.ensures))))
+    (search rules, record { well_formed = c.requires; below = (query, below); not_root = deep_not_root _ T c.requires query place.depth place.slot below on.leads.deep; kept = c.keep_sibling.ensures })
 
 pub returns-clause-found : goal.returns-clause-found
 returns-clause-found g c =

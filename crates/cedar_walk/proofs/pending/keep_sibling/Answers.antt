@@ -15,17 +15,7 @@ next_sibling-next-requires g c =
     let k = c.requires.well_formed in
     let n = c.args.depth in
     let s = c.args.node in
-    let start = c.requires.at.0 in (
-      search rules,
-      (
-        k,
-        (
-          start ++ path_to T (n - 1) (owner_of (cells c.args.table.now) s),
-          below (cells c.args.table.now) (owner_of (cells c.args.table.now) s) s,
-          at_last _ T k start n s n s (climbed_none T start n s c.requires.at.1) (λ z. omega (arith, z, c.requires.deep)),
-        ),
-      ),
-    )
+    let start = c.requires.at.0 in (search rules, record { well_formed = k; at = (start ++ path_to T (n - 1) (owner_of (cells c.args.table.now) s), below (cells c.args.table.now) (owner_of (cells c.args.table.now) s) s, at_last _ T k start n s n s (climbed_none T start n s c.requires.at.1) (λ z. omega (arith, z, c.requires.deep))) })
 
 pub overflow_cast-base : goal.overflow_cast-base
 overflow_cast-base g c =

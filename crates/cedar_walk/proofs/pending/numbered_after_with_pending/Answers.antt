@@ -13,13 +13,13 @@ label_after_number-label-requires g c =
     (search rules, (c.requires.well_formed, (held.0 ++ path_to (fields c.args.table.now) c.args.depth c.args.node, held.1.1, held.1.0, held.1.2)))
 
 pub place_with_pending-requires : goal.place_with_pending-requires
-place_with_pending-requires g c = (search rules, (c.requires.well_formed, ((c.requires.below.0, c.requires.below.1.0), (c.label_after_number-label.ensures, c.requires.kept))))
+place_with_pending-requires g c = (search rules, record { well_formed = c.requires.well_formed; below = (c.requires.below.0, c.requires.below.1.0); first = c.label_after_number-label.ensures; kept = c.requires.kept })
 
 pub keep_sibling-requires : goal.keep_sibling-requires
 keep_sibling-requires g c =
     let start = c.requires.below.0 in
     let on = c.in_ok-place.ensures in
-    (search rules, (c.requires.well_formed, ((start, (on.leads.comes start c.requires.below.1.0).below), (on.leads.deep, (on.leads.last, on.kept)))))
+    (search rules, record { well_formed = c.requires.well_formed; at = (start, (on.leads.comes start c.requires.below.1.0).below); deep = on.leads.deep; label = on.leads.last; kept = on.kept })
 
 pub numbered_from_with_pending-requires : goal.numbered_from_with_pending-requires
 numbered_from_with_pending-requires g c =
@@ -28,7 +28,7 @@ numbered_from_with_pending-requires g c =
     let place = c.in_ok-place.place in
     let on = c.in_ok-place.ensures in
     let comes = on.leads.comes start c.requires.below.1.0 in
-    (search rules, (c.requires.well_formed, ((start, comes.below), (deep_not_root _ T c.requires.well_formed start place.depth place.slot comes.below on.leads.deep, c.keep_sibling.ensures))))
+    (search rules, record { well_formed = c.requires.well_formed; below = (start, comes.below); not_root = deep_not_root _ T c.requires.well_formed start place.depth place.slot comes.below on.leads.deep; kept = c.keep_sibling.ensures })
 
 pub returns-clause-found : goal.returns-clause-found
 returns-clause-found g c = λ start at.

@@ -44,7 +44,7 @@ keep_sibling-requires g c =
     let on = leads_down _ (fields T) k c.loop-label.steps c.loop-label.slot c.loop-label.label place c.loop-label.siblings (start, here.below)
     (λ w at. c.loop-label.invariant.first ∙ named_first _ (fields T) k w c.loop-label.slot at (λ z. c.loop-label-test.true (c.loop-label.invariant.first ∙ z))) c.loop-label-test.true
     c.slot_below-slot.ensures refl refl c.loop-label.invariant.kept in
-    (search rules, (k, ((start, (on.leads.comes start here.below).below), (on.leads.deep, (on.leads.last, on.kept)))))
+    (search rules, record { well_formed = k; at = (start, (on.leads.comes start here.below).below); deep = on.leads.deep; label = on.leads.last; kept = on.kept })
 
 pub child-label-requires-in-loop-label : goal.child-label-requires-in-loop-label
 child-label-requires-in-loop-label g c =
@@ -82,7 +82,7 @@ number_held-requires g c =
     let w = start ++ path_to (fields T) c.loop-label.steps c.loop-label.slot in
     let here = c.loop-label.invariant.down start c.requires.below.1 in
     let held = leaf_number _ (fields T) k w c.loop-label.slot here.below here.not_root (sym c.loop-label.invariant.first ∙ c.loop-label-test.false) in
-    (search rules, (node_inside _ (fields T) k w c.loop-label.slot here.below, (_, held.0, node_stands _ (fields T) k w c.loop-label.slot here.below, held.1)))
+    (search rules, record { node_in = node_inside _ (fields T) k w c.loop-label.slot here.below; held = (_, held.0, node_stands _ (fields T) k w c.loop-label.slot here.below, held.1) })
 
 pub returns-clause-found : goal.returns-clause-found
 returns-clause-found g c = λ start at.

@@ -22,7 +22,7 @@ numbered_from-requires g c =
     let whole = since_whole _ T k c.requires.ordered key reached c.way_along-reached.ensures c.if-reached-key.true in
     let some : 0 < length c.args.key.now = some_key key (sym c.is_empty.ensures ∙ c.if-is_empty.false) in
     let deep : 0 < c.way_along-reached.result.depth = omega (arith, some, c.if-reached-key.true) in
-    (search rules, (k, (([], whole.0), deep_not_root _ T k [] reached.depth reached.slot whole.0 deep)))
+    (search rules, record { well_formed = k; below = ([], whole.0); not_root = deep_not_root _ T k [] reached.depth reached.slot whole.0 deep })
 
 pub returns-then-reached-key : goal.returns-then-reached-key
 returns-then-reached-key g c =
@@ -51,7 +51,7 @@ numbered_from-requires-2 g c =
     let k = c.requires.well_formed in
     let place = c.in_ok-place.place in
     let begins = c.in_ok-place.ensures in
-    (search rules, (k, (([], begins.below), deep_not_root _ T k [] place.depth place.slot begins.below begins.deep)))
+    (search rules, record { well_formed = k; below = ([], begins.below); not_root = deep_not_root _ T k [] place.depth place.slot begins.below begins.deep })
 
 pub returns : goal.returns
 returns g c =

@@ -21,7 +21,7 @@ child_under-requires g c =
     let k = c.requires.well_formed in
     let path = path_to T c.args.depth c.args.node in
     let first = c.child_above-next.ensures.first path c.requires.below in
-    (search rules, (k, (path, c.requires.below, above_label _ c.args.label c.child_above-next.result (sound_node_at (tree_of T) path k.sound) first c.if-next-ne0.true)))
+    (search rules, record { well_formed = k; at = (path, c.requires.below, above_label _ c.args.label c.child_above-next.result (sound_node_at (tree_of T) path k.sound) first c.if-next-ne0.true) })
 
 pub returns-then-next-ne0 : goal.returns-then-next-ne0
 returns-then-next-ne0 g c =

@@ -11,17 +11,7 @@ parent-above-requires g c =
     let n = c.loop-steps.steps in
     let s = c.loop-steps.slot in
     let start = c.requires.below.0 in
-    let at = c.loop-steps.invariant.below start c.requires.below.1 in (
-      search rules,
-      (
-        c.requires.well_formed,
-        (
-          start ++ path_to T (n - 1) (owner_of (cells c.args.table.now) s),
-          below (cells c.args.table.now) (owner_of (cells c.args.table.now) s) s,
-          one_up _ T c.requires.well_formed start n s at c.loop-steps-test.true,
-        ),
-      ),
-    )
+    let at = c.loop-steps.invariant.below start c.requires.below.1 in (search rules, record { well_formed = c.requires.well_formed; at = (start ++ path_to T (n - 1) (owner_of (cells c.args.table.now) s), below (cells c.args.table.now) (owner_of (cells c.args.table.now) s) s, one_up _ T c.requires.well_formed start n s at c.loop-steps-test.true) })
 
 pub label_below-requires : goal.label_below-requires
 label_below-requires g c =

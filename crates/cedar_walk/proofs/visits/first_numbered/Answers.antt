@@ -11,7 +11,7 @@ use Rattle.cedar_walk.proofs.visits.first_numbered.Goals as goal
 pub numbered_from-requires : goal.numbered_from-requires
 numbered_from-requires g c =
     let at = subst (λ w. IsAt (cells c.args.table.now) w c.in_ok-node.node) (sym (append-nil c.args.query.now)) c.in_ok-node.ensures.2 in
-    (search rules, (c.requires, ((c.args.query.now, at), c.if-node-ne0.true)))
+    (search rules, record { well_formed = c.requires; below = (c.args.query.now, at); not_root = c.if-node-ne0.true })
 
 pub returns-then-node-ne0 : goal.returns-then-node-ne0
 returns-then-node-ne0 g c =
@@ -31,7 +31,7 @@ pub child_under-place-requires : goal.child_under-place-requires
 child_under-place-requires g c =
     let query = c.args.query.now in
     let at = c.in_ok-node.ensures.2 in
-    (search rules, (c.requires, (query, at, first_there _ (c.first_child-label.ensures query at) c.if-label-eq0.false)))
+    (search rules, record { well_formed = c.requires; at = (query, at, first_there _ (c.first_child-label.ensures query at) c.if-label-eq0.false) })
 
 pub numbered_from-requires-2 : goal.numbered_from-requires-2
 numbered_from-requires-2 g c =
@@ -40,7 +40,7 @@ numbered_from-requires-2 g c =
     let place = c.child_under-place.result in
     let at = subst (λ w. IsAt (cells c.args.table.now) w c.in_ok-node.node) (sym (append-nil query)) c.in_ok-node.ensures.2 in
     let comes = comes_first _ T c.requires query 0 c.in_ok-node.node c.first_child-label.result place at (c.first_child-label.ensures (query ++ []) at) c.if-label-eq0.false c.child_under-place.ensures.slot c.child_under-place.ensures.depth c.child_under-place.ensures.label in
-    (search rules, (c.requires, ((query, comes.below), deep_not_root _ T c.requires query place.depth place.slot comes.below comes.deep.0)))
+    (search rules, record { well_formed = c.requires; below = (query, comes.below); not_root = deep_not_root _ T c.requires query place.depth place.slot comes.below comes.deep.0 })
 
 pub returns : goal.returns
 returns g c =

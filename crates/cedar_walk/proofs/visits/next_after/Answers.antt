@@ -14,34 +14,14 @@ next_sibling-label-requires g c =
     let T = fields c.args.table.now in
     let n = c.loop-steps.steps in
     let s = c.loop-steps.slot in
-    let start = c.requires.below.0 in (
-      search rules,
-      (
-        c.requires.well_formed,
-        (
-          start ++ path_to T (n - 1) (owner_of (cells c.args.table.now) s),
-          below (cells c.args.table.now) (owner_of (cells c.args.table.now) s) s,
-          at_last _ T c.requires.well_formed start c.args.depth c.args.node n s (c.loop-steps.invariant start c.requires.below.1) c.loop-steps-test.true,
-        ),
-      ),
-    )
+    let start = c.requires.below.0 in (search rules, record { well_formed = c.requires.well_formed; at = (start ++ path_to T (n - 1) (owner_of (cells c.args.table.now) s), below (cells c.args.table.now) (owner_of (cells c.args.table.now) s) s, at_last _ T c.requires.well_formed start c.args.depth c.args.node n s (c.loop-steps.invariant start c.requires.below.1) c.loop-steps-test.true) })
 
 pub parent-parent-requires : goal.parent-parent-requires
 parent-parent-requires g c =
     let T = fields c.args.table.now in
     let n = c.loop-steps.steps in
     let s = c.loop-steps.slot in
-    let start = c.requires.below.0 in (
-      search rules,
-      (
-        c.requires.well_formed,
-        (
-          start ++ path_to T (n - 1) (owner_of (cells c.args.table.now) s),
-          below (cells c.args.table.now) (owner_of (cells c.args.table.now) s) s,
-          at_last _ T c.requires.well_formed start c.args.depth c.args.node n s (c.loop-steps.invariant start c.requires.below.1) c.loop-steps-test.true,
-        ),
-      ),
-    )
+    let start = c.requires.below.0 in (search rules, record { well_formed = c.requires.well_formed; at = (start ++ path_to T (n - 1) (owner_of (cells c.args.table.now) s), below (cells c.args.table.now) (owner_of (cells c.args.table.now) s) s, at_last _ T c.requires.well_formed start c.args.depth c.args.node n s (c.loop-steps.invariant start c.requires.below.1) c.loop-steps-test.true) })
 
 pub child_under-requires : goal.child_under-requires
 child_under-requires g c =
@@ -54,17 +34,7 @@ child_under-requires g c =
     let start = c.requires.below.0 in
     let climb = c.loop-steps.invariant start c.requires.below.1 in
     let on = stepped _ T k start c.args.depth c.args.node n s climb c.loop-steps-test.true in
-    let first = first_is _ T k start c.args.depth c.args.node n s climb c.loop-steps-test.true p l c.parent-parent.ensures.check c.next_sibling-label.ensures in (
-      search rules,
-      (
-        k,
-        (
-          start ++ path_to T (n - 1) p,
-          parent_below _ T k start (n - 1) s p on.below c.parent-parent.ensures.check,
-          sibling_there _ T k start c.args.depth c.args.node (n - 1) s p l on c.parent-parent.ensures.check first c.if-label-ne0.true,
-        ),
-      ),
-    )
+    let first = first_is _ T k start c.args.depth c.args.node n s climb c.loop-steps-test.true p l c.parent-parent.ensures.check c.next_sibling-label.ensures in (search rules, record { well_formed = k; at = (start ++ path_to T (n - 1) p, parent_below _ T k start (n - 1) s p on.below c.parent-parent.ensures.check, sibling_there _ T k start c.args.depth c.args.node (n - 1) s p l on c.parent-parent.ensures.check first c.if-label-ne0.true) })
 
 pub returns-then-label-ne0 : goal.returns-then-label-ne0
 returns-then-label-ne0 g c = λ start at.

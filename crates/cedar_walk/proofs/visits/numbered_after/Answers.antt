@@ -19,7 +19,7 @@ numbered_from-requires g c =
     let start = c.requires.below.0 in
     let place = c.in_ok-place.place in
     let comes = c.in_ok-place.ensures start c.requires.below.1.0 in
-    (search rules, (c.requires.well_formed, ((start, comes.below), deep_not_root _ T c.requires.well_formed start place.depth place.slot comes.below comes.deep.0)))
+    (search rules, record { well_formed = c.requires.well_formed; below = (start, comes.below); not_root = deep_not_root _ T c.requires.well_formed start place.depth place.slot comes.below comes.deep.0 })
 
 pub returns : goal.returns
 returns g c = λ start at.

@@ -67,7 +67,7 @@ number_held-requires g c =
     let w = start ++ path_to (fields T) c.loop-label.steps c.loop-label.slot in
     let here = c.loop-label.invariant.down start c.requires.below.1 in
     let held = leaf_number _ (fields T) k w c.loop-label.slot here.below here.not_root (sym c.loop-label.invariant.first ∙ c.loop-label-test.false) in
-    (search rules, (node_inside _ (fields T) k w c.loop-label.slot here.below, (_, held.0, node_stands _ (fields T) k w c.loop-label.slot here.below, held.1)))
+    (search rules, record { node_in = node_inside _ (fields T) k w c.loop-label.slot here.below; held = (_, held.0, node_stands _ (fields T) k w c.loop-label.slot here.below, held.1) })
 
 pub returns : goal.returns
 returns g c = λ start at.

@@ -18,7 +18,7 @@ child_under-requires g c =
     let T = fields c.args.table.now in
     let start = c.requires.below.0 in
     let path = start ++ path_to T c.args.depth c.args.node in
-    (search rules, (c.requires.well_formed, (path, c.requires.below.1, first_there _ (c.requires.first path c.requires.below.1) c.if-label-ne0.true)))
+    (search rules, record { well_formed = c.requires.well_formed; at = (path, c.requires.below.1, first_there _ (c.requires.first path c.requires.below.1) c.if-label-ne0.true) })
 
 pub returns-then-label-ne0 : goal.returns-then-label-ne0
 returns-then-label-ne0 g c = λ start at.
