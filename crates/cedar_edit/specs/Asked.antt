@@ -133,7 +133,7 @@ pub record MayMoveOwn (slots : ℕ) (T : Fields) (s : ℕ) (v : ℤ) : Type 0 wh
   pub own : (cells_in T).stored s ≡ OwnNumber v
 
 -- the node keeps no number in its own base field, and the label is no number
-pub record StepsFrom (slots : ℕ) (T : Fields) (s label : ℕ) : Type 0 where
+pub record StepsOneOn (slots : ℕ) (T : Fields) (s label : ℕ) : Type 0 where
   pub sound : IsTable slots T.places
   pub node_in : s < size_of T
   pub node : (f : Forest) × HasNode T f s
@@ -157,7 +157,7 @@ pub record PutsNumberAt (slots : ℕ) (T : Fields) (s : ℕ) (v : ℤ) : Type 0 
   pub value : is_value v ≡ true
 
 -- two nodes below the root
-pub record AreNodes (T : Fields) (one other : ℕ) : Type 0 where
+pub record AreTwoNodes (T : Fields) (one other : ℕ) : Type 0 where
   pub one_in : one < size_of T
   pub other_in : other < size_of T
   pub one_not_root : one ≢ 0

@@ -1,8 +1,8 @@
 -- The words of clauses, from one place.
-pub use Rattle.cedar_edit.specs.Asked.{AreNodes, ExtendsLeaf, GoesToSlot, MayLoseLabel}
+pub use Rattle.cedar_edit.specs.Asked.{AreTwoNodes, ExtendsLeaf, GoesToSlot, MayLoseLabel}
 pub use Rattle.cedar_edit.specs.Asked.{MayLoseNumber, MayLoseOwn, MayMoveOwn, NumbersAlone}
 pub use Rattle.cedar_edit.specs.Asked.{NumbersLeaf, NumbersReserved, PutsNumberAt, SeeksOwned}
-pub use Rattle.cedar_edit.specs.Asked.{StepsFrom, TakesFree, TakesNumber, TakesReserved}
+pub use Rattle.cedar_edit.specs.Asked.{StepsOneOn, TakesFree, TakesNumber, TakesReserved}
 pub use Rattle.cedar_edit.specs.Asked.{TakesAlone}
 pub use Rattle.cedar_edit.specs.Changes.{AddsLeaf, cells_besides, ChainsRest, ComesBehind, IsInWay}
 pub use Rattle.cedar_edit.specs.Changes.{LacksLoneNumber, LacksNumberSlot, MakesAtMost}

@@ -48,7 +48,7 @@ pub record MayKeep (slots : ℕ) (T : Fields) (node depth l : ℕ) (siblings : L
   pub kept : IsPending T siblings (depth - 1) (owner_of (cells_in T) node)
 
 -- a walk has been at a node whose first child has this label, and has kept these siblings
-pub record GoesOnFrom (slots : ℕ) (T : Fields) (node depth label : ℕ) (siblings : List PendingSibling) : Type 0 where
+pub record GoesOnWith (slots : ℕ) (T : Fields) (node depth label : ℕ) (siblings : List PendingSibling) : Type 0 where
   pub well_formed : IsWellFormed slots T
   pub below : (start : List ℕ) × IsBelow (cells_in T) start depth node
   pub first : (w : List ℕ) → IsAt (cells_in T) w node → label ≡ first_sibling_label (node_at (tree_of T) w).children

@@ -1,5 +1,5 @@
 -- The words of clauses, from one place.
-pub use Rattle.cedar_walk.specs.Asked.{GoesOnBelow, GoesOnFrom, GoesOnPending, HasChildUnder}
+pub use Rattle.cedar_walk.specs.Asked.{GoesOnBelow, GoesOnWith, GoesOnPending, HasChildUnder}
 pub use Rattle.cedar_walk.specs.Asked.{HoldsNumber, MayKeep, StandsUnder}
 pub use Rattle.cedar_model.specs.Edit.NodeEdits.{IsAt}
 pub use Rattle.cedar_model.specs.Meaning.Family.{below}

@@ -7,7 +7,7 @@ ghost use Rattle.cedar_walk.specs.Words.{below, cells, ComesToFirst, fields, Fin
 ghost use Rattle.cedar_walk.specs.Words.{first_sibling_label, GoesKeeping, GoesToNumber, IsAt};
 ghost use Rattle.cedar_walk.specs.Words.{IsBelow, IsNumberedBelow, IsPending, IsWellFormed};
 ghost use Rattle.cedar_walk.specs.Words.{kept_behind, node_at, NoneLeft, owner_of, tree_of, walk};
-ghost use Rattle.cedar_walk.specs.Words.{GoesOnFrom, GoesOnPending, MayKeep};
+ghost use Rattle.cedar_walk.specs.Words.{GoesOnWith, GoesOnPending, MayKeep};
 
 use crate::visits::{
     Numbered, Place, child_under, first_child, label_after_number, next_after, next_sibling,
@@ -151,7 +151,7 @@ fn place_with_pending<L: Layout, const SLOTS: usize, A: Allocator>(
     label: u8,
     siblings: &mut PendingSiblings,
 ) -> Option<Place>
-    requires { GoesOnFrom SLOTS (fields table.now) node depth label siblings.old }
+    requires { GoesOnWith SLOTS (fields table.now) node depth label siblings.old }
     ensures { MatchOption result (NoneLeft (fields table.now) depth node) (GoesKeeping (fields table.now) depth node siblings.new) }
 {
     if label != 0 {

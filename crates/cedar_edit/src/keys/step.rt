@@ -7,7 +7,7 @@ ghost use Rattle.cedar_edit.specs.Words.{MayMakeBlock, OwnNumber, OwnsNothing, P
 ghost use Rattle.cedar_edit.specs.Words.{PutsInSlot, PutsMark, size_of, StepsTo, TableHolds};
 ghost use Rattle.cedar_edit.specs.Words.{TakesFreeSlot, TakesNoBlock, TakesSingle, WantsSlot};
 ghost use Rattle.cedar_edit.specs.Words.{ExtendsLeaf, GoesToSlot, NumbersLeaf, PutsNumberAt};
-ghost use Rattle.cedar_edit.specs.Words.{StepsFrom};
+ghost use Rattle.cedar_edit.specs.Words.{StepsOneOn};
 
 use crate::edit::leaf::{add_label, add_only, add_reserved};
 use crate::edit::number::{set_number, set_only, set_reserved};
@@ -165,7 +165,7 @@ pub(crate) fn follow_or_add<L: Layout, const SLOTS: usize, A: Allocator>(
     label: u8,
     search_limit: usize,
 ) -> Result<usize, Shortage>
-    requires { StepsFrom SLOTS (fields table.old) node label }
+    requires { StepsOneOn SLOTS (fields table.old) node label }
     ensures sound { IsTable SLOTS (fields table.new).places }
 
     //= `follow_or_add` goes to a node's child or adds it as a bare leaf, at its ascending place or first.

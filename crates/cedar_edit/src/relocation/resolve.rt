@@ -6,7 +6,7 @@ ghost use Rattle.cedar_edit.specs.Words.{Among, below, cells, ChainsRest, fields
 ghost use Rattle.cedar_edit.specs.Words.{MayMakeBlock, MovesForLabel, OwnsLabels, Reserves};
 ghost use Rattle.cedar_edit.specs.Words.{SetReserved, size_of, StandsBelow, TellsLonger, WantsSlot};
 ghost use Rattle.cedar_edit.specs.Words.{with_label};
-ghost use Rattle.cedar_edit.specs.Words.{AreNodes};
+ghost use Rattle.cedar_edit.specs.Words.{AreTwoNodes};
 
 use crate::relocation::moving::{goes_before, relocate_around, relocate_with};
 use arrayvec::ArrayVec;
@@ -94,7 +94,7 @@ fn is_longer<L: Layout, const SLOTS: usize, A: Allocator>(
     one: usize,
     other: usize,
 ) -> bool
-    requires { AreNodes (fields table.now) one other }
+    requires { AreTwoNodes (fields table.now) one other }
     ensures { TellsLonger (size_of (fields table.now)) (cells table.now) one other result }
 {
     let mut left = second_label(table, one);
