@@ -4,7 +4,7 @@ use Rattle.std.proofs.Common.{◌≡◌, suc, List, ◌∷◌, ◌∙◌, ap, ar
 use Rattle.cedar_journal.specs.declared.device.DeviceError.TheVariants.{Failed}
 use Rattle.cedar_journal.specs.Device.{HasCause}
 use Rattle.cedar_journal.proofs.Causes.{caused}
-use Rattle.cedar_disk.specs.Calls.{Call, faults_in, full_in}
+use Rattle.whole_files.specs.Calls.{Call, faults_in, full_in}
 
 module _ (call : Call) (old new : List Call) (is : new ≡ call ∷ old) (still : full_in (call ∷ old) ≡ full_in old) where
   pub call_done : faults_in (call ∷ old) ≡ faults_in old → HasCause {T = Unit {0}} (faults_in old) (faults_in new) (full_in old) (full_in new) (Ok tt)

@@ -5,7 +5,8 @@ use Rattle.std.proofs.lemmas.Bool.{and_parts, false≢true, leb-true, and_from}
 use Rattle.cedar_journal.specs.Device.{Cut, Elapses, Follows, LeavesOnly, Only, Torn}
 use Rattle.cedar_journal.proofs.Moments as moments
 use Rattle.cedar_journal.proofs.Tears.{cut_same, cut_taken, torn_held, torn_same}
-use Rattle.cedar_disk.specs.Calls.{Call, LeftSince, MayLeave, NextLeft, CallState, all_within, faults_in, is_named_after, is_usable_after, folder_sync_call, next_seen, next_state, overlay, refused_call, rename_call, seen_after, truncate_call, state_after, sync_call, within_by, write_call}
+use Rattle.whole_files.specs.Calls.{Call, LeftSince, MayLeave, NextLeft, CallState, all_within, faults_in, is_named_after, is_usable_after, folder_sync_call, next_seen, next_state, overlay, refused_call, rename_call, seen_after, truncate_call, state_after, sync_call, within_by, write_call}
+use Rattle.whole_files.proofs.Syncs.{synced_only}
 use Rattle.cedar_disk.specs.Laws.{counts_now, only_now}
 use Rattle.cedar_disk.specs.Runs.{IsUnplaced}
 
@@ -60,12 +61,6 @@ stays ((zero, at, ok, bytes) ∷ earlier) within usable = refl
 stays ((suc kind, at, ok, bytes) ∷ earlier) within usable =
     next_stays (suc kind) at ok (state_after earlier) bytes (seen_after earlier) (MayLeave earlier) (all_within earlier)
     (stays earlier (were_within kind at (seen_after earlier) (all_within earlier) within)) within usable
-
--- behind a sync the disk has what a read returns
-pub synced_only : (calls : List Call) → IsTrue (is_usable_after calls) → Only (seen_after calls) (MayLeave (sync_call true ∷ calls))
-synced_only calls usable c left =
-    let flag : (is_usable_after calls && true) ≡ true = and_from _ _ usable refl in
-    subst (λ (b : Bool). NextLeft 3 0 b [] (seen_after calls) (MayLeave calls) c) flag left
 
 pub synced_file : (old new : List Call) → IsTrue (is_usable_after old) → new ≡ sync_call true ∷ old → Only (seen_after old) (MayLeave new) × Only (seen_after new) (MayLeave new)
 synced_file old new usable is =

@@ -7,10 +7,11 @@ use lib.Seq.{take-add}
 use Rattle.cedar_journal.specs.declared.device.DeviceError.TheVariants.{Failed, NoRoom}
 use Rattle.cedar_journal.specs.Device.{Follows, HasCause, Only, Torn}
 use Rattle.cedar_journal.proofs.Causes.{caused}
-use Rattle.cedar_disk.specs.Calls.{Call, MayLeave, faults_in, full_call, full_in, is_usable_after, open_call, overlay, seen_after, sync_call, write_call}
+use Rattle.whole_files.specs.Calls.{Call, MayLeave, faults_in, full_call, full_in, is_usable_after, open_call, overlay, seen_after, sync_call, write_call}
 use Rattle.cedar_disk.specs.Runs.{AreWritten, AreWrittenInPart, Spoils}
 use Rattle.cedar_journal.proofs.Tears.{torn_held, torn_same, torn_then}
-use Rattle.cedar_disk.proofs.Steps.{elapses_none, elapses_on, overlaid_length, synced_only}
+use Rattle.whole_files.proofs.Syncs.{synced_only}
+use Rattle.cedar_disk.proofs.Steps.{elapses_none, elapses_on, overlaid_length}
 
 -- ---- bytes over bytes
 

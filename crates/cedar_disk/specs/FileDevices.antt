@@ -5,7 +5,7 @@ use Rattle.std.specs.declared.io.traits.Write as write
 use Rattle.std.specs.declared.io.traits.Seek as seek
 use Rattle.cedar_disk.specs.declared.file.FileDevice.{FileDevice}
 use Rattle.cedar_disk.specs.Accounts.{calls_of}
-use Rattle.cedar_disk.specs.Calls.{Call}
+use Rattle.whole_files.specs.Calls.{Call}
 use Rattle.cedar_disk.specs.PathFiles.{place_opening}
 
 module _ {F A G D : Type 0} {r : read.Ghosts G} {w : write.Ghosts G} {s : seek.Ghosts G} {d : read.Ghosts D} where

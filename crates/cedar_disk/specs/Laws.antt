@@ -1,7 +1,7 @@
 -- What of a file's history is about now.
 use Rattle.std.specs.Prelude.{◌≤◌, ℕ, List, [], ◌∷◌, length}
 use Rattle.std.proofs.Common.{inl, inr, arith}
-use Rattle.cedar_disk.specs.Calls.{Call, MayLeave, LeftSince}
+use Rattle.whole_files.specs.Calls.{Call, MayLeave, LeftSince}
 
 -- the law of `Device` that this moment is one of those since an earlier one
 abbrev pub counts_now : (calls : List Call) (t : ℕ) (c : List ℕ) → t ≤ length calls → MayLeave calls c → LeftSince calls t c

@@ -1,17 +1,11 @@
 pub mod Accounts
-pub mod Beginnings
-pub mod Calls
 pub mod Errors
 pub mod FileDevices
 pub mod Laws
 pub mod Names
-pub mod NewFiles
 pub mod NotedFiles
 pub mod OpenedFiles
 pub mod Openings
 pub mod PathFiles
 pub mod Runs
-pub mod Sending
-pub mod SpecialFiles
-pub mod Whole
 pub mod Words

@@ -1,16 +1,11 @@
--- A path, and what was done there.
+-- Where a file lies.
 use Rattle.std.specs.Prelude.{ℕ, List}
 use Rattle.std.specs.declared.io.traits.Read as read
 use Rattle.std.specs.declared.io.traits.Write as write
 use Rattle.std.specs.declared.io.traits.Seek as seek
-use Rattle.cedar_disk.specs.declared.noted.PathCalls.{PathCalls}
 use Rattle.cedar_disk.specs.declared.noted.Place.{Place}
-use Rattle.cedar_disk.specs.Calls.{Call}
+use Rattle.whole_files.specs.Calls.{Call}
 use Rattle.cedar_disk.specs.OpenedFiles.{found_calls, found_path}
-
--- the calls on the file that was made beside the one at a path, the newest first
-abbrev pub path_calls : {F : Type 0} → PathCalls F → List Call
-path_calls calls = calls.history.calls
 
 module _ {F A G D : Type 0} {r : read.Ghosts G} {w : write.Ghosts G} {s : seek.Ghosts G} {d : read.Ghosts D} where
   -- the path of a place, as bytes

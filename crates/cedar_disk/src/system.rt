@@ -1,17 +1,14 @@
 //! How a file is found, opened and read.
 
 ghost use Rattle.std.specs.Prelude.{◌≡◌, IfErr, IfOk, IfSome};
-ghost use Rattle.cedar_disk.specs.OpenedFiles.{file_to_read, OfFileAt};
-ghost use Rattle.cedar_disk.specs.Words.{IsUnlocked, Memory, TellsKind};
+ghost use Rattle.cedar_disk.specs.Words.{file_to_read, IsUnlocked, Memory, OfFileAt, TellsKind};
 
 use crate::LockFile;
-use crate::opening::{FileToRead, open_to_read};
 use std::alloc::{AllocError, Allocator};
-use std::fs;
-use std::fs::{Metadata, OpenFile, OpenOptions};
+use std::fs::{self, OpenFile, OpenOptions};
 use std::io::{self, Read};
-use std::os::unix::fs::{MetadataExt, lchown};
 use std::rt::Files;
+use whole_files::{FileToRead, leads_to, open_to_read};
 
 /// Why a file wasn't opened.
 #[derive(Clone, Copy, Debug)]
@@ -125,58 +122,10 @@ pub(crate) fn read_all<R: Read, A: Allocator>(file: &mut R, alloc: A) -> io::Res
     Ok(bytes)
 }
 
-/// Returns what is known of the file at a path, or None if nothing is there that a link leads to.
-///
-/// # Errors
-/// `Unsupported` if something other than a file is there.
-pub(crate) fn file_at<F: Files>(files: &F, path: &str) -> io::Result<Option<Metadata>> {
-    match fs::metadata(files, path) {
-        Ok(found) if found.is_file() => Ok(Some(found)),
-        Ok(_) => Err(io::ErrorKind::Unsupported.into()),
-        Err(error) if is_nothing(error.kind()) => Ok(None),
-        Err(error) => Err(error),
-    }
-}
-
-// Whether an error says that nothing is at a path: also where links only lead to each other.
-fn is_nothing(kind: io::ErrorKind) -> bool {
-    kind == io::ErrorKind::NotFound || kind == io::ErrorKind::FilesystemLoop
-}
-
-/// Gives the file of these looks the owner and group of another one, or else the group alone, as far as the system allows that. Returns
-/// whether it has both. This goes by the file's name, since `Files` has no such call on an open file: so only while the name leads to the
-/// file.
-pub(crate) fn keep_owner<F: Files>(
-    files: &F,
-    name: &str,
-    made: &Metadata,
-    like: &Metadata,
-) -> bool {
-    if made.uid() == like.uid() && made.gid() == like.gid() {
-        return true;
-    }
-    if !leads_to(files, name, made) {
-        return false;
-    }
-    if lchown(files, name, Some(like.uid()), Some(like.gid())).is_ok() {
-        return true;
-    }
-    let _ = lchown(files, name, None, Some(like.gid()));
-    false
-}
-
 /// Whether a file is at a path, and no link to one.
 pub(crate) fn is_file_itself<F: Files>(files: &F, path: &str) -> bool {
     match fs::symlink_metadata(files, path) {
         Ok(found) => found.is_file(),
-        Err(_) => false,
-    }
-}
-
-// Whether a name is that of a file, and not of a link.
-fn leads_to<F: Files>(files: &F, name: &str, file: &Metadata) -> bool {
-    match fs::symlink_metadata(files, name) {
-        Ok(found) => found.dev() == file.dev() && found.ino() == file.ino(),
         Err(_) => false,
     }
 }

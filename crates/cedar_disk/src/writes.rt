@@ -10,15 +10,14 @@ ghost use Rattle.cedar_disk.specs.NotedFiles.{is_beside, noted_calls};
 ghost use Rattle.cedar_disk.specs.PathFiles.{place_path};
 
 use crate::LockFile;
-use crate::names::{PATH_LEN, compaction_beside};
+use crate::names::compaction_beside;
 use crate::noted::{Noted, Place, make_successor, remove_made};
-use crate::whole::OWN_MODE;
-use crate::wrote::Wrote;
 use arrayvec::ArrayString;
 use cedar_journal::DeviceError;
 use std::alloc::Allocator;
 use std::io;
 use std::rt::Files;
+use whole_files::{OWN_MODE, PATH_LEN, Wrote};
 
 /// Writes all of the bytes from the byte `at` on.
 ///

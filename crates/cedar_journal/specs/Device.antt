@@ -1,26 +1,13 @@
 -- What the calls of a device do to its file, and what a crash may do between two syncs.
-use Rattle.std.specs.Prelude.{◌<◌, ◌≡◌, ◌⊎◌, ℕ, ◌+◌, ◌≤◌, max, min, List, ◌++◌, length}
+use Rattle.std.specs.Prelude.{◌<◌, ◌≡◌, ◌⊎◌, ℕ, ◌+◌, ◌≤◌, List, ◌++◌, length}
 use Rattle.std.specs.Prelude.{take, drop, Result, IsErrOf, OnOk}
+pub use Rattle.torn_writes.specs.Tearing.{Cut, Only, Torn}
 use Rattle.cedar_journal.specs.declared.device.DeviceError.{DeviceError}
 use Rattle.cedar_journal.specs.declared.device.DeviceError.TheVariants.{Failed, Memory, NoRoom}
 
 -- a file is what another one was, with these bytes at this offset
 abbrev pub Holds : List ℕ → ℕ → List ℕ → List ℕ → Type 0
 Holds old at bytes new = new ≡ take at old ++ bytes ++ drop (at + length bytes) old
-
--- what a file may be after a write of n bytes that a crash cuts short: any bytes in the range and past the old end,
--- and elsewhere as it was. The old end may be in front of the range, if a write past the end wasn't on the disk yet
-pub record Torn (at n : ℕ) (old new : List ℕ) : Type 0 where
-  pub before : take (min at (length old)) new ≡ take at old
-  pub after : drop (at + n) new ≡ drop (at + n) old
-  pub no_shorter : length old ≤ length new
-  pub no_longer : length new ≤ max (length old) (at + n)
-
--- what a file may be after a cut that a crash cuts short: some length between the two. What was shorter before, since
--- a write past the end wasn't on the disk, stays so
-pub record Cut (n : ℕ) (old new : List ℕ) : Type 0 where
-  pub no_shorter : min n (length old) ≤ length new
-  pub front : take (length new) old ≡ new
 
 -- what a crash may leave now, it might have left before, except for this step
 abbrev pub Follows : (List ℕ → List ℕ → Type 0) → (List ℕ → Type 0) → (List ℕ → Type 0) → Type 0
@@ -29,10 +16,6 @@ Follows step old new = (c : List ℕ) → new c → (d : List ℕ) × old d × s
 -- two files have the same first n bytes
 abbrev pub HasFront : ℕ → List ℕ → List ℕ → Type 0
 HasFront n file c = take n c ≡ take n file
-
--- a crash leaves this file and nothing else
-abbrev pub Only : List ℕ → (List ℕ → Type 0) → Type 0
-Only file outcomes = (c : List ℕ) → outcomes c → c ≡ file
 
 -- time goes on in a device's call: what a crash since t might have left now, it might have left before, or it is what
 -- a crash may leave now

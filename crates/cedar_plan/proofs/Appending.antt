@@ -6,7 +6,7 @@ use Rattle.cedar_journal.specs.Files.{file_payloads, with_payload}
 use Rattle.cedar_journal.specs.Formats.{frame_of, opening, overhead}
 use Rattle.cedar_journal.specs.Journal.{IsBeforeOrAfter, IsSettled, IsStaged}
 use Rattle.cedar_journal.proofs.Crash.{closed_stands, front_ends, gate_crash, longer, longer_ends, longer_front, opened_file, opened_stands, settled_at, stage_crash, staged_at, staged_file}
-use Rattle.cedar_disk.specs.Calls.{Call, MayLeave, overlay, seen_after}
+use Rattle.whole_files.specs.Calls.{Call, MayLeave, overlay, seen_after}
 use Rattle.cedar_plan.specs.Safety.{IsAppended, IsAtRest}
 use Rattle.cedar_plan.specs.Works.{append_works}
 use Rattle.cedar_plan.proofs.Working.{Has, Keep, all_have, all_leave}

@@ -13,7 +13,7 @@ use Rattle.cedar_journal.specs.Journal.{IsSettled}
 use Rattle.cedar_journal.proofs.Crash.{closed_same, cut_keeps, file_size, settled_at, stays, torn_end, written_end}
 use Rattle.cedar_journal.proofs.HeaderCrash.{cut_leaves, torn_byte, torn_frame, torn_gate_of_header}
 use Rattle.cedar_journal.proofs.Headers.{byte_stands, empty_stands, gate_stands, header_is_front, header_stands}
-use Rattle.cedar_disk.specs.Calls.{Call, MayLeave, open_call, overlay, seen_after}
+use Rattle.whole_files.specs.Calls.{Call, MayLeave, open_call, overlay, seen_after}
 use Rattle.cedar_plan.specs.Safety.{CrashLeaves, IsAtRest, IsOpened}
 use Rattle.cedar_plan.specs.Works.{AreCarriedOut, Work, all_done, cut_to, end_of, format_in, opening_works, write_to}
 use Rattle.cedar_plan.proofs.Working.{Has, Keep, all_have, all_leave, has_opened}

@@ -9,8 +9,9 @@ use Rattle.cedar_journal.specs.Files.{file_payloads}
 use Rattle.cedar_journal.proofs.Crash.{behind_gate, closed_stands, front_ends, gated_stands, settled_at}
 use Rattle.cedar_journal.proofs.Moments as moments
 use Rattle.cedar_journal.proofs.Tears.{torn_held}
-use Rattle.cedar_disk.specs.Calls.{Call, LeftSince, MayLeave, all_within, is_usable_after, seen_after, truncate_call, sync_call, write_call}
-use Rattle.cedar_disk.proofs.Steps.{cut_follows, sync_keeps, synced_only, write_follows}
+use Rattle.whole_files.specs.Calls.{Call, LeftSince, MayLeave, all_within, is_usable_after, seen_after, truncate_call, sync_call, write_call}
+use Rattle.cedar_disk.proofs.Steps.{cut_follows, sync_keeps, write_follows}
+use Rattle.whole_files.proofs.Syncs.{synced_only}
 use Rattle.cedar_plan.specs.Safety.{CrashLeaves, IsAtRest, IsCutBack, IsWithdrawn, cut_back}
 use Rattle.cedar_plan.proofs.Working.{leaves_one}
 

@@ -4,9 +4,10 @@ use Rattle.std.proofs.Common.{◌≡◌, ◌⊎◌, inl, inr, ⊎_elim, ℕ, ◌
 use Rattle.std.proofs.lemmas.Bool.{le-leb, and_from}
 use Rattle.cedar_journal.specs.Device.{Cut, Only, Torn}
 use Rattle.cedar_journal.proofs.Moments as moments
-use Rattle.cedar_disk.specs.Calls.{Call, LeftSince, MayLeave, all_within, is_usable_after, open_call, overlay, seen_after, truncate_call, sync_call, write_call}
+use Rattle.whole_files.specs.Calls.{Call, LeftSince, MayLeave, all_within, is_usable_after, open_call, overlay, seen_after, truncate_call, sync_call, write_call}
 use Rattle.cedar_disk.specs.Laws.{only_now}
-use Rattle.cedar_disk.proofs.Steps.{cut_follows, leaves, sync_keeps, synced_only, write_follows}
+use Rattle.cedar_disk.proofs.Steps.{cut_follows, leaves, sync_keeps, write_follows}
+use Rattle.whole_files.proofs.Syncs.{synced_only}
 use Rattle.cedar_plan.specs.Safety.{CrashLeaves}
 use Rattle.cedar_plan.specs.Works.{AreCarriedOut, FailsIn, Work, all_done, cut_to, after_work, write_to}
 

@@ -1,4 +1,4 @@
-pub use Rattle.cedar_disk.specs.Calls
+pub use Rattle.whole_files.specs.Calls
 pub mod Plans
 pub mod Safety
 pub mod Words

@@ -6,8 +6,8 @@ use Rattle.cedar_journal.specs.Device.{LeavesOnly}
 use Rattle.cedar_journal.specs.Files.{HasExtent, with_payload, file_payloads}
 use Rattle.cedar_journal.specs.Formats.{overhead}
 use Rattle.cedar_journal.specs.Journal.{IsBeforeOrAfter, IsSettled}
-use Rattle.cedar_disk.specs.Calls.{Call, LeftSince, MayLeave, all_within, is_usable_after}
-use Rattle.cedar_disk.specs.Calls.{open_call, seen_after, write_call}
+use Rattle.whole_files.specs.Calls.{Call, LeftSince, MayLeave, all_within, is_usable_after}
+use Rattle.whole_files.specs.Calls.{open_call, seen_after, write_call}
 use Rattle.cedar_plan.specs.Works.{AreCarriedOut, FailsIn, after_work, all_done, append_works}
 use Rattle.cedar_plan.specs.Works.{cut_to, end_of, format_in, opening_works}
 

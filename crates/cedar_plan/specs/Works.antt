@@ -6,7 +6,7 @@ use Rattle.cedar_journal.specs.declared.format.Format.{Format}
 use Rattle.cedar_journal.specs.declared.format.Format.TheVariants.{Summed}
 use Rattle.cedar_journal.specs.Files.{ends_closed, header_frame}
 use Rattle.cedar_journal.specs.Formats.{frame_of, opening}
-use Rattle.cedar_disk.specs.Calls.{Call, sync_call, truncate_call, write_call}
+use Rattle.whole_files.specs.Calls.{Call, sync_call, truncate_call, write_call}
 
 -- what is done to a file
 pub data Work : Type 0 where

@@ -2,8 +2,9 @@
 use Rattle.std.specs.Prelude.{◌≡◌, ◌⊎◌, ◌<◌, ℕ, zero, suc, ◌+◌, ◌*◌, ◌&&◌, ◌==◌, nat_le, Bool}
 use Rattle.std.specs.Prelude.{true, false, not, cond, List, [], ◌∷◌, ◌++◌, length, take, drop}
 use Rattle.std.specs.Prelude.{get_or, Option, Some, None, is_some}
-use Rattle.cedar_disk.specs.Calls.{Call}
-use Rattle.cedar_disk.specs.Openings.{opened_existing, opened_new}
+use Rattle.whole_files.specs.Calls.{Call}
+use Rattle.cedar_disk.specs.Openings.{opened_existing}
+use Rattle.whole_files.specs.Openings.{opened_new}
 use Rattle.cedar_journal.specs.declared.format.Format.{Format}
 use Rattle.cedar_journal.specs.declared.format.Format.TheVariants.{Plain, Summed}
 use Rattle.cedar_journal.specs.declared.records.Extent.{Extent}

@@ -17,6 +17,7 @@ pub use Rattle.cedar_salvage.specs.Restoring.{restore_error, RestoreCause}
 pub use Rattle.cedar_salvage.specs.Whole.{cuts_records, CutsNone, first_changes, found_in, found_of}
 pub use Rattle.cedar_salvage.specs.Whole.{has_some, is_change, IsCutOf, is_kind, IsOpenedAt}
 pub use Rattle.cedar_salvage.specs.Whole.{is_whole, look_at, looks, salvage_of, TakesLong}
-pub use Rattle.cedar_disk.specs.Calls.{MayLeave, seen_after}
-pub use Rattle.cedar_disk.specs.Openings.{opened_existing, opened_new}
+pub use Rattle.whole_files.specs.Calls.{MayLeave, seen_after}
+pub use Rattle.cedar_disk.specs.Openings.{opened_existing}
+pub use Rattle.whole_files.specs.Openings.{opened_new}
 pub use Rattle.cedar_salvage.specs.declared.keep.KeepError.TheVariants.{Memory}

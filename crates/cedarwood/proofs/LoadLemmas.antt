@@ -5,9 +5,9 @@ use Rattle.std.specs.Io.KnownBytes.{prepend_known}
 use Rattle.std.specs.Io.Buffered.{reader_buffer, reader_capacity, reader_inner, reader_remaining}
 use Rattle.std.specs.declared.io.buffered.BufReader.{BufReader}
 use Rattle.std.specs.Result.{IsOkAnd}
-use Rattle.cedar_disk.specs.OpenedFiles.{file_to_read, read_calls}
-use Rattle.cedar_disk.specs.Openings.{opened_to_read}
-use Rattle.cedar_disk.specs.declared.opening.FileToRead.{FileToRead}
+use Rattle.whole_files.specs.OpenedFiles.{file_to_read, read_calls}
+use Rattle.whole_files.specs.Openings.{opened_to_read}
+use Rattle.whole_files.specs.declared.opening.FileToRead.{FileToRead}
 use Rattle.cedar_model.specs.Table.Layouts.{LayoutKind, layout_byte}
 use Rattle.cedar_model.specs.Table.TableFields.{Fields}
 use Rattle.cedar_model.specs.Meaning.WellFormed.{IsWellFormed}

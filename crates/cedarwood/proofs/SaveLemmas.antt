@@ -5,7 +5,7 @@ use Rattle.std.proofs.lemmas.List.{append_cancel_left}
 use Rattle.std.specs.Io.Buffered.{writer_buffer, writer_contents, writer_inner}
 use Rattle.std.specs.Io.KnownBytes.{append_known, Appends, Keeps}
 use Rattle.std.specs.declared.io.buffered.BufWriter.{BufWriter}
-use Rattle.cedar_disk.specs.Words.{address}
+use Rattle.whole_files.specs.Words.{address}
 use Rattle.cedar_model.specs.Table.Layouts.{LayoutKind, layout_byte}
 use Rattle.cedar_model.specs.Table.TableFields.{Fields}
 use Rattle.cedar_model.specs.Meaning.WellFormed.{IsWellFormed}

@@ -7,7 +7,7 @@ use Rattle.cedar_format.specs.declared.error.CedarPersistenceError.{CedarPersist
 use Rattle.cedar_format.specs.declared.error.CedarPersistenceError.TheVariants.{AllocationFailed}
 use Rattle.cedar_format.specs.Format.{need, Passes}
 use Rattle.cedar_format.specs.Reading.{IsIo, LacksNoMore}
-use Rattle.cedar_disk.specs.OpenedFiles.{OfFileAt}
+use Rattle.whole_files.specs.OpenedFiles.{OfFileAt}
 use Rattle.cedar_format.specs.Tables.{header_of, table_bytes, IsTableFile}
 use Rattle.cedarwood.specs.Dictionary.{Dictionary}
 pub use Rattle.cedar_file.specs.Loading.{IsDecided, LacksMemory, LoadAnswers, LoadsBy}

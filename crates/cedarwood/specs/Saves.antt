@@ -1,10 +1,10 @@
 -- What a save by path did, and what one that failed did.
 use Rattle.std.specs.Prelude.{◌≡◌, ◌∷◌, [], ℕ, List, MatchOption}
-use Rattle.cedar_disk.specs.Beginnings.{not_begun_calls, not_begun_opened}
-use Rattle.cedar_disk.specs.PathFiles.{path_calls}
-use Rattle.cedar_disk.specs.Calls.{Call}
-use Rattle.cedar_disk.specs.SpecialFiles.{sent_calls}
-use Rattle.cedar_disk.specs.Words.{IsPlaced, IsSentTo, IsUnplacedAt, not_begun, was_opened}
+use Rattle.whole_files.specs.Beginnings.{not_begun_calls, not_begun_opened}
+use Rattle.whole_files.specs.PathFiles.{path_calls}
+use Rattle.whole_files.specs.Calls.{Call}
+use Rattle.whole_files.specs.SpecialFiles.{sent_calls}
+use Rattle.whole_files.specs.Words.{IsPlaced, IsSentTo, IsUnplacedAt, not_begun, was_opened}
 use Rattle.cedar_format.specs.declared.error.CedarPersistenceError.{CedarPersistenceError}
 use Rattle.cedar_format.specs.declared.error.CedarPersistenceError.TheVariants.{AllocationFailed, Io}
 use Rattle.cedar_format.specs.Reading.{IsIo}

@@ -1,10 +1,10 @@
 -- The words that the public clauses cite, from one place: a caller's crate takes them from here, and so do this crate's own sources.
 pub use Rattle.cedar_bulk.specs.Sorted.{entries_by, entries_of, Pair}
 pub use Rattle.cedar_bulk.specs.SortedMarks.{SortedMarks}
-pub use Rattle.cedar_disk.specs.PathFiles.{path_calls}
-pub use Rattle.cedar_disk.specs.SpecialFiles.{sent_calls}
-pub use Rattle.cedar_disk.specs.Calls.{Call}
-pub use Rattle.cedar_disk.specs.Whole.{Content, IsPlaced, IsUnplacedAt, PathLeaves}
+pub use Rattle.whole_files.specs.PathFiles.{path_calls}
+pub use Rattle.whole_files.specs.SpecialFiles.{sent_calls}
+pub use Rattle.whole_files.specs.Calls.{Call}
+pub use Rattle.whole_files.specs.Whole.{Content, IsPlaced, IsUnplacedAt, PathLeaves}
 pub use Rattle.cedar_file.specs.Loading.{LoadsBy}
 pub use Rattle.cedar_format.specs.Format.{CountsWithin, header_answer, IsVersion, need, Passes}
 pub use Rattle.cedar_format.specs.Reading.{IsIo, LacksNoMore, TellsBreaks}

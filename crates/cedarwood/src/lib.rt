@@ -41,7 +41,7 @@ mod unsorted;
 pub use batches::{CACHED_SLOTS, RefusedPair};
 pub use builder::CedarBuilder;
 // What was done at a path, and what becomes of it.
-pub use cedar_disk::{NotBegun, PathCalls, Sent, whole_files_are_safe};
+pub use whole_files::{NotBegun, PathCalls, Sent, whole_files_are_safe};
 pub use cedar_format::{
     CedarPersistenceError, Source, Watched, one_table_for_its_bytes, well_formed_tables_pass,
 };

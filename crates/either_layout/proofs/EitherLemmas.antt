@@ -6,9 +6,9 @@ use Rattle.std.specs.Prelude.{drop, IfNone, option_map}
 use Rattle.std.specs.Io.Chain.{chain_remaining}
 use Rattle.std.specs.Io.KnownBytes.{Consumes, IsAtEnd}
 use Rattle.std.specs.declared.io.traits.Chain.{Chain}
-use Rattle.cedar_disk.specs.OpenedFiles.{file_to_read, read_calls}
-use Rattle.cedar_disk.specs.Openings.{opened_to_read}
-use Rattle.cedar_disk.specs.declared.opening.FileToRead.{FileToRead}
+use Rattle.whole_files.specs.OpenedFiles.{file_to_read, read_calls}
+use Rattle.whole_files.specs.Openings.{opened_to_read}
+use Rattle.whole_files.specs.declared.opening.FileToRead.{FileToRead}
 use Rattle.cedar_file.proofs.LoadLemmas.{stands_in, stays_refused}
 use Rattle.cedar_format.specs.Format.{Passes}
 use Rattle.cedar_format.specs.Reading.{LacksNoMore}

@@ -1,7 +1,7 @@
 -- Which layout a file names, and what a load of a file of either layout returns and lacks.
 use Rattle.std.specs.Prelude.{◌≡◌, ◌⊎◌, ◌==◌, ℕ, Bool, false, List, Option, None, Some, slice_get}
 use Rattle.std.specs.Prelude.{IfOk, IfSome, IsErrAnd, Result}
-use Rattle.cedar_disk.specs.OpenedFiles.{OfFileAt}
+use Rattle.whole_files.specs.OpenedFiles.{OfFileAt}
 use Rattle.cedarwood.specs.Layouts.{LayoutKind, default_layout, layout_byte, reduced_layout}
 use Rattle.cedarwood.specs.Loading.{LacksByPath, LoadsBy}
 use Rattle.cedarwood.specs.Limits.{most_slots}

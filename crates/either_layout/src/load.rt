@@ -8,7 +8,7 @@ ghost use Rattle.either_layout.specs.Words.{names_reduced_layout, no_search_limi
 ghost use Rattle.either_layout.specs.Words.{TellsBreaks};
 
 use crate::AnyCedar;
-use cedar_disk::open_to_read;
+use whole_files::open_to_read;
 use cedarwood::{Cedar, CedarPersistenceError, Layout, ReducedCedar, Source, Trie, Watched};
 use std::alloc::Global;
 use std::io;

@@ -1,7 +1,7 @@
 //! What a save by path did.
 
 use crate::CedarPersistenceError;
-use cedar_disk::{NotBegun, PathCalls, Sent};
+use whole_files::{NotBegun, PathCalls, Sent};
 
 /// What a save by path did at the path, among the files `F`.
 #[derive(Drop)]

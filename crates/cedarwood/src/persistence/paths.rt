@@ -11,7 +11,7 @@ use crate::persistence::replace::no_room;
 use crate::{
     CedarPersistenceError, DEFAULT_LOAD_MEMORY_LIMIT, Layout, SaveFailed, Saved, Trie, Watched,
 };
-use cedar_disk::open_to_read;
+use whole_files::open_to_read;
 use cedar_format::{FULL_MINOR, MINOR};
 use std::alloc::Allocator;
 use std::io;

@@ -2,16 +2,16 @@
 
 ghost use Rattle.std.specs.Prelude.{◌≡◌, [], IfErr, IfOk, MatchOption, OnOk};
 ghost use Rattle.std.specs.Io.Buffered.{writer_buffer, writer_inner};
-ghost use Rattle.cedar_disk.specs.Beginnings.{not_begun_opened, unplaced_bytes, unplaced_path};
-ghost use Rattle.cedar_disk.specs.PathFiles.{path_calls};
-ghost use Rattle.cedar_disk.specs.SpecialFiles.{sent_calls, special_told};
-ghost use Rattle.cedar_disk.specs.Words.{address, IsPlaced, IsSentTo};
+ghost use Rattle.whole_files.specs.Beginnings.{not_begun_opened, unplaced_bytes, unplaced_path};
+ghost use Rattle.whole_files.specs.PathFiles.{path_calls};
+ghost use Rattle.whole_files.specs.SpecialFiles.{sent_calls, special_told};
+ghost use Rattle.whole_files.specs.Words.{address, IsPlaced, IsSentTo};
 ghost use Rattle.cedarwood.specs.Words.{AllocationFailed, Appends, FailsToWrite, Io, IsBufferless};
 ghost use Rattle.cedarwood.specs.Words.{IsSavedAt, IsTableFile, IsUnsavedAt, IsVersion, PassesAgain};
 ghost use Rattle.cedarwood.specs.Words.{table_bytes, TellsError};
 
 use crate::{CedarPersistenceError, Layout, SaveFailed, Saved, Trie, Unsaved, Watched};
-use cedar_disk::{
+use whole_files::{
     NotBegun, NotPlaced, PathCalls, Sent, Special, Unplaced, begin_beside, begin_special,
 };
 use cedar_file::write_table;

@@ -1,7 +1,7 @@
 use Rattle.cedar_disk.specs.NotedFiles.{noted_calls}
 use Rattle.cedar_disk.proofs.Writing.{new_file, new_file_only}
 use Rattle.std.proofs.Common.{◌≡◌, ◌∷◌, ◌∙◌, ap, rules, true}
-use Rattle.cedar_disk.specs.Calls.{seen_after, sync_call}
+use Rattle.whole_files.specs.Calls.{seen_after, sync_call}
 use Rattle.cedar_disk.proofs.writes.fill.Goals as goal
 
 pub returns-clause-bytes : goal.returns-clause-bytes

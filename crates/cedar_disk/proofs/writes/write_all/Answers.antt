@@ -1,5 +1,5 @@
 use Rattle.std.proofs.Common.{◌≡◌, ◌+◌, ◌∙◌, ap, length, refl, take, arith, rules}
-use Rattle.cedar_disk.specs.Calls.{faults_in, full_in}
+use Rattle.whole_files.specs.Calls.{faults_in, full_in}
 use Rattle.cedar_disk.specs.NotedFiles.{noted_calls}
 use Rattle.cedar_disk.proofs.Writing.{are_written_none, front_length, has_failed, lacked_room, wrote_all, wrote_more, wrote_no_more, wrote_perhaps, wrote_well}
 use Rattle.cedar_disk.proofs.writes.write_all.Goals as goal

@@ -1,5 +1,5 @@
 use Rattle.std.proofs.Common.{length, subst, sym, ◌∙◌, ap, arith}
-use Rattle.cedar_disk.specs.Calls.{MayLeave, seen_after}
+use Rattle.whole_files.specs.Calls.{MayLeave, seen_after}
 use Rattle.cedar_disk.specs.FileDevices.{device_calls}
 use Rattle.cedar_journal.specs.Device.{Only}
 use Rattle.cedar_salvage.proofs.Keeping.{first_written, next_written}

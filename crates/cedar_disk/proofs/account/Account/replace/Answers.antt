@@ -2,7 +2,7 @@ use Rattle.std.proofs.Common.{◌≡◌, ◌∷◌, ◌∙◌, ℕ, List, true, 
 use Rattle.std.specs.Prelude.{IsTrue}
 use Rattle.std.proofs.lemmas.Bool.{false≢true}
 use Rattle.cedar_disk.specs.NotedFiles.{noted_calls}
-use Rattle.cedar_disk.specs.Calls.{Call, MayLeave, all_within, is_named_after, is_usable_after, folder_sync_call, rename_call, seen_after}
+use Rattle.whole_files.specs.Calls.{Call, MayLeave, all_within, is_named_after, is_usable_after, folder_sync_call, rename_call, seen_after}
 use Rattle.cedar_disk.specs.Runs.{IsUnplaced}
 use Rattle.cedar_journal.specs.Device.{Only}
 use Rattle.cedar_disk.proofs.Steps.{named_again, named_file, named_leaves, names, names_elapse, placed_faults, unplaced_elapse, unplaced_faults, unplaced_leaves, unplaced_lost, unplaced_names, unplaced_within, usable_again}

@@ -2,7 +2,7 @@ use Rattle.std.proofs.Common.{List, true, false, refl, subst, sym, ◌∙◌, ap
 use Rattle.std.specs.Prelude.{IsTrue}
 use Rattle.std.proofs.lemmas.Bool.{false≢true, and_from}
 use Rattle.cedar_disk.specs.NotedFiles.{noted_calls}
-use Rattle.cedar_disk.specs.Calls.{Call, all_within, is_named_after, is_usable_after, seen_after, sync_call}
+use Rattle.whole_files.specs.Calls.{Call, all_within, is_named_after, is_usable_after, seen_after, sync_call}
 use Rattle.cedar_disk.proofs.Causes.{call_done, call_failed, none_done}
 use Rattle.cedar_disk.proofs.Steps.{elapses_none, elapses_to, sync_keeps, synced_file}
 use Rattle.cedar_disk.proofs.account.Account.sync.Goals as goal

@@ -2,7 +2,7 @@ use Rattle.std.proofs.Common.{◌∙◌, rules, subst, sym}
 use Rattle.std.specs.Prelude.{IsErrOf}
 use Rattle.cedar_journal.specs.declared.device.DeviceError.TheVariants.{NoRoom}
 use Rattle.cedar_journal.specs.Device.{HasCause}
-use Rattle.cedar_disk.specs.Calls.{faults_in, full_in}
+use Rattle.whole_files.specs.Calls.{faults_in, full_in}
 use Rattle.cedar_disk.specs.NotedFiles.{noted_calls}
 use Rattle.std.proofs.lemmas.Bool.{false≢true}
 use Rattle.cedar_disk.proofs.Writing.{torn_in_part}

@@ -4,7 +4,7 @@ use Rattle.cedar_journal.specs.declared.device.DeviceError.TheVariants.{Failed}
 use Rattle.cedar_journal.specs.Device.{HasCause}
 use Rattle.cedar_journal.proofs.Causes.{caused}
 use Rattle.cedar_disk.specs.Accounts.{calls_of}
-use Rattle.cedar_disk.specs.Calls.{Call, faults_in, full_in, refused_call}
+use Rattle.whole_files.specs.Calls.{Call, faults_in, full_in, refused_call}
 use Rattle.cedar_disk.specs.Runs.{TimePasses}
 use Rattle.cedar_disk.proofs.Steps.{elapses_on, refused_keeps}
 use Rattle.cedar_disk.proofs.account.Account.write_over.Goals as goal

@@ -1,6 +1,6 @@
 use Rattle.std.proofs.Common.{◌≡◌, inl}
 use Rattle.cedar_disk.specs.Accounts.{calls_of}
-use Rattle.cedar_disk.specs.Calls.{refused_call}
+use Rattle.whole_files.specs.Calls.{refused_call}
 use Rattle.cedar_disk.proofs.Steps.{leaves, refused_keeps}
 use Rattle.cedar_disk.proofs.file.FileDeviceReplaceDevice.replace.Goals as goal
 

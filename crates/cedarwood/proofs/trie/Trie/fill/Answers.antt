@@ -1,8 +1,8 @@
 use Rattle.std.proofs.Common.{ℕ, List, IfErr, IfOk, subst}
 use Rattle.std.specs.Io.Buffered.{writer_inner}
-use Rattle.cedar_disk.specs.Beginnings.{unplaced_bytes, unplaced_path}
-use Rattle.cedar_disk.specs.PathFiles.{path_calls}
-use Rattle.cedar_disk.specs.Words.{IsPlaced}
+use Rattle.whole_files.specs.Beginnings.{unplaced_bytes, unplaced_path}
+use Rattle.whole_files.specs.PathFiles.{path_calls}
+use Rattle.whole_files.specs.Words.{IsPlaced}
 use Rattle.cedarwood.specs.Words.{IsUnsavedAt, table_bytes}
 use Rattle.cedarwood.proofs.SaveLemmas.{lands}
 use Rattle.cedar_tree.proofs.GeneralLemmas.{on_ok}

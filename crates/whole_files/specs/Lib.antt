@@ -1,0 +1,13 @@
+pub mod Beginnings
+pub mod Calls
+pub mod Names
+pub mod NewFiles
+pub mod NotedFiles
+pub mod OpenedFiles
+pub mod Openings
+pub mod PathFiles
+pub mod Sending
+pub mod SpecialFiles
+pub mod Taken
+pub mod Whole
+pub mod Words
