@@ -41,11 +41,11 @@ mod unsorted;
 pub use batches::{CACHED_SLOTS, RefusedPair};
 pub use builder::CedarBuilder;
 // What was done at a path, and what becomes of it.
-pub use whole_files::{NotBegun, PathCalls, Sent, whole_files_are_safe};
 pub use cedar_format::{
     CedarPersistenceError, Source, Watched, one_table_for_its_bytes, well_formed_tables_pass,
 };
 pub use cedar_table::{DefaultLayout, Layout, ReducedLayout, Ticks};
+pub use whole_files::{NotBegun, PathCalls, Sent, whole_files_are_safe};
 // Laws of the tree that all results come from, for whoever proves something of a dictionary's callers.
 pub use cedar_tree::{
     cut_undoes_put, front_is_exact, keys_come_before_extensions, predict_is_part_of_walk,

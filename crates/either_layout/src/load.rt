@@ -8,12 +8,12 @@ ghost use Rattle.either_layout.specs.Words.{names_reduced_layout, no_search_limi
 ghost use Rattle.either_layout.specs.Words.{TellsBreaks};
 
 use crate::AnyCedar;
-use whole_files::open_to_read;
 use cedarwood::{Cedar, CedarPersistenceError, Layout, ReducedCedar, Source, Trie, Watched};
 use std::alloc::Global;
 use std::io;
 use std::io::{BufReader, Cursor, ErrorKind, Read};
 use std::rt::Files;
+use whole_files::open_to_read;
 
 /// Where a file has the byte of its layout.
 const LAYOUT_PLACE: usize = 13;

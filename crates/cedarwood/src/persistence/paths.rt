@@ -11,12 +11,12 @@ use crate::persistence::replace::no_room;
 use crate::{
     CedarPersistenceError, DEFAULT_LOAD_MEMORY_LIMIT, Layout, SaveFailed, Saved, Trie, Watched,
 };
-use whole_files::open_to_read;
 use cedar_format::{FULL_MINOR, MINOR};
 use std::alloc::Allocator;
 use std::io;
 use std::io::{BufReader, ErrorKind, Read};
 use std::rt::Files;
+use whole_files::open_to_read;
 
 impl<L: Layout, const SLOTS: usize, A: Allocator + Copy> Trie<L, SLOTS, A> {
     /// Writes the dictionary's file as `save_to_writer` does, and replaces the one at `path` by it. A new file is made beside that one: `path`

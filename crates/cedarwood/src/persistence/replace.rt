@@ -11,13 +11,13 @@ ghost use Rattle.cedarwood.specs.Words.{IsSavedAt, IsTableFile, IsUnsavedAt, IsV
 ghost use Rattle.cedarwood.specs.Words.{table_bytes, TellsError};
 
 use crate::{CedarPersistenceError, Layout, SaveFailed, Saved, Trie, Unsaved, Watched};
-use whole_files::{
-    NotBegun, NotPlaced, PathCalls, Sent, Special, Unplaced, begin_beside, begin_special,
-};
 use cedar_file::write_table;
 use std::alloc::Allocator;
 use std::io::{self, BufWriter, ErrorKind, Write};
 use std::rt::Files;
+use whole_files::{
+    NotBegun, NotPlaced, PathCalls, Sent, Special, Unplaced, begin_beside, begin_special,
+};
 
 /// How many bytes a buffer of a file has.
 const BUFFER_LEN: usize = 8192;
