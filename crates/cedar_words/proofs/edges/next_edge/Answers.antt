@@ -1,3 +1,4 @@
+use Rattle.std.proofs.lemmas.Grind.{common_steps}
 use Rattle.std.proofs.Common.{◌≡◌, ◌∙◌, ◌+◌, ◌-◌, ◌<◌, ◌≤◌, ap, arith, drop, length, sym, take}
 use Rattle.std.proofs.lemmas.List.{length-drop, take_all}
 use Rattle.cedarwood.specs.Queries.{front}
@@ -21,3 +22,6 @@ loop-stop-preserved g c =
       edges_new t key run text place c.stop_at.result _ _ told.place told.keys told.run is ∙ sym (edges_passed t key run text stop _ c.in_default.is c.in_default-run.is) ∙ c.loop-stop.invariant.0,
       stop_new t run text place c.stop_at.result _ _ within told.place told.keys told.run is,
     )
+
+pub returns : goal.returns
+returns g c = grind (arith, common_steps)

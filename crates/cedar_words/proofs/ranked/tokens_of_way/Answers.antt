@@ -1,3 +1,4 @@
+use Rattle.std.proofs.lemmas.Grind.{common_steps}
 use Rattle.std.proofs.Common.{◌≡◌, ◌∙◌, ◌+◌, ◌-◌, ◌<◌, ◌≤◌, ◌++◌, ◌∷◌, [], ap, arith, length, slice_index_or, subst, sym}
 use Rattle.std.proofs.lemmas.List.{append_assoc}
 use Rattle.cedar_words.specs.Ranked.{lists_of, way_along, way_at}
@@ -31,3 +32,9 @@ loop-left-preserved g c =
           ∙ ap (λ ts. tokens ++ ts) (sym (along_next table place left rank way some is go))
           ∙ c.loop-left.invariant.2,
     )
+
+pub loop-left-smaller : goal.loop-left-smaller
+loop-left-smaller g c = grind (arith, common_steps)
+
+pub overflow_add-place : goal.overflow_add-place
+overflow_add-place g c = grind (arith, common_steps)

@@ -1,4 +1,5 @@
-use Rattle.std.proofs.Common.{◌≡◌, ◌<◌, ◌∙◌, ap, subst, sym, length, ℕ, ℤ, None, Option, IfSome}
+use Rattle.std.proofs.lemmas.Grind.{common_steps}
+use Rattle.std.proofs.Common.{◌≡◌, ◌<◌, ◌∙◌, ap, subst, sym, length, ℕ, ℤ, None, Option, IfSome, arith}
 use Rattle.std.specs.List.{last_or}
 use Rattle.cedarwood.specs.Walks.{PrefixWalk}
 use Rattle.cedarwood.proofs.CollectLemmas.{all_given}
@@ -16,3 +17,9 @@ pub returns-clause-within : goal.returns-clause-within
 returns-clause-within g c =
     let answer : c.last.result ≡ longest c.args.self.now.state.tree c.args.text.now = returns-clause-answer g c in
     subst (λ (o : Option (ℤ × ℕ)). IfSome o (λ found. found.1 < length c.args.text.now)) (sym answer) (longest_within c.args.self.now.state.tree c.args.text.now)
+
+pub last-requires-clause-can : goal.last-requires-clause-can
+last-requires-clause-can g c = grind (arith, common_steps)
+
+pub last-requires-clause-finite : goal.last-requires-clause-finite
+last-requires-clause-finite g c = grind (arith, common_steps)
