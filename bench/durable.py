@@ -3,7 +3,7 @@
 in batches; how long a file of many keys takes to open, and how much memory; and look-ups of other threads while one changes. Beside it
 SQLite, LMDB and LevelDB with the same promise: a change that was acknowledged is on the disk.
 
-`here` is the program of crates/kill_run, which has to be built (./test builds it). `here_c` is the library for C, if ./build-c has built
+`here` is the program of crates/trial_run, which has to be built (./test builds it). `here_c` is the library for C, if ./build-c has built
 it. SQLite is Python's own, with its journal as WAL and synchronous FULL. The others are those of Debian's liblmdb-dev and libleveldb-dev.
 They are downloaded if they aren't installed, and left out if they can't be had. Each stores the same keys, another one for each change,
 with a commit for each change or batch. They are measured in turn, and a line tells the median, the least and the greatest of the rounds.
@@ -26,7 +26,7 @@ from packages import Packages
 
 TOP = Path(__file__).resolve().parent.parent
 OUT = TOP / "bench" / "out"
-PROGRAM = TOP / "crates" / "kill_run" / "out" / "kill_run"
+PROGRAM = TOP / "crates" / "trial_run" / "out" / "trial_run"
 LIBRARY = TOP / "crates" / "cedar_c" / "out" / "c" / "libroskvidh.a"
 COMPILE = ["g++", "-std=c++20", "-O2", "-Wall", "-Wextra", "-Werror", "-pthread", str(TOP / "bench" / "cpp" / "durable.cpp")]
 # How many changes are made by commits of a size.
@@ -35,7 +35,7 @@ THREADS = 2
 
 
 def key_of(number):
-    """The key that the change of a number is about, as in crates/kill_run and cpp/durable.cpp: another one for each below 10,000,019."""
+    """The key that the change of a number is about, as in crates/trial_run and cpp/durable.cpp: another one for each below 10,000,019."""
     return str(number * 7368787 % 10000019)
 
 
@@ -58,15 +58,15 @@ class Here:
     name = "here"
 
     def change(self, path, first, count, size):
-        started = run(PROGRAM, "len", path)[0]
-        return run(PROGRAM, "fill", path, first, count, size)[0] - started
+        started = run(PROGRAM, "kill", "len", path)[0]
+        return run(PROGRAM, "kill", "fill", path, first, count, size)[0] - started
 
     def open(self, path):
-        return run(PROGRAM, "len", path)[0]
+        return run(PROGRAM, "kill", "len", path)[0]
 
     def memory(self, path):
         """The most memory of a program that only opens the file."""
-        return run(PROGRAM, "len", path)[2]
+        return run(PROGRAM, "kill", "len", path)[2]
 
 
 class Sqlite:

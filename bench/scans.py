@@ -1,5 +1,5 @@
 #!/usr/bin/env python3
-"""Writes folders for crates/scan_run: python3 bench/scans.py FOLDER makes FOLDER/log, with 100,000 keywords and the lines of a log in which
+"""Writes folders for crates/trial_run: python3 bench/scans.py FOLDER makes FOLDER/log, with 100,000 keywords and the lines of a log in which
 one comes now and then, FOLDER/hostile, with one key a..ab in a text of a alone, and FOLDER/hostile_keywords, with the key a too. Each has
 the files `sorted.tsv` (a key, a tab and the key's place in sorted order) and `text.txt`. It prints how to time them; bench/searches times
 all."""
@@ -46,7 +46,7 @@ def write(folder, keys, text):
     folder.mkdir(parents=True, exist_ok=True)
     (folder / "sorted.tsv").write_text("".join(f"{key}\t{place}\n" for place, key in enumerate(sorted(set(keys)))))
     (folder / "text.txt").write_text(text)
-    print(f"crates/scan_run/out/scan_run {folder} 7", file=sys.stderr)
+    print(f"crates/trial_run/out/trial_run scan {folder} 7", file=sys.stderr)
 
 
 def write_all(folder, is_small=False):

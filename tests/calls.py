@@ -1,4 +1,4 @@
-"""What the scripts beside this file share: the numbered changes that crates/kill_run makes in a dictionary, and runs of a program whose
+"""What the scripts beside this file share: the numbered changes that crates/trial_run makes in a dictionary, and runs of a program whose
 system calls on the files of a folder are noted, or fail, by calls.c. That needs a C compiler, gcc or cc."""
 
 import os
@@ -10,7 +10,9 @@ from dataclasses import dataclass
 
 HERE = os.path.dirname(os.path.abspath(__file__))
 TOP = os.path.dirname(HERE)
-PROGRAM = os.environ.get("KILL_RUN") or os.path.join(TOP, "crates", "kill_run", "out", "kill_run")
+PROGRAM = os.environ.get("STORE_PROGRAM") or os.path.join(TOP, "crates", "trial_run", "out", "trial_run")
+# What stands before its verbs.
+COMMAND = [PROGRAM] if os.environ.get("STORE_PROGRAM") else [PROGRAM, "kill"]
 # struct note of calls.c.
 HEAD = struct.Struct("=cqiqqI")
 
@@ -85,8 +87,8 @@ def run_of(words, settings, **how):
 
 
 def told_by(*words, **how):
-    """Runs the program of crates/kill_run."""
-    return run_of([PROGRAM, *words], {}, **how)
+    """Runs a verb of the program of crates/trial_run."""
+    return run_of([*COMMAND, *words], {}, **how)
 
 
 class Watch:
@@ -100,7 +102,7 @@ class Watch:
         if subprocess.run([compiler, *flags, "-o", self.library, os.path.join(HERE, "calls.c")]).returncode != 0:
             sys.exit("tests/calls.c isn't built")
 
-    def run(self, words, folder, fail=None, program=PROGRAM):
+    def run(self, words, folder, fail=None, command=COMMAND):
         """Runs a program, and notes its calls on a folder's files. `fail` is the number of the first call that fails, the error, and how
         many calls fail. No sync is asked of the system: it would take the time of the real disk, and change nothing here."""
         if os.path.exists(self.notes):
@@ -108,15 +110,15 @@ class Watch:
         settings = {"LD_PRELOAD": self.library, "CALLS_FOLDER": folder, "CALLS_NOTES": self.notes, "CALLS_SYNC": "0"}
         if fail is not None:
             settings["CALLS_FAIL"] = " ".join(map(str, fail))
-        run = run_of([program, *words], settings)
+        run = run_of([*command, *words], settings)
         run.notes = list(notes_in(self.notes)) if os.path.exists(self.notes) else []
         return run
 
     def reopen(self, paths):
         """Opens many files by one process, without syncs: for each what was told of the opening, and the lines of its entries, in order."""
-        run = run_of([PROGRAM, "reopen", *paths], {"LD_PRELOAD": self.library, "CALLS_SYNC": "0"})
+        run = run_of([*COMMAND, "reopen", *paths], {"LD_PRELOAD": self.library, "CALLS_SYNC": "0"})
         if run.status != 0:
-            sys.exit(f"kill_run reopen ended with {run.status}: {run.error}")
+            sys.exit(f"reopen ended with {run.status}: {run.error}")
         found, lines = [], []
         for line in run.lines:
             if line.startswith(b"= "):

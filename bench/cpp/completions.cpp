@@ -1,4 +1,4 @@
-// Completions from C, measured as crates/completion_run measures them from Rattle. `completions FOLDER PASSES` reads the files that
+// Completions from C, measured as crates/trial_run measures them from Rattle. `completions FOLDER PASSES` reads the files that
 // bench/completions has written, and prints for each pass of each measure a line `measure TAB nanoseconds TAB operations TAB sum`.
 #include "cedar.h"
 #include <cstdio>

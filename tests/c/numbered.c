@@ -1,4 +1,4 @@
-/* The program of crates/kill_run in C, as far as tests/power and tests/faults ask it: numbered changes of a store, and what files hold.
+/* The job `kill` of crates/trial_run in C, as far as tests/power and tests/faults ask it: numbered changes of a store, and what files hold.
  *   change PATH FIRST COUNT       makes changes, and prints the number of each once it is acknowledged
  *   insist PATH FIRST COUNT       goes on after a change that isn't made, and prints why
  *   persist PATH FIRST COUNT      compacts the file after a change that isn't made, prints that it is mended if so, and goes on

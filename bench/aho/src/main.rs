@@ -1,4 +1,4 @@
-//! Times searches by the crate aho-corasick, as crates/scan_run times those of `cedar_scan`: `aho FOLDER PASSES` reads the same files and
+//! Times searches by the crate aho-corasick, as crates/trial_run times those of `cedar_scan`: `aho FOLDER PASSES` reads the same files and
 //! prints lines `search TAB nanoseconds TAB matches TAB sum`, by the time that its thread has run. The sum of a line that ends with `_made`
 //! is the bytes that the automaton has on the heap.
 

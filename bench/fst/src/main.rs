@@ -1,4 +1,4 @@
-//! Words that are an edit away from a query, by the automata of the crate fst, measured as crates/completion_run measures them.
+//! Words that are an edit away from a query, by the automata of the crate fst, measured as crates/trial_run measures them.
 //! `fst_completions FOLDER PASSES` reads the files that bench/completions has written, and prints for each pass of each measure a line
 //! `measure TAB nanoseconds TAB operations TAB sum`, by the time that its thread has run.
 

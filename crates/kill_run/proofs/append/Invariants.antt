@@ -1,6 +1,0 @@
-use Rattle.cedar_journal.specs.Journal.{IsSettled}
-use Rattle.kill_run.proofs.append.Given as goal
-
--- the journal is at rest before each record
-abbrev pub invariant-loop-turn : goal.invariant-loop-turn
-invariant-loop-turn g l = IsSettled g.D.Device.seen g.D.Device.may_leave l.journal.device l.journal.format l.journal.end
