@@ -87,21 +87,41 @@ fn changes<D: ReplaceDevice + Drop>(
 {
     let mut store = store;
     for turn in 0..turns.count {
-        let number = turns.first.saturating_add(turn);
-        match change(&mut store, rt.alloc(), number) {
-            Ok(()) => println!(rt; "{number}")?,
-            Err(error) => {
-                if matches!(work, Work::Change) {
-                    return Err(error);
-                }
-                println!(rt; "{number}: {error}")?;
-                if matches!(work, Work::Persist) && store.compact().is_ok() {
-                    println!(rt; "mended")?;
-                }
-            }
-        }
+        change_or_tell(rt, &mut store, work, turns.first.saturating_add(turn))?;
     }
     Ok(())
+}
+
+/// Makes the change of a number. If it isn't made, what follows is the verb's.
+fn change_or_tell<D: ReplaceDevice>(
+    rt: &HostRuntime,
+    store: &mut CedarStore<Global, D>,
+    work: Work,
+    number: u64,
+) -> Result<()>
+    requires { IsReady D.seen D.may_leave store.old.journal.device store.old.journal.format store.old.journal.end (store.old.words.state) store.old.failed }
+    ensures { IsReady D.seen D.may_leave store.new.journal.device store.new.journal.format store.new.journal.end (store.new.words.state) store.new.failed }
+{
+    let Err(error) = change(store, rt.alloc(), number) else {
+        println!(rt; "{number}")?;
+        return Ok(());
+    };
+    if matches!(work, Work::Change) {
+        return Err(error);
+    }
+    println!(rt; "{number}: {error}")?;
+    if matches!(work, Work::Persist) && mend(store) {
+        println!(rt; "mended")?;
+    }
+    Ok(())
+}
+
+/// Puts the file anew in its place, and returns whether that succeeded.
+fn mend<D: ReplaceDevice>(store: &mut CedarStore<Global, D>) -> bool
+    requires { IsReady D.seen D.may_leave store.old.journal.device store.old.journal.format store.old.journal.end (store.old.words.state) store.old.failed }
+    ensures { IsReady D.seen D.may_leave store.new.journal.device store.new.journal.format store.new.journal.end (store.new.words.state) store.new.failed }
+{
+    store.compact().is_ok()
 }
 
 /// Makes the change of a number. Whether it is made or not, others can be asked for.
