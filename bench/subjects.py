@@ -31,8 +31,6 @@ class Subject:
     workloads: tuple = ("words", "random", "long")
     # More keys than so many aren't put into it.
     most_keys: int = 1_000_000
-    # The words that its program wants before a workload's folder.
-    job: tuple = ()
 
 
 def compiled(out, name, source, *words):
@@ -67,16 +65,16 @@ def built_here(crate):
 
 
 def here(is_built):
-    """This repository's library, called from Rattle by the program of crates/trial_run, and the program for scripts: proved and built if they
+    """This repository's library, called from Rattle by the program of crates/measure_run, and the program for scripts: proved and built if they
     aren't; with `is_built` those that are there."""
     if not is_built:
         print("measure: the programs in Rattle are proved and built first where they aren't", flush=True)
-        subprocess.run([str(TOP / "tools" / "program"), "trial_run", "measure", str(TOP / "crates" / "trial_run" / "data"), "0"], check=True)
+        subprocess.run([str(TOP / "tools" / "program"), "measure_run", str(TOP / "crates" / "measure_run" / "data"), "0"], check=True)
         subprocess.run([str(TOP / "cedar")], stdin=subprocess.DEVNULL, check=True)
-    program, scripts = built_here("trial_run"), built_here("cedar")
+    program, scripts = built_here("measure_run"), built_here("cedar")
     if not program.exists():
         raise Missing(f"{program.relative_to(TOP)} isn't there: ./gate and ./test build it")
-    return Subject("here", program, f"{version_here()}, from Rattle", [str(scripts)] if scripts.exists() else [], most_keys=10_000_000, job=("measure",))
+    return Subject("here", program, f"{version_here()}, from Rattle", [str(scripts)] if scripts.exists() else [], most_keys=10_000_000)
 
 
 def here_c(out, is_built):

@@ -30,7 +30,7 @@ class Line:
 
 def measure(subject, folder, passes, names, before=()):
     """Runs a subject's program on a workload, perhaps under another command, and gives its lines in their order."""
-    command = [*before, str(subject.program), *subject.job, str(folder), str(passes), *names]
+    command = [*before, str(subject.program), str(folder), str(passes), *names]
     told = subprocess.run(command, capture_output=True, text=True, check=False)
     if told.returncode != 0:
         raise Wrong(f"{subject.name} failed on {folder.name}: {told.stderr.strip()[-300:]}")

@@ -46,21 +46,21 @@ pub(crate) fn complete(rt: &HostRuntime, words: &[&str]) -> Result<()> {
 fn all_completed(rt: &HostRuntime, clock: Clock, cedar: &Cedar<Global>) -> Result<()> {
     let watch = clock.start(rt)?;
     let answered = count(cedar)?;
-    watch.measure_ends(rt, "counted", answered)?;
+    watch.print(rt, "counted", answered)?;
     let watch = clock.start(rt)?;
     let predicted = predictions(cedar);
-    watch.measure_ends(rt, "predicted", predicted)?;
+    watch.print(rt, "predicted", predicted)?;
     let watch = clock.start(rt)?;
     let best = best_with_prefix(rt.alloc(), cedar, PREFIX, SHOWN, ByValue::HighestFirst)?;
     let (operations, sum) = (1, of_found(&best));
-    watch.measure_ends(rt, "best", Answered { operations, sum })?;
+    watch.print(rt, "best", Answered { operations, sum })?;
     let middle = key_in_the_middle(rt.alloc(), cedar, answered.operations)?;
     let watch = clock.start(rt)?;
     let first = pages(rt.alloc(), cedar, &[])?;
-    watch.measure_ends(rt, "page_first", first)?;
+    watch.print(rt, "page_first", first)?;
     let watch = clock.start(rt)?;
     let further = pages(rt.alloc(), cedar, &middle)?;
-    watch.measure_ends(rt, "page_middle", further)
+    watch.print(rt, "page_middle", further)
 }
 
 /// A plain walk over all completions, which counts them.

@@ -71,12 +71,12 @@ pub(crate) fn all_cuts(
         let watch = clock.start(rt)?;
         let mut greedy = NOTHING;
         add_tokens(&mut greedy, segment(&words.by_id, text));
-        watch.measure_ends(rt, "segment", greedy)?;
+        watch.print(rt, "segment", greedy)?;
         let names = ["cheapest", "cheapest_by_value", "cheapest_by_table"];
         cheapest_cuts(rt, clock, words, &[text], names)?;
         let watch = clock.start(rt)?;
         let whole = cut(rt.alloc(), &words.by_id, &[text], Some(&by_characters))?;
-        watch.measure_ends(rt, "cheapest_by_characters", whole)?;
+        watch.print(rt, "cheapest_by_characters", whole)?;
         // Each line by itself, as most callers do: then what a call allocates has been used before.
         let names = [
             "cheapest_lines",
@@ -117,13 +117,13 @@ fn cheapest_cuts(
         parts,
         None::<&Priced<ValueIsCost, OneByte>>,
     )?;
-    watch.measure_ends(rt, plainly, least)?;
+    watch.print(rt, plainly, least)?;
     let watch = clock.start(rt)?;
     let same = cut(rt.alloc(), &words.by_cost, parts, Some(&by_value))?;
-    watch.measure_ends(rt, with_values, same)?;
+    watch.print(rt, with_values, same)?;
     let watch = clock.start(rt)?;
     let again = cut(rt.alloc(), &words.by_id, parts, Some(&by_table))?;
-    watch.measure_ends(rt, with_table, again)?;
+    watch.print(rt, with_table, again)?;
     if same != least || again != least {
         bail!("{with_values} or {with_table} cuts otherwise than {plainly}");
     }

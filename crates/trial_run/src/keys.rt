@@ -45,37 +45,26 @@ pub(crate) fn keys_of(alloc: Global, file: &[u8]) -> Result<Vec<&[u8]>> {
 
 /// The values of the keys of a list.
 #[derive(Clone, Copy)]
-pub(crate) enum Values<'a> {
+pub(crate) enum Values {
     /// The keys' places in the list, from 0 on.
     Places,
     /// What looks random, by their places.
     Scattered,
-    /// What a file has for them, four bytes each.
-    Of(&'a [u8]),
 }
 
 /// Returns keys with their values.
 pub(crate) fn pairs<'a>(
     alloc: Global,
     keys: &[&'a [u8]],
-    values: Values<'_>,
+    values: Values,
 ) -> Result<Vec<(&'a [u8], i32)>> {
     let mut pairs = Vec::with_capacity(alloc, keys.len())?;
     let mut place: u64 = 0;
-    let mut rest = match values {
-        Values::Of(file) => file,
-        _ => &[],
-    };
     for key in keys {
         let value = match values {
             Values::Places => i32::try_from(place).unwrap_or(i32::MAX),
             Values::Scattered => {
                 i32::try_from(place.wrapping_mul(2_654_435_761) % 2_147_483_629).unwrap_or(0)
-            }
-            Values::Of(_) => {
-                let (value, after) = number_in(rest).context("there are more keys than values")?;
-                rest = after;
-                value.cast_signed()
             }
         };
         pairs.push((*key, value))?;

@@ -1,29 +1,24 @@
-//! The program that stores are tried by and calls are measured by. `trial_run JOB ..` does a job. Each has its words behind it:
+//! The program that stores are tried by, and searches, cuts and completions are timed by. `trial_run JOB ..` does a job. Each has its words
+//! behind it:
 //!
 //! - `kill VERB ..` makes numbered records of a journal, or numbered changes of a dictionary on a disk (kill.rt).
-//! - `measure FOLDER PASSES MEASURE..` measures the dictionary's calls (measure.rt).
 //! - `scan FOLDER PASSES [searches | cuts | all]` times searches and cuts of a text (searches.rt, cuts.rt).
 //! - `complete FOLDER PASSES` times completions (completed.rt, near.rt).
-//! - `all FOLDER PASSES MEASURE..` does all four, one after another: the first makes three records in `numbers.journal`.
+//! - `all FOLDER PASSES` does all three, one after another: the first makes three records in `numbers.journal`.
 //!
-//! A job that measures prints for each pass of each measure a line `measure TAB nanoseconds TAB operations TAB sum`. With 0 passes each
-//! measure is made once and no clock is read: its nanoseconds are 0.
+//! The last two print for each pass of each measure a line `measure TAB nanoseconds TAB operations TAB sum`. With 0 passes each measure is
+//! made once and no clock is read: its nanoseconds are 0.
 #![tactic(auto)]
 
 ghost use Rattle.cedar_store.specs.Words.{IsReady, Only};
 
-mod changes;
 mod completed;
 mod cuts;
-mod files;
 mod kept;
 mod keys;
 mod kill;
-mod look_ups;
-mod measure;
 mod near;
 mod searches;
-mod walks;
 mod watch;
 mod words;
 
@@ -34,11 +29,10 @@ fn main(rt: HostRuntime) -> Result<()> {
     let words: Vec<String> = env::args(&rt)?.skip(1).collect(rt.alloc())?;
     let words: Vec<&str> = words.iter().map(|word| word.as_str()).collect(rt.alloc())?;
     let [job, words @ ..] = words.as_slice() else {
-        bail!("usage: trial_run kill | measure | scan | complete | all ..");
+        bail!("usage: trial_run kill | scan | complete | all ..");
     };
     match *job {
         "kill" => kill::kill(&rt, words),
-        "measure" => measure::measure(&rt, words),
         "scan" => searches::scan(&rt, words),
         "complete" => completed::complete(&rt, words),
         "all" => all(&rt, words),
@@ -48,11 +42,10 @@ fn main(rt: HostRuntime) -> Result<()> {
 
 /// Does each job once.
 fn all(rt: &HostRuntime, words: &[&str]) -> Result<()> {
-    let [folder, passes, ..] = words else {
-        bail!("usage: trial_run all FOLDER PASSES MEASURE..");
+    let [folder, passes] = words else {
+        bail!("usage: trial_run all FOLDER PASSES");
     };
     kill::kill(rt, &["append", "numbers.journal", "3"])?;
-    measure::measure(rt, words)?;
     searches::scan(rt, &[*folder, *passes, "all"])?;
-    completed::complete(rt, &[*folder, *passes])
+    completed::complete(rt, words)
 }

@@ -19,16 +19,16 @@ pub(crate) fn all_near(
 ) -> Result<()> {
     let watch = clock.start(rt)?;
     let near = walks(rt.alloc(), words, queries, Edits::One)?;
-    watch.measure_ends(rt, "near", near)?;
+    watch.print(rt, "near", near)?;
     let watch = clock.start(rt)?;
     let looked_up = look_ups(rt.alloc(), words, queries)?;
-    watch.measure_ends(rt, "near_looked_up", looked_up)?;
+    watch.print(rt, "near_looked_up", looked_up)?;
     let watch = clock.start(rt)?;
     let nearest = walks(rt.alloc(), words, queries, Edits::Two)?;
-    watch.measure_ends(rt, "near_two", nearest)?;
+    watch.print(rt, "near_two", nearest)?;
     let watch = clock.start(rt)?;
     let best = best_completions(rt.alloc(), words, queries)?;
-    watch.measure_ends(rt, "near_best", best)
+    watch.print(rt, "near_best", best)
 }
 
 /// How far a word is away from a query at most.

@@ -54,26 +54,26 @@ fn all_searches(
 ) -> Result<()> {
     let watch = clock.start(rt)?;
     let scanner = Scanner::new(cedar, rt.alloc())?;
-    watch.measure_ends(rt, "scanner_made", NOTHING)?;
+    watch.print(rt, "scanner_made", NOTHING)?;
     let watch = clock.start(rt)?;
     let leftmost = LeftmostScanner::new(cedar, MatchKind::LeftmostLongest, rt.alloc())?;
-    watch.measure_ends(rt, "leftmost_made", NOTHING)?;
+    watch.print(rt, "leftmost_made", NOTHING)?;
     for _ in 0..passes {
         let watch = clock.start(rt)?;
         let plain = all_of(matches(cedar, text));
-        watch.measure_ends(rt, "matches", plain)?;
+        watch.print(rt, "matches", plain)?;
         let watch = clock.start(rt)?;
         let found = all_of(scanner.overlapping(text));
-        watch.measure_ends(rt, "overlapping", found)?;
+        watch.print(rt, "overlapping", found)?;
         if found != plain {
             bail!("overlapping finds other keys than matches");
         }
         let watch = clock.start(rt)?;
         let plain = all_of(leftmost_longest(cedar, text));
-        watch.measure_ends(rt, "leftmost_longest", plain)?;
+        watch.print(rt, "leftmost_longest", plain)?;
         let watch = clock.start(rt)?;
         let found = all_of(leftmost.leftmost(text));
-        watch.measure_ends(rt, "leftmost", found)?;
+        watch.print(rt, "leftmost", found)?;
         if found != plain {
             bail!("leftmost finds other keys than leftmost_longest");
         }

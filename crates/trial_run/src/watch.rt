@@ -54,14 +54,8 @@ impl Answered {
 }
 
 impl Watch {
-    /// Prints the line of a measure that has just ended. callgrind writes what it has counted at each call of this function.
-    #[inline(never)]
-    pub(crate) fn measure_ends(
-        self,
-        rt: &HostRuntime,
-        name: &str,
-        answered: Answered,
-    ) -> Result<()> {
+    /// Prints the line of a measure that has just ended.
+    pub(crate) fn print(self, rt: &HostRuntime, name: &str, answered: Answered) -> Result<()> {
         let spent = match self.begun {
             Some(begun) => rt.thread_cpu_time()?.saturating_sub(begun).as_nanos(),
             None => 0,

@@ -1,7 +1,7 @@
 //! Exact look-ups, one by one and many in a call.
 
-use crate::measure::{Plan, Workload};
 use crate::watch::{Answered, count_of};
+use crate::{Plan, Workload};
 use anyhow::{Result, ensure};
 use cedarwood::Cedar;
 use std::alloc::Global;

@@ -1,7 +1,7 @@
 //! Files in memory.
 
-use crate::measure::{Plan, Workload};
 use crate::watch::Answered;
+use crate::{Plan, Workload};
 use anyhow::Result;
 use cedarwood::{Cedar, CedarPersistenceError, Watched};
 use std::alloc::Global;

@@ -1,19 +1,30 @@
 //! The subject `here` of `./measure`: this repository's library, called from Rattle and measured as bench/cpp/measures.hpp measures the
-//! others, on the files of a workload that bench/workloads.py wrote.
+//! others. `measure_run FOLDER PASSES MEASURE..` reads the files of a workload that bench/workloads.py wrote, and prints for each pass of
+//! each measure a line `measure TAB nanoseconds TAB operations TAB sum`. With 0 passes each measure is made once and no clock is read: its
+//! nanoseconds are 0.
 //!
-//! What is timed is in a function whose name begins with `measured`, and nothing else is: callgrind counts these functions alone.
+//! What is timed is in a function whose name begins with `measured`, and nothing else is: callgrind counts these functions alone. It is a
+//! program of its own, since a call of the library is inlined into its loop only where nothing else in the program makes that call.
+#![tactic(auto)]
 
-use crate::changes::{builds, changes};
-use crate::files::saves;
-use crate::keys::{Values, fill, keys_of, pairs, read_all};
-use crate::look_ups::look_ups;
-use crate::walks::walks;
-use crate::watch::Clock;
+mod changes;
+mod files;
+mod keys;
+mod look_ups;
+mod walks;
+mod watch;
+
 use anyhow::{Context, Result, bail};
 use cedarwood::Cedar;
+use changes::{builds, changes};
+use files::saves;
+use keys::{Values, fill, keys_of, pairs};
+use look_ups::look_ups;
 use std::alloc::Global;
-use std::fs;
 use std::time::{CpuClock, Instant};
+use std::{env, fs};
+use walks::walks;
+use watch::Clock;
 
 /// The measures that are wanted, and how often each is made.
 #[derive(Clone, Copy)]
@@ -59,10 +70,11 @@ const FILES: [&str; 8] = [
     "text",
 ];
 
-/// Measures what is wanted of a folder's workload.
-pub(crate) fn measure(rt: &HostRuntime, words: &[&str]) -> Result<()> {
-    let [folder, passes, measures @ ..] = words else {
-        bail!("usage: trial_run measure FOLDER PASSES MEASURE..");
+fn main(rt: HostRuntime) -> Result<()> {
+    let words: Vec<String> = env::args(&rt)?.skip(1).collect(rt.alloc())?;
+    let words: Vec<&str> = words.iter().map(|word| word.as_str()).collect(rt.alloc())?;
+    let [folder, passes, measures @ ..] = words.as_slice() else {
+        bail!("usage: measure_run FOLDER PASSES MEASURE..");
     };
     let passes: u32 = passes.parse()?;
     let clock = Clock { runs: passes > 0 };
@@ -71,9 +83,13 @@ pub(crate) fn measure(rt: &HostRuntime, words: &[&str]) -> Result<()> {
         passes,
         measures,
     };
-    let files = read_all(rt, folder, &FILES)?;
+    let mut files = Vec::new(rt.alloc());
+    for name in FILES {
+        let path = format!(in rt.alloc(); "{folder}/{name}")?;
+        files.push(fs::read(&rt, path).context(format_args!("reading {folder}/{name}"))?)?;
+    }
     let work = workload_of(rt.alloc(), &files)?;
-    make_all(rt, plan, &work)
+    make_all(&rt, plan, &work)
 }
 
 /// Returns what a workload's files hold.

@@ -1,7 +1,7 @@
 //! Walks over what a dictionary holds, and over texts.
 
-use crate::measure::{Plan, Workload};
-use crate::watch::{Answered, count_of, of_entry};
+use crate::watch::{Answered, count_of};
+use crate::{Plan, Workload};
 use anyhow::Result;
 use cedar_words::{matches, segment};
 use cedarwood::{Cedar, CedarError};
@@ -113,7 +113,7 @@ fn measured_entries(cedar: &Cedar<Global>) -> Result<Answered, CedarError> {
     for entry in cedar.entries()? {
         let (key, value) = entry?;
         operations = operations.wrapping_add(1);
-        sum = sum.wrapping_add(of_whole(&key, value));
+        sum = sum.wrapping_add(of_entry(&key, value));
     }
     Ok(Answered { operations, sum })
 }
@@ -128,16 +128,18 @@ fn measured_cursor(cedar: &Cedar<Global>) -> Result<Answered, CedarError> {
             break;
         };
         operations = operations.wrapping_add(1);
-        sum = sum.wrapping_add(of_whole(cursor.key(), value));
+        sum = sum.wrapping_add(of_entry(cursor.key(), value));
     }
     Ok(Answered { operations, sum })
 }
 
-/// What an entry adds to the sum: what `of_entry` says, and its key's last byte.
+/// What an entry adds to the sum: its key's length times one more than its value, and its key's last byte.
 #[inline(always)]
-fn of_whole(key: &[u8], value: i32) -> u64 {
+fn of_entry(key: &[u8], value: i32) -> u64 {
     let last = key.last().copied().unwrap_or(0);
-    of_entry(key, value).wrapping_add(u64::from(last))
+    count_of(value)
+        .wrapping_mul(key.len() as u64)
+        .wrapping_add(u64::from(last))
 }
 
 #[inline(never)]

@@ -1,8 +1,8 @@
 //! Updates, erasures and builds.
 
 use crate::keys::fill;
-use crate::measure::{Plan, Workload};
 use crate::watch::Answered;
+use crate::{Plan, Workload};
 use anyhow::Result;
 use cedarwood::{Cedar, CedarError, RefusedPair};
 use std::alloc::Global;
