@@ -4,6 +4,7 @@ use Rattle.cedarwood.specs.Dictionary.{Dictionary}
 use Rattle.cedarwood.specs.Erasures.{IsCleared}
 use Rattle.cedarwood.specs.OnTable.{dictionary_of}
 use Rattle.cedarwood.proofs.ErasureLemmas.{cleared}
+use Rattle.cedarwood.proofs.MemoryLemmas.{table_fits}
 use Rattle.cedarwood.proofs.trie.Trie.clear.Goals as goal
 
 pub returns : goal.returns
@@ -13,3 +14,6 @@ returns g c =
       cleared = subst (λ (d : Dictionary). IsCleared d (dictionary_of c.self.inside.search_limit U)) c.self.view_is
           (cleared g.row.SLOTS c.self.inside.search_limit (fields c.self.inside.table) U _ _ refl c.erase_under.ensures.well_formed (c.erase_under.ensures.erased c.self.inside.search_limit));
     }
+
+pub erase_under-requires : goal.erase_under-requires
+erase_under-requires g c = (search table_fits, c.self.invariant)

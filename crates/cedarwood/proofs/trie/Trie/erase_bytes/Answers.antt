@@ -3,6 +3,7 @@ use Rattle.cedar_model.specs.Meaning.Marks.{marks, MarksCut}
 use Rattle.cedar_table.specs.Table.Views.{fields}
 use Rattle.cedarwood.specs.Dictionary.{Dictionary}
 use Rattle.cedarwood.proofs.MarkedLemmas.{is_marked}
+use Rattle.cedarwood.proofs.MemoryLemmas.{table_fits}
 use Rattle.cedarwood.proofs.trie.Trie.erase_bytes.Goals as goal
 
 pub returns-clause-marks : goal.returns-clause-marks
@@ -10,3 +11,6 @@ returns-clause-marks g c = subst (λ (d : Dictionary). MarksCut d.marked (marks 
 
 pub returns-clause-marked : goal.returns-clause-marked
 returns-clause-marked g c = is_marked g.row.SLOTS (fields c.erase.new.table) c.erase.ensures.well_formed
+
+pub erase-requires : goal.erase-requires
+erase-requires g c = (search table_fits, c.self.invariant)

@@ -1,14 +1,15 @@
-use Rattle.std.proofs.Common.{rules, subst, sym, true}
+use Rattle.std.proofs.Common.{subst, sym, true}
 use Rattle.cedar_table.specs.Table.Views.{fields}
 use Rattle.cedarwood.specs.Batches.{IsErasure, IsFound}
 use Rattle.cedarwood.specs.Dictionary.{Dictionary}
 use Rattle.cedarwood.specs.OnTable.{dictionary_of}
+use Rattle.cedarwood.proofs.MemoryLemmas.{table_fits}
 use Rattle.cedarwood.proofs.trie.Trie.erase_found.Goals as goal
 
 pub erase_in-requires : goal.erase_in-requires
 erase_in-requires g c =
     let is = subst (λ (d : Dictionary). IsFound d c.args.key.now c.args.found) (sym c.self.view_is) c.requires in
-    (search rules, (c.self.invariant, record { value = is.value; inside = is.inside; at = is.at }))
+    (search table_fits, (c.self.invariant, record { value = is.value; inside = is.inside; at = is.at }))
 
 pub returns : goal.returns
 returns g c =

@@ -1,6 +1,7 @@
 use Rattle.std.proofs.Common.{false, subst}
 use Rattle.cedarwood.specs.Batches.{FindsKey, IsErasure}
 use Rattle.cedarwood.specs.Dictionary.{Dictionary}
+use Rattle.cedarwood.proofs.MemoryLemmas.{table_fits}
 use Rattle.cedarwood.proofs.trie.Trie.find_bytes.Goals as goal
 
 pub returns-clause-found : goal.returns-clause-found
@@ -10,3 +11,6 @@ returns-clause-found g c =
 pub returns-clause-absent : goal.returns-clause-absent
 returns-clause-absent g c =
     λ none. subst (λ (d : Dictionary). IsErasure d d c.args.key.now false) c.self.view_is (c.find_in.ensures.absent c.self.inside.search_limit none)
+
+pub find_in-requires : goal.find_in-requires
+find_in-requires g c = (search table_fits, c.self.invariant)

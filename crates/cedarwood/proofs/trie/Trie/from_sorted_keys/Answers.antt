@@ -1,4 +1,6 @@
-use Rattle.std.proofs.Common.{◌≡◌, ◌∙◌, ap, arith, sym, rules, None, Err, Option, []}
+use denote.Param.{copied, number, param}
+use Rattle.std.proofs.Common.{◌≡◌, ◌∙◌, ap, arith, sym, rules, None, Err, FitsSigned, Option, [], w32}
+use Rattle.std.proofs.lemmas.Int.{to_z-of_z}
 use Rattle.std.proofs.lemmas.Result.{err_from_is_err_and}
 use Rattle.cedar_bulk.specs.Sorted.{entries_by}
 use Rattle.cedarwood.specs.declared.error.CedarError.{CedarError}
@@ -10,6 +12,7 @@ use Rattle.cedarwood.proofs.GrowthLemmas.{capacity_by_blocks}
 use Rattle.cedarwood.proofs.MakingLemmas.{refused_build}
 use Rattle.cedarwood.proofs.SortedInputLemmas.{fault_handed_on, faultless, sorted_from}
 use Rattle.cedarwood.proofs.UpdateLemmas.{has_fault}
+use Rattle.cedarwood.proofs.MemoryLemmas.{table_fits}
 use Rattle.cedarwood.proofs.trie.Trie.from_sorted_keys.Goals as goal
 
 pub returns-in_err-check_sorted : goal.returns-in_err-check_sorted
@@ -31,7 +34,7 @@ build_sorted-requires g c =
     let first : Option CedarError = fault_from 0 [] (entries_by g.K.AsSlice.items c.args.pairs.now) in
     let fine : first ≡ None = no_fault first c.check_sorted.result tt c.check_sorted.ensures.faulty c.in_ok-check_sorted.was in
     let k = sorted_from 0 [] (entries_by g.K.AsSlice.items c.args.pairs.now) c.in_ok-check_sorted.ensures.bytes fine in
-    (search rules, (search rules, (limit_of g.row.SLOTS c.requires.limit, (k.keys, (k.sorted, k.values)))))
+    (table_fits (param 0 g.row.L) (param 1 (number g.row.SLOTS)) (copied 2 g.row.A) g.L.Layout g.A.Allocator (search rules), (search rules, (limit_of g.row.SLOTS c.requires.limit, (k.keys, (k.sorted, k.values)))))
 
 pub returns-in_err-build_sorted : goal.returns-in_err-build_sorted
 returns-in_err-build_sorted g c =
@@ -46,12 +49,14 @@ pub returns : goal.returns
 returns g c =
     let first : Option CedarError = fault_from 0 [] (entries_by g.K.AsSlice.items c.args.pairs.now) in
     let fine : first ≡ None = no_fault first c.check_sorted.result tt c.check_sorted.ensures.faulty c.in_ok-check_sorted.was in
-    let b = c.in_ok-build_sorted.ensures.blocks in
-    let held = count_is_marked g.row.SLOTS _ c.in_ok-build_sorted.ensures.well_formed in
+    let e = c.in_ok-build_sorted.ensures in
+    let b = e.blocks in
+    let fits : FitsSigned w32 c.args.builder.max_trial = search rules in
+    let held = count_is_marked g.row.SLOTS _ e.well_formed in
     record {
       built = record {
         faulty = faultless first _ fine;
-        sorted = record { tree = search rules; marks = search rules; ordered = search rules; max_trial = search rules; search_limit = search rules; size = (b.0, b.1, b.2, b.3 ∙ sym (capacity_by_blocks b.0 1 1)); packed = omega (arith, held, c.in_ok-build_sorted.ensures.packed) };
+        sorted = record { tree = e.tree; marks = e.marks; ordered = e.ordered; max_trial = e.max_trial ∙ to_z-of_z w32 c.args.builder.max_trial fits; search_limit = search rules; size = (b.0, b.1, b.2, b.3 ∙ sym (capacity_by_blocks b.0 1 1)); packed = omega (arith, held, e.packed) };
         refused = search rules;
       };
     }

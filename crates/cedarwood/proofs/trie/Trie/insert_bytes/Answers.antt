@@ -19,6 +19,7 @@ use Rattle.cedarwood.proofs.MarkedLemmas.{is_marked}
 use Rattle.cedarwood.proofs.OutcomeLemmas.{answer_handed_on, answer_has, fault_updates, if_err_out, is_ok_or_out, is_ok_out, limit_out, memory_out, on_err_out, on_ok_out, outcome_is_told, told_outcome}
 use Rattle.cedarwood.proofs.UpdateLemmas.{why_refused, at_one_byte, fault_of, grows_by, is_refused, is_spare, marks_follow, marks_remain, over_held, packs_update, state_stays, stored_is}
 use Rattle.cedarwood.proofs.BuildLemmas.{none_is_some}
+use Rattle.cedarwood.proofs.MemoryLemmas.{table_fits}
 use Rattle.cedarwood.proofs.trie.Trie.insert_bytes.Goals as goal
 
 -- ---- what holds at first
@@ -49,7 +50,7 @@ update-requires g c =
     let v : ℤ = to_z w32 (of_z w32 c.args.value) in
     let fine : fault c.args.key.now v ≡ None = no_fault (fault c.args.key.now v) c.check_pair.result tt c.check_pair.ensures.faulty (c.in_ok-check_pair.was) in
     let bytes : (i : ℕ) → get_or c.args.key.now i 0 < 256 = λ i. omega (arith, c.type_inv.key i) in
-    (search rules, (c.self.invariant, (key_of c.args.key.now v fine bytes, is_value_of v (in_range_of c.args.key.now v fine))))
+    (search table_fits, (c.self.invariant, (key_of c.args.key.now v fine bytes, is_value_of v (in_range_of c.args.key.now v fine))))
 
 pub returns-clause-updated : goal.returns-clause-updated
 returns-clause-updated g c =

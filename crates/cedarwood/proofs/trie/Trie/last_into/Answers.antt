@@ -9,10 +9,11 @@ use Rattle.cedar_walk.proofs.WalkLemmas.NextNode.{path_length}
 use Rattle.cedarwood.specs.Dictionary.{Dictionary}
 use Rattle.cedarwood.specs.Ends.{last_entry}
 use Rattle.cedarwood.proofs.EndsLemmas.{last_of_walk, last_outgrows, some_in_walk}
+use Rattle.cedarwood.proofs.MemoryLemmas.{table_fits}
 use Rattle.cedarwood.proofs.trie.Trie.last_into.Goals as goal
 
 pub last_numbered-requires : goal.last_numbered-requires
-last_numbered-requires g c = (search rules, c.self.invariant)
+last_numbered-requires g c = (search table_fits, c.self.invariant)
 
 pub returns-in_default-clause-found : goal.returns-in_default-clause-found
 returns-in_default-clause-found g c = subst (λ (d : Dictionary). walk d.state.tree ≡ []) c.self.view_is c.in_default.ensures

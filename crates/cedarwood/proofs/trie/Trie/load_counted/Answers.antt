@@ -1,13 +1,14 @@
+use denote.Param.{copied, number, param}
 use Rattle.std.proofs.Common.{refl, rules}
 use Rattle.std.proofs.lemmas.Result.{err_from_is_err_and}
 use Rattle.cedar_table.specs.Table.Views.{fields}
 use Rattle.cedar_file.proofs.LoadLemmas.{stands_in, stays_refused}
-use Rattle.cedar_slots.specs.Places.{IsSlotLimit}
 use Rattle.cedarwood.proofs.DictionaryLemmas.{limit_of}
+use Rattle.cedarwood.proofs.MemoryLemmas.{table_fits}
 use Rattle.cedarwood.proofs.trie.Trie.load_counted.Goals as goal
 
 pub load_table-requires : goal.load_table-requires
-load_table-requires g c = let limit : IsSlotLimit g.row.SLOTS = limit_of g.row.SLOTS c.requires.limit in search (rules, limit)
+load_table-requires g c = (table_fits (param 0 g.row.L) (param 1 (number g.row.SLOTS)) (copied 2 g.row.A) g.L.Layout g.A.Allocator (search rules), limit_of g.row.SLOTS c.requires.limit)
 
 pub returns-in_err-table-clause-loads : goal.returns-in_err-table-clause-loads
 returns-in_err-table-clause-loads g c =

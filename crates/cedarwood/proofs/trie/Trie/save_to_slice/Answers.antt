@@ -1,14 +1,15 @@
-use Rattle.std.proofs.Common.{◌≡◌, ◌≤◌, ◌++◌, ◌∙◌, ap, drop, length, rules, subst, sym}
+use Rattle.std.proofs.Common.{◌≡◌, ◌≤◌, ◌++◌, ◌∙◌, ap, drop, length, subst, sym}
 use Rattle.cedar_format.specs.Tables.{table_bytes}
 use Rattle.cedar_model.specs.Table.TableFields.{Fields}
 use Rattle.cedar_table.specs.Table.Views.{fields}
 use Rattle.cedarwood.specs.Dictionary.{Dictionary}
+use Rattle.cedarwood.proofs.MemoryLemmas.{table_fits}
 use Rattle.cedarwood.proofs.trie.Trie.save_to_slice.Goals as goal
 
 pub put_table-requires : goal.put_table-requires
 put_table-requires g c =
     let seen : fields c.self.inside.table ≡ c.args.self.now.table = ap (λ (d : Dictionary). d.table) c.self.view_is in
-    (search rules, subst (λ (T : Fields). length (table_bytes 1 T) ≤ length c.args.bytes.now) (sym seen) c.requires.room)
+    (search table_fits, subst (λ (T : Fields). length (table_bytes 1 T) ≤ length c.args.bytes.now) (sym seen) c.requires.room)
 
 pub returns-clause-bytes : goal.returns-clause-bytes
 returns-clause-bytes g c =

@@ -9,6 +9,7 @@ use Rattle.cedarwood.specs.Room.{LacksRoom}
 use Rattle.cedarwood.proofs.GrowthLemmas.{dictionary_of}
 use Rattle.cedarwood.proofs.OutcomeLemmas.{if_err_out, on_err_out, on_ok_out, told_alike}
 use Rattle.cedarwood.proofs.RoomLemmas.{all_kept, asks_for_none, capacity_then, has_room, lacks, tells_limit}
+use Rattle.cedarwood.proofs.MemoryLemmas.{table_fits}
 use Rattle.cedarwood.proofs.trie.Trie.try_reserve.Goals as goal
 
 pub returns-clause-capacity : goal.returns-clause-capacity
@@ -70,3 +71,6 @@ returns-clause-unchanged g c =
     let kept = all_kept g.row.SLOTS c.args.blocks c.self.inside.search_limit (fields c.self.inside.table) new d c.self.view_is in
     subst (λ (x : Result (Unit {0}) CedarError). OnErr x (dictionary_of c.self.inside.search_limit new ≡ d)) (told_alike r c.map_err.result c.map_err.ensures.cases)
     (on_err_out _ r (on_err_weaker r kept c.try_reserve.ensures.unchanged))
+
+pub try_reserve-requires : goal.try_reserve-requires
+try_reserve-requires g c = (search table_fits, c.self.invariant)

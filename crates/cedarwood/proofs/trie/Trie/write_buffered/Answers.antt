@@ -4,6 +4,7 @@ use Rattle.cedar_table.specs.Table.Views.{fields}
 use Rattle.cedar_format.specs.Words.{device_of}
 use Rattle.cedarwood.specs.Words.{Appends, table_bytes}
 use Rattle.cedarwood.proofs.SaveLemmas.{file_passes, is_file, written_through}
+use Rattle.cedarwood.proofs.MemoryLemmas.{table_fits}
 use Rattle.cedarwood.proofs.trie.Trie.write_buffered.Goals as goal
 
 pub returns-clause-file : goal.returns-clause-file
@@ -28,3 +29,6 @@ returns-clause-bytes g c =
     (subst (λ w. Appends (writer_contents contents (device_of c.new-watched.result)) (writer_contents contents w) (table_bytes c.args.minor (fields c.self.inside.table))) (sym c.into_inner-buffered.ensures) c.in_default.ensures.bytes)) in
     written_through contents (table_bytes c.args.minor c.args.self.now.table) (writer_inner made) c.into_parts-written.result.0 made filled c.flush.new.self refl c.requires.buffer grown c.in_default-flush.ensures.bytes
     c.in_default-flush.ensures.ok c.into_parts-written.ensures.inner
+
+pub write_table-requires : goal.write_table-requires
+write_table-requires g c = search table_fits

@@ -1,13 +1,14 @@
-use Rattle.std.proofs.Common.{◌≡◌, ℕ, List, [], MatchOption, rules, subst, sym}
+use Rattle.std.proofs.Common.{◌≡◌, ℕ, List, [], MatchOption, subst, sym}
 use Rattle.cedar_tree.specs.Walks.{visited_entries}
 use Rattle.cedar_model.specs.Meaning.WellFormed.{cells_in}
 use Rattle.cedar_walk.specs.Visits.{ComesToNumber, IsBelow, IsNumberedBelow, left_at}
 use Rattle.cedarwood.specs.Dictionary.{Dictionary}
+use Rattle.cedarwood.proofs.MemoryLemmas.{table_fits}
 use Rattle.cedarwood.proofs.queries.walked.TrieWalked.next_numbered.Goals as goal
 
 pub numbered_after-requires : goal.numbered_after-requires
 numbered_after-requires g c =
-    (search rules, (c.self.invariant, subst (λ (d : Dictionary). (start : List ℕ) × IsNumberedBelow d.table start c.args.depth c.args.node) (sym c.self.view_is) c.requires.below))
+    (search table_fits, (c.self.invariant, subst (λ (d : Dictionary). (start : List ℕ) × IsNumberedBelow d.table start c.args.depth c.args.node) (sym c.self.view_is) c.requires.below))
 
 pub returns : goal.returns
 returns g c =

@@ -1,4 +1,4 @@
-use Rattle.std.proofs.Common.{◌≡◌, ℕ, length, List, [], IfOk, MatchOption, Option, rules, subst, sym}
+use Rattle.std.proofs.Common.{◌≡◌, ℕ, length, List, [], IfOk, MatchOption, Option, subst, sym}
 use Rattle.std.specs.Prelude.{OnErr, vec_capacity}
 use Rattle.cedar_tree.specs.Walks.{visited_entries}
 use Rattle.cedar_model.specs.Meaning.WellFormed.{cells_in}
@@ -6,11 +6,12 @@ use Rattle.cedar_walk.specs.declared.visits.Numbered.{Numbered}
 use Rattle.cedar_walk.specs.Keys.{KeyGoesOn, NextKeyOutgrows}
 use Rattle.cedar_walk.specs.Visits.{ComesToNumber, IsBelow, IsNumberedBelow, left_at}
 use Rattle.cedarwood.specs.Dictionary.{Dictionary}
+use Rattle.cedarwood.proofs.MemoryLemmas.{table_fits}
 use Rattle.cedarwood.proofs.queries.walked.TrieWalked.next_with_key.Goals as goal
 
 pub numbered_after_with_key-requires : goal.numbered_after_with_key-requires
 numbered_after_with_key-requires g c =
-    (search rules, (c.self.invariant, (subst (λ (d : Dictionary). (start : List ℕ) × IsNumberedBelow d.table start c.args.depth c.args.node) (sym c.self.view_is) c.requires.below, c.requires.room)))
+    (search table_fits, (c.self.invariant, (subst (λ (d : Dictionary). (start : List ℕ) × IsNumberedBelow d.table start c.args.depth c.args.node) (sym c.self.view_is) c.requires.below, c.requires.room)))
 
 pub returns-clause-found : goal.returns-clause-found
 returns-clause-found g c =

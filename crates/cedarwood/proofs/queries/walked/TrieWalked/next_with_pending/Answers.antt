@@ -1,17 +1,18 @@
-use Rattle.std.proofs.Common.{◌≡◌, ℕ, List, [], IfSome, MatchOption, rules, subst, sym}
+use Rattle.std.proofs.Common.{◌≡◌, ℕ, List, [], IfSome, MatchOption, subst, sym}
 use Rattle.cedar_tree.specs.Walks.{visited_entries}
 use Rattle.cedar_model.specs.Meaning.WellFormed.{cells_in}
 use Rattle.cedar_walk.specs.declared.visits.Numbered.{Numbered}
 use Rattle.cedar_walk.specs.Pending.{IsPending}
 use Rattle.cedar_walk.specs.Visits.{ComesToNumber, IsBelow, IsNumberedBelow, left_at}
 use Rattle.cedarwood.specs.Dictionary.{Dictionary}
+use Rattle.cedarwood.proofs.MemoryLemmas.{table_fits}
 use Rattle.cedarwood.proofs.queries.walked.TrieWalked.next_with_pending.Goals as goal
 
 pub numbered_after_with_pending-requires : goal.numbered_after_with_pending-requires
 numbered_after_with_pending-requires g c =
     let below = subst (λ (d : Dictionary). (start : List ℕ) × IsNumberedBelow d.table start c.args.depth c.args.node) (sym c.self.view_is) c.requires.below in
     let kept = subst (λ (d : Dictionary). IsPending d.table c.args.siblings.now c.args.depth c.args.node) (sym c.self.view_is) c.requires.kept in
-    (search rules, (c.self.invariant, (below, kept)))
+    (search table_fits, (c.self.invariant, (below, kept)))
 
 pub returns-clause-found : goal.returns-clause-found
 returns-clause-found g c =
