@@ -47,7 +47,7 @@ pub build_sorted-requires : goal.build_sorted-requires
 build_sorted-requires g c =
     let pairs : List Entry = entries_by g.K.AsSlice.items c.args.pairs.now in
     let s : SortsTo pairs (entries_of c.deref.result.now) = subst (λ (ps : List Pair). SortsTo pairs (entries_of ps)) (sym c.deref.ensures.value) c.in_ok-sorted.ensures in
-    (table_fits (param 0 g.row.L) (param 1 (number g.row.SLOTS)) (copied 2 g.row.A) g.L.Layout g.A.Allocator (search rules), (search rules, (limit_of g.row.SLOTS c.requires.limit, (s.keys, (s.ascending, s.values)))))
+    (table_fits (param 0 g.row.L) (param 1 (number g.row.SLOTS)) (copied 2 g.row.A) g.L.Layout g.A.Allocator (search), (search rules, (limit_of g.row.SLOTS c.requires.limit, (s.keys, (s.ascending, s.values)))))
 
 pub returns-in_err-build_sorted : goal.returns-in_err-build_sorted
 returns-in_err-build_sorted g c =

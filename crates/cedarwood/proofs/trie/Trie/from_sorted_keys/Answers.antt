@@ -34,7 +34,7 @@ build_sorted-requires g c =
     let first : Option CedarError = fault_from 0 [] (entries_by g.K.AsSlice.items c.args.pairs.now) in
     let fine : first ≡ None = no_fault first c.check_sorted.result tt c.check_sorted.ensures.faulty c.in_ok-check_sorted.was in
     let k = sorted_from 0 [] (entries_by g.K.AsSlice.items c.args.pairs.now) c.in_ok-check_sorted.ensures.bytes fine in
-    (table_fits (param 0 g.row.L) (param 1 (number g.row.SLOTS)) (copied 2 g.row.A) g.L.Layout g.A.Allocator (search rules), (search rules, (limit_of g.row.SLOTS c.requires.limit, (k.keys, (k.sorted, k.values)))))
+    (table_fits (param 0 g.row.L) (param 1 (number g.row.SLOTS)) (copied 2 g.row.A) g.L.Layout g.A.Allocator (search), (search rules, (limit_of g.row.SLOTS c.requires.limit, (k.keys, (k.sorted, k.values)))))
 
 pub returns-in_err-build_sorted : goal.returns-in_err-build_sorted
 returns-in_err-build_sorted g c =

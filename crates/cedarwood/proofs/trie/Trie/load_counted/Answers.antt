@@ -17,3 +17,11 @@ returns-in_err-table-clause-loads g c =
 
 pub returns-clause-loads : goal.returns-clause-loads
 returns-clause-loads g c = stands_in (λ t. fields t) (λ trie. trie.table) g.L.Layout.kind g.row.SLOTS c.args.memory_limit _ _ _ _ c.in_ok-table.table _ refl c.in_ok-table.ensures.loads
+
+pub returns-in_err-table-clause-told : goal.returns-in_err-table-clause-told
+returns-in_err-table-clause-told g c =
+    let p = err_from_is_err_and c.from_residual.result c.from_residual.ensures.1 in
+    rw (p.1, p.2) c.in_err-table.ensures.told
+
+pub returns-clause-told : goal.returns-clause-told
+returns-clause-told g c = c.in_ok-table.ensures.told

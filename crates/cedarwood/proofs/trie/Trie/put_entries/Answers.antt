@@ -61,3 +61,12 @@ pub returns : goal.returns
 returns g c =
     let T = g.T.Walked.shown c.args.from.now in
     subst (λ n. IsPutBack g.L.Layout.kind c.args.self.now.state.ordered c.args.self.now.max_trial c.args.self.now.search_limit (map (entry_of T) (drop n c.args.places.now)) c.loop-left.self) c.loop-left-test.false c.loop-left.invariant.back
+
+pub overflow_sub-left : goal.overflow_sub-left
+overflow_sub-left g c = omega (arith, c.loop-left-test.true)
+
+pub bounds-places-left : goal.bounds-places-left
+bounds-places-left g c = omega (arith, c.loop-left.invariant.within, c.loop-left-test.true)
+
+pub loop-left-smaller : goal.loop-left-smaller
+loop-left-smaller g c = omega (arith, c.loop-left-test.true)

@@ -5,4 +5,4 @@ use Rattle.cedarwood.proofs.MemoryLemmas.{table_fits}
 use Rattle.cedarwood.proofs.trie.Trie.with.Goals as goal
 
 pub new-requires : goal.new-requires
-new-requires g c = (table_fits (param 0 g.row.L) (param 1 (number g.row.SLOTS)) (copied 2 g.row.A) g.L.Layout g.A.Allocator (search rules), (search rules, limit_of g.row.SLOTS c.requires.limit))
+new-requires g c = (table_fits (param 0 g.row.L) (param 1 (number g.row.SLOTS)) (copied 2 g.row.A) g.L.Layout g.A.Allocator (search), (search rules, limit_of g.row.SLOTS c.requires.limit))
