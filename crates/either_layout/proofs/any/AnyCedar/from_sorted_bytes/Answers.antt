@@ -1,7 +1,8 @@
-use Rattle.std.proofs.Common.{[]}
+use Rattle.std.proofs.Common.{[], ap, sym}
 use Rattle.cedarwood.specs.Sorted.{entries_of}
 use Rattle.cedarwood.specs.SortedInput.{fault_from}
 use Rattle.either_layout.proofs.EitherLemmas.{no_fault, same_fault}
+use Rattle.either_layout.specs.Layouts.{layout_for}
 use Rattle.either_layout.proofs.any.AnyCedar.from_sorted_bytes.Goals as goal
 
 pub returns-in-Ok-clause-faulty : goal.returns-in-Ok-clause-faulty
@@ -29,3 +30,9 @@ returns-in-Err-from_sorted_bytes_with-clause-faulty c =
 
 pub returns-in-Err-from_sorted_bytes_with-clause-refused : goal.returns-in-Err-from_sorted_bytes_with-clause-refused
 returns-in-Err-from_sorted_bytes_with-clause-refused c = c.in-Err-from_sorted_bytes_with.ensures.built.refused
+
+pub returns-in-Ok-clause-layout : goal.returns-in-Ok-clause-layout
+returns-in-Ok-clause-layout c = ap layout_for (sym c.if-is_reduced.true)
+
+pub returns-in-Ok-from_sorted_bytes_with-clause-layout : goal.returns-in-Ok-from_sorted_bytes_with-clause-layout
+returns-in-Ok-from_sorted_bytes_with-clause-layout c = ap layout_for (sym c.if-is_reduced.false)

@@ -33,3 +33,9 @@ returns-in-Ok-load_from_reader_with_limit-clause-told g c = c.in-Ok-load_from_re
 
 pub returns-in-Err-load_from_reader_with_limit-clause-told : goal.returns-in-Err-load_from_reader_with_limit-clause-told
 returns-in-Err-load_from_reader_with_limit-clause-told g c = c.in-Err-load_from_reader_with_limit.ensures.told
+
+pub returns-in-Ok-clause-layout : goal.returns-in-Ok-clause-layout
+returns-in-Ok-clause-layout g c = ap layout_for (sym c.if-is_reduced.true)
+
+pub returns-in-Ok-load_from_reader_with_limit-clause-layout : goal.returns-in-Ok-load_from_reader_with_limit-clause-layout
+returns-in-Ok-load_from_reader_with_limit-clause-layout g c = ap layout_for (sym c.if-is_reduced.false)
