@@ -9,6 +9,7 @@ from cedar import Cedar, CedarError
 from judge import HEADER, MEMORY_LIMIT, OK, TRAILING, TRUNCATED, Node, judged, need
 
 LIMIT = 2**29
+HEADER_SIZE = 88
 CALLS = 50
 
 
@@ -127,15 +128,20 @@ def changed(data, at, mask):
     return data[:at] + bytes([data[at] ^ mask]) + data[at + 1 :]
 
 
-def each_byte(loads, data, masks):
-    """Changes each byte, one at a time: the places at which a change by the first mask loads."""
-    found = []
+def each_byte(loads, data):
+    """Changes the lowest bit of each byte, one at a time: the places at which that loads."""
+    return [at for at in range(len(data)) if loads.expect(changed(data, at, 1), what=f"byte {at}") == OK]
+
+
+def in_turn(loads, data, masks):
+    """Changes each byte: of the header and of the blocks by each mask, and of the records of which there are many by one of them in turn,
+    so that each byte of such a record is changed by each mask, in one record or another."""
+    _, header, _ = judged(data, LIMIT)
+    end = len(data) - 2 * header.reject_len
     for at in range(len(data)):
-        for mask in masks:
-            status = loads.expect(changed(data, at, mask), what=f"byte {at} by {mask}")
-            if status == OK and mask == masks[0]:
-                found.append(at)
-    return found
+        is_of_few = at < HEADER_SIZE or end - 20 * header.blocks_len <= at < end
+        for mask in masks if is_of_few else [masks[(at + 3 * (at // 8)) % len(masks)]]:
+            loads.expect(changed(data, at, mask), what=f"byte {at} by {mask}")
 
 
 def moved(loads, data, times):
@@ -184,13 +190,13 @@ def check(reduced):
     loads, new = Loads(), Cedar(reduced=reduced)
     bits = [1 << bit for bit in range(8)]
     for is_full in [True, False]:
-        assert each_byte(loads, new.save(is_full), [1]) == harmless()
-    each_byte(loads, new.save(), bits[1:] + [255])
+        assert each_byte(loads, new.save(is_full)) == harmless()
+    in_turn(loads, new.save(), bits[1:] + [255])
     ends(loads, new.save())
     one, three = Cedar({b"a": 7}, reduced=reduced), Cedar([("b", 1), ("a", 2), ("ab", 3)], ordered=False, reduced=reduced)
     for cedar, masks in [(one, [1, 128, 255]), (three, [1])]:
-        each_byte(loads, cedar.save(), masks)
-        moved(loads, cedar.save(), 2000)
+        in_turn(loads, cedar.save(), masks)
+        moved(loads, cedar.save(), 1000)
     for cedar in [full(reduced), mixed(reduced, True), mixed(reduced, False)]:
         for is_full in [True, False]:
             data = cedar.save(is_full)

@@ -1,4 +1,4 @@
-/* Calls each function, makes 100,000 random calls beside a plain table of the same keys, and times 1,000,000 keys. */
+/* Calls each function, makes 100,000 random calls beside a plain table of the same keys, and times as many keys as an argument says. */
 #include "cedar.h"
 #include "check.h"
 #include <string.h>
