@@ -31,14 +31,14 @@ use Rattle.cedarwood.specs.SortedInput.{fault_from}
 use Rattle.cedar_calls.specs.Agreement.{AreSameCalls, IsSameCall, IsSameChange, IsSameQuestion}
 use Rattle.cedar_calls.specs.Making.{IsLoad, Joins}
 use Rattle.cedar_calls.specs.Plain.{PlainAnswer, plain_answers, at_state, batch_says, faultless_front, held_each, call_says, change_says, changed_state, counted, done, found, held, listed, IsLoadless, IsMet, kept_at_fault, matched, missing, reply_says, plain_answer, plain_load, selected, states_after, states_of, text_says, unless_fault, unloaded, numbered, walked, was}
-use Rattle.cedar_calls.specs.Replies.{in_order}
+use Rattle.cedar_replies.specs.Replies.{in_order}
 use Rattle.cedar_calls.specs.Runs.{IsRun, IsStep}
 use Rattle.cedar_calls.specs.declared.call.Call.{Call}
 use Rattle.cedar_calls.specs.declared.call.Call.TheVariants as call
 use Rattle.cedar_calls.specs.declared.call.Change.{Change}
 use Rattle.cedar_calls.specs.declared.call.Change.TheVariants as change
-use Rattle.cedar_calls.specs.declared.call.Question.{Question}
-use Rattle.cedar_calls.specs.declared.call.Question.TheVariants as question
+use Rattle.cedar_replies.specs.declared.question.Question.{Question}
+use Rattle.cedar_replies.specs.declared.question.Question.TheVariants as question
 use Rattle.cedar_calls.specs.declared.answer.Answer.{Answer}
 use Rattle.cedar_calls.specs.declared.answer.Answer.TheVariants as answer
 use Rattle.cedar_calls.proofs.BufferLemmas.{buffer_alike}

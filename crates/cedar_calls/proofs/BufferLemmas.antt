@@ -4,12 +4,12 @@ use Rattle.cedarwood.specs.Tree.{Tree}
 use Rattle.cedarwood.specs.Ranges.{entries_with}
 use Rattle.cedar_calls.specs.Agreement.{IsSameBufferQuery}
 use Rattle.cedar_calls.specs.Plain.{buffer_says, ended, IsMet, plain_buffer_reply, walked}
-use Rattle.cedar_calls.specs.Replies.{IsBufferReply}
-use Rattle.cedar_calls.specs.declared.call.BufferQuery.{BufferQuery}
-use Rattle.cedar_calls.specs.declared.call.BufferQuery.TheVariants as buffer_query
-use Rattle.cedar_calls.specs.declared.answer.BufferReply.{BufferReply}
-use Rattle.cedar_calls.specs.declared.answer.BufferReply.TheVariants as buffer_reply
-use Rattle.cedar_calls.proofs.CollectLemmas.{short}
+use Rattle.cedar_replies.specs.Replies.{IsBufferReply}
+use Rattle.cedar_replies.specs.declared.question.BufferQuery.{BufferQuery}
+use Rattle.cedar_replies.specs.declared.question.BufferQuery.TheVariants as buffer_query
+use Rattle.cedar_replies.specs.declared.answer.BufferReply.{BufferReply}
+use Rattle.cedar_replies.specs.declared.answer.BufferReply.TheVariants as buffer_reply
+use Rattle.cedar_replies.proofs.CollectLemmas.{short}
 
 -- what is returned is what the tree says
 pub buffer_goes : {A : Type 0} (t : Tree) (q : BufferQuery) (a : BufferReply A) → IsBufferReply t q a → IsMet (plain_buffer_reply a) → plain_buffer_reply a ≡ buffer_says t q

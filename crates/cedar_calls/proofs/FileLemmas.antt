@@ -14,9 +14,9 @@ use Rattle.cedarwood.specs.OnTable.{IsOnTable}
 use Rattle.cedarwood.proofs.LoadLemmas.{loaded_saves_again}
 use Rattle.cedar_calls.specs.Files.{SavesLoadAgain}
 use Rattle.cedar_calls.specs.Making.{IsLoad, Joins}
-use Rattle.cedar_calls.specs.declared.call.Question.TheVariants as question
-use Rattle.cedar_calls.specs.declared.answer.Reply.{Reply}
-use Rattle.cedar_calls.specs.declared.answer.Reply.TheVariants as reply
+use Rattle.cedar_replies.specs.declared.question.Question.TheVariants as question
+use Rattle.cedar_replies.specs.declared.answer.Reply.{Reply}
+use Rattle.cedar_replies.specs.declared.answer.Reply.TheVariants as reply
 
 some_is : {X : Type 0} (x y : X) → ◌≡◌ {A = Option X} (Some x) (Some y) → x ≡ y
 some_is x y h = cc

@@ -16,15 +16,15 @@ use Rattle.cedar_words.proofs.ModelStepLemmas.{costs_up}
 use Rattle.cedar_words.proofs.OneLemmas.{best_same}
 use Rattle.cedar_calls.specs.Agreement.{AreSameTables, IsSameTextQuery}
 use Rattle.cedar_calls.specs.Plain.{cut_in_turn, cut_into, edged, found, IsMet, listed, plain_text_reply, PlainAnswer, spotted, text_says}
-use Rattle.cedar_calls.specs.Replies.{IsTextReply}
-use Rattle.cedar_calls.specs.Texts.{costs_by_model, model_cut_of, model_cuts_of, run_in_table}
-use Rattle.cedar_calls.specs.declared.call.TextQuery.{TextQuery}
-use Rattle.cedar_calls.specs.declared.call.TextQuery.TheVariants as text_query
-use Rattle.cedar_calls.specs.declared.model.ModelTables.{ModelTables}
-use Rattle.cedar_calls.specs.declared.answer.TextReply.{TextReply}
-use Rattle.cedar_calls.specs.declared.answer.TextReply.TheVariants as text_reply
-use Rattle.cedar_calls.proofs.CollectLemmas.{short}
-use Rattle.cedar_calls.proofs.FewCutsLemmas.{same_cuts}
+use Rattle.cedar_replies.specs.Replies.{IsTextReply}
+use Rattle.cedar_replies.specs.Texts.{costs_by_model, model_cut_of, model_cuts_of, run_in_table}
+use Rattle.cedar_replies.specs.declared.question.TextQuery.{TextQuery}
+use Rattle.cedar_replies.specs.declared.question.TextQuery.TheVariants as text_query
+use Rattle.cedar_replies.specs.declared.model.ModelTables.{ModelTables}
+use Rattle.cedar_replies.specs.declared.answer.TextReply.{TextReply}
+use Rattle.cedar_replies.specs.declared.answer.TextReply.TheVariants as text_reply
+use Rattle.cedar_replies.proofs.CollectLemmas.{short}
+use Rattle.cedar_replies.proofs.FewCutsLemmas.{same_cuts}
 
 module _ (t : Tree) (key : ℤ → ℕ) (run : ℕ → UnknownRun) (text : List ℕ) where
   -- the costs that the tree decides are those of the best steps

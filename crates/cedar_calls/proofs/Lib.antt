@@ -1,11 +1,8 @@
-mod BatchLemmas
+mod EraseLemmas
 mod TextLemmas
 mod PlaceLemmas
-mod CollectLemmas
 mod RunLemmas
 mod BufferLemmas
-mod FewCutsLemmas
-mod EmptyTextLemmas
 mod InTextLemmas
 mod CompletionLemmas
 mod PlainLemmas

@@ -18,19 +18,19 @@ use Rattle.cedarwood.specs.Room.{LacksRoom}
 use Rattle.cedarwood.specs.Shrinking.{LacksPlaces}
 use Rattle.cedarwood.specs.Updates.{IsUpdate}
 use Rattle.cedar_calls.specs.Changes.{IsChange, IsUpdatedBatch, IsWholeBuild}
-use Rattle.cedar_calls.specs.Replies.{IsReply}
+use Rattle.cedar_replies.specs.Replies.{IsReply}
 use Rattle.cedar_calls.specs.Plain.{batch_says, comparable_count, counted, done, ended, faultless_front, faulty_at, found, held, held_each, slots_held_of_tree, listed, matched, measured, selected, numbered, walked, was, worded, change_says, changed_state, is_none_left, IsMet, kept_at_fault, refused_at, reply_says, plain_batch, plain_effect, plain_reply, plain_result, unless_fault}
 use Rattle.cedar_calls.specs.declared.call.Change.{Change}
 use Rattle.cedar_calls.specs.declared.call.Change.TheVariants as change
-use Rattle.cedar_calls.specs.declared.call.Figure.TheVariants.{AllocatedBytes, Capacity, SearchLimit, SpareBlocks, UsedSlots}
-use Rattle.cedar_calls.specs.declared.call.Question.{Question}
-use Rattle.cedar_calls.specs.declared.call.Question.TheVariants as question
+use Rattle.cedar_replies.specs.declared.question.Figure.TheVariants.{AllocatedBytes, Capacity, SearchLimit, SpareBlocks, UsedSlots}
+use Rattle.cedar_replies.specs.declared.question.Question.{Question}
+use Rattle.cedar_replies.specs.declared.question.Question.TheVariants as question
 use Rattle.cedar_calls.specs.declared.answer.Changed.{Changed}
 use Rattle.cedar_calls.specs.declared.answer.Changed.TheVariants as changed
-use Rattle.cedar_calls.specs.declared.answer.Reply.{Reply}
-use Rattle.cedar_calls.specs.declared.answer.Reply.TheVariants as reply
+use Rattle.cedar_replies.specs.declared.answer.Reply.{Reply}
+use Rattle.cedar_replies.specs.declared.answer.Reply.TheVariants as reply
 use Rattle.cedar_calls.proofs.BufferLemmas.{buffer_goes}
-use Rattle.cedar_calls.proofs.CollectLemmas.{short}
+use Rattle.cedar_replies.proofs.CollectLemmas.{short}
 use Rattle.cedar_calls.proofs.CompletionLemmas.{completion_goes}
 use Rattle.cedar_calls.proofs.InTextLemmas.{text_goes}
 use Rattle.cedar_calls.proofs.TextLemmas.{texts_are}

@@ -26,7 +26,7 @@ use Rattle.cedar_calls.specs.declared.call.Call.TheVariants as call
 use Rattle.cedar_calls.specs.declared.answer.Answer.{Answer}
 use Rattle.cedar_calls.specs.declared.answer.Answer.TheVariants as answer
 use Rattle.cedar_calls.proofs.PlaceLemmas.{map-remove}
-use Rattle.cedar_calls.proofs.CollectLemmas.{short}
+use Rattle.cedar_replies.proofs.CollectLemmas.{short}
 use Rattle.cedar_calls.proofs.PlainLemmas.{change_goes, reply_goes, state_is}
 
 short_of : (e : CedarError) (P : Type 0) → (e ≡ Memory) ⊎ ((e ≡ SlotLimit) × P) → IsShortage e

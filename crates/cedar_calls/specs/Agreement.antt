@@ -4,22 +4,22 @@ use Rattle.std.specs.List.{AllByRecursion}
 use Rattle.cedarwood.specs.Words.{entries_of, keys_of}
 use Rattle.cedarwood.specs.Layouts.{LayoutKind, default_layout}
 use Rattle.cedarwood.specs.Dictionary.{Dictionary}
-use Rattle.cedar_calls.specs.Completions.{AreSameEnds}
+use Rattle.cedar_replies.specs.Completions.{AreSameEnds}
 use Rattle.cedar_calls.specs.Plain.{plain_answers, states_of, IsLoadless, IsMet}
 use Rattle.cedar_calls.specs.Runs.{IsRun}
 use Rattle.cedar_calls.specs.declared.call.Call.{Call}
 use Rattle.cedar_calls.specs.declared.call.Call.TheVariants as call
 use Rattle.cedar_calls.specs.declared.call.Change.{Change}
 use Rattle.cedar_calls.specs.declared.call.Change.TheVariants as change
-use Rattle.cedar_calls.specs.declared.call.Question.{Question}
-use Rattle.cedar_calls.specs.declared.call.Question.TheVariants as question
-use Rattle.cedar_calls.specs.declared.call.BufferQuery.{BufferQuery}
-use Rattle.cedar_calls.specs.declared.call.BufferQuery.TheVariants as buffer_query
-use Rattle.cedar_calls.specs.declared.call.CompletionQuery.{CompletionQuery}
-use Rattle.cedar_calls.specs.declared.call.CompletionQuery.TheVariants as completion_query
-use Rattle.cedar_calls.specs.declared.call.TextQuery.{TextQuery}
-use Rattle.cedar_calls.specs.declared.call.TextQuery.TheVariants as text_query
-use Rattle.cedar_calls.specs.declared.model.ModelTables.{ModelTables}
+use Rattle.cedar_replies.specs.declared.question.Question.{Question}
+use Rattle.cedar_replies.specs.declared.question.Question.TheVariants as question
+use Rattle.cedar_replies.specs.declared.question.BufferQuery.{BufferQuery}
+use Rattle.cedar_replies.specs.declared.question.BufferQuery.TheVariants as buffer_query
+use Rattle.cedar_replies.specs.declared.question.CompletionQuery.{CompletionQuery}
+use Rattle.cedar_replies.specs.declared.question.CompletionQuery.TheVariants as completion_query
+use Rattle.cedar_replies.specs.declared.question.TextQuery.{TextQuery}
+use Rattle.cedar_replies.specs.declared.question.TextQuery.TheVariants as text_query
+use Rattle.cedar_replies.specs.declared.model.ModelTables.{ModelTables}
 use Rattle.cedar_calls.specs.declared.answer.Answer.{Answer}
 
 -- two changes are the same, whatever `max_trial` and search limit they set and wherever their bytes lie

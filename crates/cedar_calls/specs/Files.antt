@@ -5,10 +5,10 @@ use Rattle.cedarwood.specs.Layouts.{LayoutKind}
 use Rattle.cedarwood.specs.Dictionary.{Dictionary}
 use Rattle.cedar_calls.specs.Runs.{IsStep}
 use Rattle.cedar_calls.specs.declared.call.Call.TheVariants as call
-use Rattle.cedar_calls.specs.declared.call.Question.{Question}
+use Rattle.cedar_replies.specs.declared.question.Question.{Question}
 use Rattle.cedar_calls.specs.declared.answer.Answer.TheVariants as answer
-use Rattle.cedar_calls.specs.declared.answer.Reply.{Reply}
-use Rattle.cedar_calls.specs.declared.answer.Reply.TheVariants as reply
+use Rattle.cedar_replies.specs.declared.answer.Reply.{Reply}
+use Rattle.cedar_replies.specs.declared.answer.Reply.TheVariants as reply
 
 -- the bytes of the file that a reply has
 abbrev pub bytes_saved : {A : Type 0} → Reply A → Option (List ℕ)

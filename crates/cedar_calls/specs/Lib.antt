@@ -1,8 +1,8 @@
+pub use Rattle.cedar_replies.specs.Texts
+pub use Rattle.cedar_replies.specs.Completions
+pub use Rattle.cedar_replies.specs.Replies
 pub mod Making
 pub mod Changes
-pub mod Texts
-pub mod Completions
-pub mod Replies
 pub mod Runs
 pub mod Plain
 pub mod Agreement

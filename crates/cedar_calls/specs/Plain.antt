@@ -32,36 +32,36 @@ use Rattle.cedar_words.specs.Words.{segments, Spot, spots_from, Token, tokens_be
 use Rattle.best_few.specs.Orders.{best, found_entry}
 use Rattle.byte_automata.specs.Patterns.{fits}
 use Rattle.last_entries.specs.Nearness.{entry_told}
-use Rattle.cedar_calls.specs.Completions.{edits_counted, entries_between_ends, first_of_list}
-use Rattle.cedar_calls.specs.Completions.{if_ascending, is_close, last_of_list}
-use Rattle.cedar_calls.specs.Replies.{in_order}
+use Rattle.cedar_replies.specs.Completions.{edits_counted, entries_between_ends, first_of_list}
+use Rattle.cedar_replies.specs.Completions.{if_ascending, is_close, last_of_list}
+use Rattle.cedar_replies.specs.Replies.{in_order}
 use Rattle.cedar_calls.specs.Runs.{IsRun}
-use Rattle.cedar_calls.specs.Texts.{model_cut_of, model_cuts_of, run_in_table}
+use Rattle.cedar_replies.specs.Texts.{model_cut_of, model_cuts_of, run_in_table}
 use Rattle.cedar_calls.specs.declared.call.Call.{Call}
 use Rattle.cedar_calls.specs.declared.call.Call.TheVariants as call
 use Rattle.cedar_calls.specs.declared.call.Change.{Change}
 use Rattle.cedar_calls.specs.declared.call.Change.TheVariants as change
-use Rattle.cedar_calls.specs.declared.call.Figure.TheVariants.{UsedSlots}
-use Rattle.cedar_calls.specs.declared.call.Question.{Question}
-use Rattle.cedar_calls.specs.declared.call.Question.TheVariants as question
-use Rattle.cedar_calls.specs.declared.call.BufferQuery.{BufferQuery}
-use Rattle.cedar_calls.specs.declared.call.BufferQuery.TheVariants as buffer_query
-use Rattle.cedar_calls.specs.declared.call.CompletionQuery.{CompletionQuery}
-use Rattle.cedar_calls.specs.declared.call.CompletionQuery.TheVariants as completion_query
-use Rattle.cedar_calls.specs.declared.call.TextQuery.{TextQuery}
-use Rattle.cedar_calls.specs.declared.call.TextQuery.TheVariants as text_query
+use Rattle.cedar_replies.specs.declared.question.Figure.TheVariants.{UsedSlots}
+use Rattle.cedar_replies.specs.declared.question.Question.{Question}
+use Rattle.cedar_replies.specs.declared.question.Question.TheVariants as question
+use Rattle.cedar_replies.specs.declared.question.BufferQuery.{BufferQuery}
+use Rattle.cedar_replies.specs.declared.question.BufferQuery.TheVariants as buffer_query
+use Rattle.cedar_replies.specs.declared.question.CompletionQuery.{CompletionQuery}
+use Rattle.cedar_replies.specs.declared.question.CompletionQuery.TheVariants as completion_query
+use Rattle.cedar_replies.specs.declared.question.TextQuery.{TextQuery}
+use Rattle.cedar_replies.specs.declared.question.TextQuery.TheVariants as text_query
 use Rattle.cedar_calls.specs.declared.answer.Answer.{Answer}
 use Rattle.cedar_calls.specs.declared.answer.Answer.TheVariants as answer
 use Rattle.cedar_calls.specs.declared.answer.Changed.{Changed}
 use Rattle.cedar_calls.specs.declared.answer.Changed.TheVariants as changed
-use Rattle.cedar_calls.specs.declared.answer.Reply.{Reply}
-use Rattle.cedar_calls.specs.declared.answer.Reply.TheVariants as reply
-use Rattle.cedar_calls.specs.declared.answer.BufferReply.{BufferReply}
-use Rattle.cedar_calls.specs.declared.answer.BufferReply.TheVariants as buffer_reply
-use Rattle.cedar_calls.specs.declared.answer.CompletionReply.{CompletionReply}
-use Rattle.cedar_calls.specs.declared.answer.CompletionReply.TheVariants as completion_reply
-use Rattle.cedar_calls.specs.declared.answer.TextReply.{TextReply}
-use Rattle.cedar_calls.specs.declared.answer.TextReply.TheVariants as text_reply
+use Rattle.cedar_replies.specs.declared.answer.Reply.{Reply}
+use Rattle.cedar_replies.specs.declared.answer.Reply.TheVariants as reply
+use Rattle.cedar_replies.specs.declared.answer.BufferReply.{BufferReply}
+use Rattle.cedar_replies.specs.declared.answer.BufferReply.TheVariants as buffer_reply
+use Rattle.cedar_replies.specs.declared.answer.CompletionReply.{CompletionReply}
+use Rattle.cedar_replies.specs.declared.answer.CompletionReply.TheVariants as completion_reply
+use Rattle.cedar_replies.specs.declared.answer.TextReply.{TextReply}
+use Rattle.cedar_replies.specs.declared.answer.TextReply.TheVariants as text_reply
 
 -- an answer as far as trees decide it
 pub data PlainAnswer : Type 0 where

@@ -9,7 +9,7 @@ use Rattle.cedarwood.specs.Making.{IsNew, IsSortedBuild}
 use Rattle.cedarwood.specs.Unsorted.{IsUnsortedBuild}
 use Rattle.cedar_calls.specs.Making.{IsCopy, IsLoad, Makes}
 use Rattle.cedar_calls.specs.Changes.{IsChange}
-use Rattle.cedar_calls.specs.Replies.{IsReply}
+use Rattle.cedar_replies.specs.Replies.{IsReply}
 use Rattle.cedar_calls.specs.declared.call.Call.{Call}
 use Rattle.cedar_calls.specs.declared.call.Call.TheVariants as call
 use Rattle.cedar_calls.specs.declared.answer.Answer.{Answer}

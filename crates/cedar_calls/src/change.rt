@@ -2,8 +2,8 @@
 
 ghost use Rattle.cedar_calls.specs.Words.{IsChange, IsErasedBatch, IsErasedFound, IsValid, keys_of};
 
-use crate::place::places;
 use crate::{Change, Changed};
+use cedar_replies::places;
 use cedarwood::{CedarError, Layout, Trie};
 use std::alloc::Allocator;
 

@@ -3,7 +3,8 @@
 ghost use Rattle.cedar_calls.specs.Words.{KeysStandAlone, KeysStandAloneInRuns, RunsAgree};
 ghost use Rattle.cedar_calls.specs.Words.{SavesLoadAgain, TreesDecide};
 
-use crate::{Answer, Call, Reply};
+use crate::{Answer, Call};
+use cedar_replies::Reply;
 use std::alloc::Allocator;
 
 /// Trees and their orders alone decide what a run returns: whatever the layout, the limit of slots, `max_trial`, the marks and the tables,

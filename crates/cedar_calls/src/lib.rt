@@ -6,25 +6,19 @@
 #![tactic(auto)]
 
 mod answer;
-mod buffers;
 mod call;
 mod change;
-mod completions;
-mod ends;
 mod laws;
 mod make;
-mod model;
-mod place;
-mod reply;
 mod run;
-mod texts;
 
-pub use answer::{Answer, BufferReply, Changed, CompletionReply, Reply, TextReply};
-pub use call::{BufferQuery, Call, Change, CompletionQuery, Figure, Question, TextQuery};
-pub use cedar_complete::ByValue;
-pub use ends::KeyEnds;
+pub use answer::{Answer, Changed};
+pub use call::{Call, Change};
+pub use cedar_replies::{
+    BufferQuery, BufferReply, ByValue, CompletionQuery, CompletionReply, Figure, KeyEnds,
+    ModelTables, Question, Reply, TextQuery, TextReply,
+};
 pub use laws::{
     keys_stand_alone, keys_stand_alone_in_runs, runs_agree, saves_load_again, trees_decide,
 };
-pub use model::ModelTables;
 pub use run::{reserve_for_calls, run_calls};

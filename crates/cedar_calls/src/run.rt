@@ -6,8 +6,8 @@ ghost use Rattle.cedar_calls.specs.Words.{AddsRun, IsSlotLimit, IsStep};
 
 use crate::change::{is_valid, make_change};
 use crate::make::{copy, join, load};
-use crate::reply::reply;
 use crate::{Answer, Call};
+use cedar_replies::reply_to;
 use cedarwood::{Layout, Trie};
 use std::alloc::{AllocError, Allocator};
 
@@ -121,7 +121,7 @@ fn make_call<L: Layout, const SLOTS: usize, A: Allocator + Copy>(
         Call::Ask { index, question } => match tries.get(*index) {
             Some(trie) => {
                 trie.stands_on_its_table();
-                Answer::Replied(reply(trie, alloc, question))
+                Answer::Replied(reply_to(trie, alloc, question))
             }
             None => Answer::Missing,
         },

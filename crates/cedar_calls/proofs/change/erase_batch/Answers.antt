@@ -4,8 +4,9 @@ use Rattle.std.proofs.lemmas.Result.{err_from_is_err_and}
 use Rattle.std.proofs.Math.Seq.{take-length}
 use Rattle.cedarwood.specs.Batches.{held_in_turn, IsErasures, keys_erased}
 use Rattle.cedarwood.specs.Words.{keys_of}
-use Rattle.cedar_calls.proofs.BatchLemmas.{all_asked, each_filled, none_erased}
 use Rattle.cedarwood.proofs.BatchLemmas.{length-held_in_turn}
+use Rattle.cedar_replies.proofs.BatchLemmas.{all_asked, each_filled}
+use Rattle.cedar_calls.proofs.EraseLemmas.{none_erased}
 use Rattle.cedar_calls.proofs.change.erase_batch.Goals as goal
 
 pub returns-in_err-held : goal.returns-in_err-held

@@ -54,7 +54,7 @@ returns-in-Some-get-clause-step g c =
     let i = c.in-Ask.index in
     let here : slice_get c.args.tries.now.items i ≡ Some c.in-Some-get.trie.now =
     subst (λ xs. slice_get xs i ≡ Some c.in-Some-get.trie.now) c.deref-in-Ask.ensures.value (stands_at c.deref-in-Ask.result.now i c.in-Some-get.trie.now found.3.0 found.1) in
-    subst (λ call. IsStep {A = g.row.A.Denot} g.L.Layout.kind g.row.SLOTS c.args.tries.now.items call (answer.Replied c.reply.result) c.args.tries.now.items) (sym c.in-Ask.is) (c.in-Some-get.trie.now, here, (c.stands_on_its_table.ensures, c.reply.ensures), refl)
+    subst (λ call. IsStep {A = g.row.A.Denot} g.L.Layout.kind g.row.SLOTS c.args.tries.now.items call (answer.Replied c.reply_to.result) c.args.tries.now.items) (sym c.in-Ask.is) (c.in-Some-get.trie.now, here, (c.stands_on_its_table.ensures, c.reply_to.ensures), refl)
 
 pub returns-in-None-get-clause-step : goal.returns-in-None-get-clause-step
 returns-in-None-get-clause-step g c =

@@ -1,6 +1,0 @@
-use Rattle.std.proofs.Common.{◌≡◌, ◌++◌}
-use Rattle.cedar_calls.proofs.texts.collect_tokens.Given as goal
-
--- what was collected and what is left are the tokens
-abbrev pub invariant-loop-token : goal.invariant-loop-token
-invariant-loop-token g l = l.found.items ++ l.token-iterator ≡ l.fn.segments

@@ -1,0 +1,9 @@
+use Rattle.std.proofs.Common.{◌≡◌, ◌++◌, length, map}
+use Rattle.cedar_replies.proofs.buffers.collect_by.Given as goal
+
+-- what was collected and what is left are the entries of the cursor
+abbrev pub invariant-loop-found : goal.invariant-loop-found
+invariant-loop-found g l = map (λ e. (e.0.items, e.1)) l.found.items ++ l.cursor.left ≡ l.fn.cursor.left
+
+abbrev pub decreases-loop-found : goal.decreases-loop-found
+decreases-loop-found g l = length l.cursor.left

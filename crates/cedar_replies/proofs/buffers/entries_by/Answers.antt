@@ -1,0 +1,6 @@
+use Rattle.std.proofs.Common.{◌≡◌, ◌∙◌, map, subst}
+use Rattle.cedar_replies.specs.Replies.{CollectsSome}
+use Rattle.cedar_replies.proofs.buffers.entries_by.Goals as goal
+
+pub returns : goal.returns
+returns g c = subst (λ es. CollectsSome c.collect_by.result (λ found. map (λ e. (e.0.items, e.1)) found.items ≡ es) es) (c.into_cursor.ensures.left ∙ c.entries_with_prefix_bytes.ensures) c.collect_by.ensures

@@ -1,0 +1,4 @@
+pub mod Texts
+pub mod Completions
+pub mod Replies
+pub mod Words
