@@ -33,10 +33,13 @@ impl<'a, E: Write> LineReports for Explained<'a, E> {
             return;
         };
         if self.is_asked {
-            let name = self.name;
-            let number = self.number;
-            let why = bad.text();
-            let _ = writeln!(&mut self.errors, "{name}: line {number}: {why}");
+            explain(&mut self.errors, self.name, self.number, bad);
         }
     }
+}
+
+/// Says why the line of this number is bad. A fault isn't reported.
+fn explain<E: Write>(errors: &mut E, name: &str, number: u64, bad: BadLine) {
+    let why = bad.text();
+    let _ = writeln!(errors, "{name}: line {number}: {why}");
 }

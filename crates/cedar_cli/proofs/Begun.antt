@@ -40,6 +40,10 @@ begins_loaded layout o path (Err e) given = tt
 pub asks_load : (o : Options) (path : Bor (List ℕ)) → o.load ≡ Some path → is_some (request_in o).load ≡ true
 asks_load o path given = rw given refl
 
+-- so was a save
+pub asks_save : (o : Options) (path : Bor (List ℕ)) → o.save ≡ Some path → is_some (request_in o).save ≡ true
+asks_save o path given = rw given refl
+
 -- so a run may begin with one where none is loaded
 pub begins_new : (layout : LayoutKind) (o : Options) (d : Dictionary) → o.load ≡ None → d.state.tree ≡ empty_tree → d.marked ≡ empty_tree → d.state.ordered ≡ o.ordered
     → BeginsWith layout (request_in o) (view_of layout d)

@@ -1,6 +1,6 @@
 -- A call that failed, and why.
 use Rattle.std.proofs.Common.{◌≡◌, Ok, Err, Bool, true, false, ◌||◌, ◌∙◌, ap, refl, subst}
-use Rattle.std.specs.Prelude.{IfErr, OnOk, Result}
+use Rattle.std.specs.Prelude.{IfErr, IfOk, OnOk, Result}
 use Rattle.cedar_cli.specs.Script.{AnswersOrFails}
 use Rattle.cedar_cli.specs.Statuses.{ShowsCause}
 use Rattle.device_lines.specs.Written.{WritesOrFails}
@@ -55,6 +55,11 @@ pub no_success : {T E : Type 0} (P : Type 0) (r : Result T E) (e : E) → r ≡ 
 no_success P (Ok x) e is = absurd (cc)
 no_success P (Err f) e is = tt
 
+-- nor of a value
+pub no_value : {T E : Type 0} (P : T → Type 0) (r : Result T E) (e : E) → r ≡ Err e → IfOk r P
+no_value P (Ok x) e is = absurd (cc)
+no_value P (Err f) e is = tt
+
 -- what is so of an error is so of a result that is this error
 pub that_error : {T E : Type 0} (P : E → Type 0) (r : Result T E) (e : E) → r ≡ Err e → P e → IfErr r P
 that_error P r e is p = rw is p
@@ -87,6 +92,16 @@ writers_fault before after (Err fault) h =
       starved = λ same. write_no_memory (cc);
       full = λ same. write_no_limit (cc);
     }
+
+-- where all went well it is as it was
+pub writers_unfailed : (before after : Bool) → after ≡ before → AnswersOrFails before after (Ok tt)
+writers_unfailed before after same = record {
+  unfailed = same;
+  cause = λ is. ok_no_fault tt Write is;
+  never_read = λ is. ok_no_fault tt Read is;
+  starved = λ is. ok_no_fault tt Memory is;
+  full = λ is. ok_no_fault tt SlotLimit is;
+}
 
 -- where memory or slots are wanting the writer is as it was
 pub memory_fault : (b : Bool) → AnswersOrFails b b (Err Memory)

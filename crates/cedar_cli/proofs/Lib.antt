@@ -11,3 +11,4 @@ pub mod Runs
 pub mod SlotsInView
 pub mod Text
 pub mod Told
+pub mod Writes

@@ -11,7 +11,7 @@ use cedar_hex::decode_into;
 use device_lines::{parse_number, position_of};
 
 /// What a line says to do.
-#[derive(Clone, Copy, Debug, PartialEq, Eq)]
+#[derive(Clone, Copy)]
 pub(crate) enum Verb {
     /// Store this value.
     Put(i32),

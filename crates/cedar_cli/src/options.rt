@@ -7,7 +7,7 @@ ghost use Rattle.cedar_cli.specs.Words.{request_in, request_of, words};
 use cedarwood::DEFAULT_LOAD_MEMORY_LIMIT;
 
 /// What the arguments say.
-#[derive(Clone, Copy, Debug)]
+#[derive(Clone, Copy)]
 pub(crate) struct Options<'a> {
     /// Whether the labels of each node are to ascend.
     pub ordered: bool,
@@ -96,8 +96,8 @@ pub(crate) fn limit_or_default(limit: Option<usize>) -> usize
 fn is_excluded(options: Options<'_>) -> bool
     ensures { result ≡ is_excluded (request_in options.entry) }
 {
-    let two_orders = !options.ordered && options.load.is_some();
-    let no_save = options.v1_0 && options.save.is_none();
-    let no_load = options.limit.is_some() && options.load.is_none();
-    two_orders || no_save || no_load
+    let two_orders = !options.ordered & options.load.is_some();
+    let no_save = options.v1_0 & options.save.is_none();
+    let no_load = options.limit.is_some() & options.load.is_none();
+    two_orders | no_save | no_load
 }

@@ -33,7 +33,7 @@ pub const USAGE: u8 = 2;
 pub const REFUSED: u8 = 3;
 
 /// What ends a run early.
-#[derive(Debug, Drop)]
+#[derive(Drop)]
 enum Fault {
     Script(ScriptError),
     Load(CedarPersistenceError),
@@ -286,13 +286,37 @@ fn save<L: Layout, const SLOTS: usize, F: Files, A: Allocator + Copy>(
         return Ok(());
     };
     let saved = if options.v1_0 {
-        trie.save_v1_0_to_path_noted(files, path)
+        save_v1_0(files, trie, path)
     } else {
-        trie.save_to_path_noted(files, path)
+        save_v1_1(files, trie, path)
     };
     match saved {
+        Ok(()) => Ok(()),
+        Err(error) => Err(Fault::Save(error)),
+    }
+}
+
+/// Saves the dictionary in format 1.0.
+fn save_v1_0<L: Layout, const SLOTS: usize, F: Files, A: Allocator + Copy>(
+    files: &F,
+    trie: &Trie<L, SLOTS, A>,
+    path: &str,
+) -> Result<(), CedarPersistenceError> {
+    match trie.save_v1_0_to_path_noted(files, path) {
         Ok(_) => Ok(()),
-        Err(failed) => Err(Fault::Save(failed.error)),
+        Err(failed) => Err(failed.error),
+    }
+}
+
+/// Saves the dictionary in format 1.1.
+fn save_v1_1<L: Layout, const SLOTS: usize, F: Files, A: Allocator + Copy>(
+    files: &F,
+    trie: &Trie<L, SLOTS, A>,
+    path: &str,
+) -> Result<(), CedarPersistenceError> {
+    match trie.save_to_path_noted(files, path) {
+        Ok(_) => Ok(()),
+        Err(failed) => Err(failed.error),
     }
 }
 

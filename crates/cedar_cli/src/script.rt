@@ -225,9 +225,17 @@ fn line_room<A: Allocator + Copy>(alloc: A) -> Result<(Vec<u8, A>, Vec<u8, A>), 
     ensures room { IfOk result (λ made. HasLineRoom (vec_capacity made.0) (length made.1.items)) }
 {
     let line = Vec::with_capacity(alloc, LINE_ROOM)?;
+    let key = key_room(alloc)?;
+    Ok((line, key))
+}
+
+/// Room for the key of a line that has room.
+fn key_room<A: Allocator + Copy>(alloc: A) -> Result<Vec<u8, A>, AllocError>
+    ensures { IfOk result (λ key. length key.items ≡ 4096) }
+{
     let mut key = Vec::new(alloc);
     key.resize(KEY_ROOM, 0)?;
-    Ok((line, key))
+    Ok(key)
 }
 
 /// Takes some bytes: each byte 10 among them ends a line, and what follows the last one begins the next.
@@ -335,7 +343,7 @@ fn make_room<A: Allocator>(key: &mut Vec<u8, A>, wanted: usize) -> Result<(), Al
     ensures refused { OnErr result (length key.old.items < wanted) }
 {
     if key.len() < wanted {
-        key.resize(wanted, 0)?;
+        return key.resize(wanted, 0);
     }
     Ok(())
 }

@@ -1,4 +1,4 @@
-use Rattle.std.proofs.Common.{inr, length, refl}
+use Rattle.std.proofs.Common.{ap, arith, inr, length, refl, rules}
 use Rattle.cedarwood.specs.WatchedDevice.{device_of, has_failed}
 use Rattle.cedar_cli.specs.Command.{order_of}
 use Rattle.cedar_cli.specs.View.{view_of}
@@ -27,3 +27,9 @@ returns-clause-memory g c = λ failed. inr (c.answer_line.ensures.memory failed)
 
 pub returns-clause-told : goal.returns-clause-told
 returns-clause-told g c = on_ok c.answer_line.result c.answer_line.ensures.told
+
+pub answer_line-requires : goal.answer_line-requires
+answer_line-requires g c =
+    let enough = c.in-Ok.ensures.ok in
+    let same = ap length c.as_mut_slice.ensures.value in
+    (search rules, omega (arith, enough, same))

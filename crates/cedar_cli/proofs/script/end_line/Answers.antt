@@ -10,7 +10,7 @@ use Rattle.cedar_cli.proofs.BlockCounts.{no_blocks, within_more}
 use Rattle.cedar_cli.proofs.Bytes.{line_done, line_left, may_stop, not_begun, that_fault}
 use Rattle.cedar_cli.proofs.Runs.{short_line}
 use Rattle.cedar_cli.proofs.Newlines.{long_line_stop, open_append, taken_on_ok, stopped_on_err}
-use Rattle.cedar_cli.proofs.Faults.{fault_on, memory_fault, memory_no_limit, no_success}
+use Rattle.cedar_cli.proofs.Faults.{fault_on, memory_fault, memory_no_limit, no_success, ok_no_fault, writers_unfailed}
 use Rattle.cedarwood.proofs.GeneralLemmas.{on_ok}
 use Rattle.cedar_cli.proofs.script.end_line.Goals as goal
 
@@ -95,33 +95,31 @@ returns-in_err-answer_with_room g c =
       told = no_success _ c.from_residual.result p.0 p.1;
     }
 
-pub returns-clause-ok : goal.returns-clause-ok
-returns-clause-ok g c =
-    let old = view_of g.L.Layout.kind c.args.trie.now in
-    let new = view_of g.L.Layout.kind c.answer_with_room-2.new.trie in
-    let held = g.W.Write.contents (device_of c.args.writer.now) in
-    let holds = g.W.Write.contents (device_of c.answer_with_room-2.new.writer) in
-    let line = c.args.line.now.items in
-    let piece = c.args.piece.now in
-    let whole : c.as_slice.result.now ≡ line ++ piece = c.as_slice.ensures.value ∙ c.in-Ok.ensures.items in
-    let answered : Obeys (order_of (line ++ piece)) old new held holds = subst (λ (l : List ℕ). Obeys (order_of l) old new held holds) whole c.in_ok-answer_with_room.ensures.answer.ok in
-    subst (λ (text : List ℕ). Advances old new held holds text []) (append_assoc line piece (10 ∷ []))
-    (line_done old new held holds (line ++ piece) (open_append line piece c.requires.«open» c.requires.open_piece) answered)
-
-pub returns-clause-kept : goal.returns-clause-kept
-returns-clause-kept g c = (
-  (let room = c.requires.room.0 in let grown = c.extend_from_slice.ensures.capacity in let kept = c.clear.ensures.capacity in omega (arith, room, grown, kept)),
-  c.answer_with_room-2.ensures.kept,
-)
-
-pub returns-clause-blocks : goal.returns-clause-blocks
-returns-clause-blocks g c =
-    let line = c.args.line.now.items in
-    let piece = c.args.piece.now in
-    let whole : c.as_slice.result.now ≡ line ++ piece = c.as_slice.ensures.value ∙ c.in-Ok.ensures.items in
-    within_more (length c.as_slice.result.now) (length line + length piece) c.args.trie.now c.answer_with_room-2.new.trie (let same = ap length whole in omega (arith, same, length-append line piece)) c.answer_with_room-2.ensures.blocks
-
-pub returns-clause-told : goal.returns-clause-told
-returns-clause-told g c =
-    let whole : c.as_slice.result.now ≡ c.args.line.now.items ++ c.args.piece.now = c.as_slice.ensures.value ∙ c.in-Ok.ensures.items in
-    subst (λ (l : List ℕ). Continues (g.B.LineReports.told c.args.reports.now) (g.B.LineReports.told c.answer_with_room-2.new.reports) (bad_line_of l ∷ [])) whole c.in_ok-answer_with_room.ensures.told
+pub returns : goal.returns
+returns g c = record {
+  empty = c.clear.ensures.items;
+  kept = (
+    (let room = c.requires.room.0 in let grown = c.extend_from_slice.ensures.capacity in let kept = c.clear.ensures.capacity in omega (arith, room, grown, kept)),
+    c.answer_with_room-2.ensures.kept,
+  );
+  ok = let old = view_of g.L.Layout.kind c.args.trie.now in
+      let new = view_of g.L.Layout.kind c.answer_with_room-2.new.trie in
+      let held = g.W.Write.contents (device_of c.args.writer.now) in
+      let holds = g.W.Write.contents (device_of c.answer_with_room-2.new.writer) in
+      let line = c.args.line.now.items in
+      let piece = c.args.piece.now in
+      let whole : c.as_slice.result.now ≡ line ++ piece = c.as_slice.ensures.value ∙ c.in-Ok.ensures.items in
+      let answered : Obeys (order_of (line ++ piece)) old new held holds = subst (λ (l : List ℕ). Obeys (order_of l) old new held holds) whole c.in_ok-answer_with_room.ensures.answer.ok in
+      subst (λ (text : List ℕ). Advances old new held holds text []) (append_assoc line piece (10 ∷ []))
+      (line_done old new held holds (line ++ piece) (open_append line piece c.requires.«open» c.requires.open_piece) answered);
+  err = tt;
+  faults = writers_unfailed (has_failed c.args.writer.now) (has_failed c.answer_with_room-2.new.writer) c.in_ok-answer_with_room.ensures.faults.unfailed;
+  limit = λ same. ok_no_fault _ _ same;
+  blocks = let line = c.args.line.now.items in
+      let piece = c.args.piece.now in
+      let whole : c.as_slice.result.now ≡ line ++ piece = c.as_slice.ensures.value ∙ c.in-Ok.ensures.items in
+      within_more (length c.as_slice.result.now) (length line + length piece) c.args.trie.now c.answer_with_room-2.new.trie (let same = ap length whole in omega (arith, same, length-append line piece)) c.answer_with_room-2.ensures.blocks;
+  max_trial = c.answer_with_room-2.ensures.max_trial;
+  told = let whole : c.as_slice.result.now ≡ c.args.line.now.items ++ c.args.piece.now = c.as_slice.ensures.value ∙ c.in-Ok.ensures.items in
+      subst (λ (l : List ℕ). Continues (g.B.LineReports.told c.args.reports.now) (g.B.LineReports.told c.answer_with_room-2.new.reports) (bad_line_of l ∷ [])) whole c.in_ok-answer_with_room.ensures.told;
+}

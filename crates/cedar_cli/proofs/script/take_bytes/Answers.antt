@@ -7,7 +7,7 @@ use Rattle.cedar_cli.proofs.BlockCounts.{none_before, further_line, stopped_line
 use Rattle.device_lines.proofs.Bytes.{on_err}
 use Rattle.cedar_cli.proofs.Bytes.{that_fault}
 use Rattle.cedar_cli.proofs.Newlines.{open_append, open_none, open_at, gone_further, line_taken, line_stopped, none_taken, rest_left, rest_taken}
-use Rattle.cedar_cli.proofs.Faults.{fault_after, fault_on, memory_fault, memory_no_limit, no_success}
+use Rattle.cedar_cli.proofs.Faults.{fault_after, fault_on, memory_fault, memory_no_limit, no_success, ok_no_fault, writers_unfailed}
 use Rattle.cedar_cli.proofs.Told.{line_told, rest_told, told_none}
 use Rattle.cedar_cli.proofs.script.take_bytes.Goals as goal
 
@@ -27,12 +27,29 @@ loop-at-init g c = (
   told_none (g.B.LineReports.told c.args.reports.now) c.args.line.now.items,
 )
 
-pub returns-in-Ok-clause-ok : goal.returns-in-Ok-clause-ok
-returns-in-Ok-clause-ok g c =
-    let before = c.loop-at.invariant in
-    rw c.in-Ok.ensures.items
-    (rest_taken (view_of g.L.Layout.kind c.args.trie.now) (view_of g.L.Layout.kind c.loop-at.trie) (g.W.Write.contents (device_of c.args.writer.now)) (g.W.Write.contents (device_of c.loop-at.writer))
-    c.args.line.now.items before.0 c.loop-at.line.items c.loop-at.rest.now c.args.bytes.now before.3 before.1)
+pub returns-in-Ok : goal.returns-in-Ok
+returns-in-Ok g c = record {
+  still_open = let before = c.loop-at.invariant in
+      let rest = c.loop-at.rest.now in
+      rw c.in-Ok.ensures.items (open_append c.loop-at.line.items rest before.2 (open_none rest (sym c.in_default.ensures.first)));
+  kept = let room = c.loop-at.invariant.7 in
+      let grown = c.extend_from_slice.ensures.capacity in
+      ((let enough = room.0 in omega (arith, enough, grown)), room.1);
+  ok = let before = c.loop-at.invariant in
+      rw c.in-Ok.ensures.items
+      (rest_taken (view_of g.L.Layout.kind c.args.trie.now) (view_of g.L.Layout.kind c.loop-at.trie) (g.W.Write.contents (device_of c.args.writer.now)) (g.W.Write.contents (device_of c.loop-at.writer))
+      c.args.line.now.items before.0 c.loop-at.line.items c.loop-at.rest.now c.args.bytes.now before.3 before.1);
+  err = tt;
+  faults = writers_unfailed (has_failed c.args.writer.now) (has_failed c.loop-at.writer) c.loop-at.invariant.4;
+  limit = λ same. ok_no_fault _ _ same;
+  blocks_taken = let before = c.loop-at.invariant in
+      rest_begun before.0 c.loop-at.rest.now c.args.line.now.items c.loop-at.line.items _ c.args.bytes.now c.args.trie.now c.loop-at.trie before.6 before.1 c.in-Ok.ensures.items;
+  blocks_left = tt;
+  max_trial = c.loop-at.invariant.5;
+  told = let before = c.loop-at.invariant in
+      rw c.in-Ok.ensures.items
+      (rest_told (g.B.LineReports.told c.args.reports.now) (g.B.LineReports.told c.loop-at.reports) c.args.line.now.items before.0 c.loop-at.line.items c.loop-at.rest.now c.args.bytes.now before.8 before.1);
+}
 
 pub loop-at-preserved : goal.loop-at-preserved
 loop-at-preserved g c =
@@ -52,121 +69,64 @@ loop-at-preserved g c =
           (open_append c.loop-at.line.items (take at rest) before.2 (open_at rest at (sym c.in-Some.ensures.first))) before.8 c.in_ok-end_line.ensures.told c.in_ok-end_line.ensures.empty,
     )
 
-pub returns-in_err-end_line-clause-err : goal.returns-in_err-end_line-clause-err
-returns-in_err-end_line-clause-err g c =
-    let before = c.loop-at.invariant in
-    let rest = c.loop-at.rest.now in
-    let at = c.in-Some.at in
-    let fault = c.in_err-end_line.field-0.0 in
-    let p = err_from_is_err_and c.from_residual.result c.from_residual.ensures.1 in
-    let is : c.from_residual.result ≡ Err fault = cc (p.1, p.2) in
-    that_fault _ c.from_residual.result fault is
-    (line_stopped g.row.SLOTS c.end_line.new.trie fault (view_of g.L.Layout.kind c.args.trie.now) (view_of g.L.Layout.kind c.loop-at.trie) (view_of g.L.Layout.kind c.end_line.new.trie) (g.W.Write.contents (device_of c.args.writer.now)) (g.W.Write.contents (device_of c.loop-at.writer)) (g.W.Write.contents (device_of c.end_line.new.writer))
-    c.args.line.now.items before.0 c.loop-at.line.items (take at rest) (take (length rest - (at + 1)) (drop (at + 1) rest)) c.args.bytes.now before.3 c.in_err-end_line.ensures.err
-    (gone_further c.args.bytes.now before.0 rest at before.1 (sym c.in-Some.ensures.first)))
+pub returns-in_err-end_line : goal.returns-in_err-end_line
+returns-in_err-end_line g c = record {
+  still_open = let p = err_from_is_err_and c.from_residual.result c.from_residual.ensures.1 in
+      no_success _ c.from_residual.result p.0 p.1;
+  kept = c.end_line.ensures.kept;
+  ok = let p = err_from_is_err_and c.from_residual.result c.from_residual.ensures.1 in
+      no_success _ c.from_residual.result p.0 p.1;
+  err = let before = c.loop-at.invariant in
+      let rest = c.loop-at.rest.now in
+      let at = c.in-Some.at in
+      let fault = c.in_err-end_line.field-0.0 in
+      let p = err_from_is_err_and c.from_residual.result c.from_residual.ensures.1 in
+      let is : c.from_residual.result ≡ Err fault = cc (p.1, p.2) in
+      that_fault _ c.from_residual.result fault is
+      (line_stopped g.row.SLOTS c.end_line.new.trie fault (view_of g.L.Layout.kind c.args.trie.now) (view_of g.L.Layout.kind c.loop-at.trie) (view_of g.L.Layout.kind c.end_line.new.trie) (g.W.Write.contents (device_of c.args.writer.now)) (g.W.Write.contents (device_of c.loop-at.writer)) (g.W.Write.contents (device_of c.end_line.new.writer))
+      c.args.line.now.items before.0 c.loop-at.line.items (take at rest) (take (length rest - (at + 1)) (drop (at + 1) rest)) c.args.bytes.now before.3 c.in_err-end_line.ensures.err
+      (gone_further c.args.bytes.now before.0 rest at before.1 (sym c.in-Some.ensures.first)));
+  faults = let p = err_from_is_err_and c.from_residual.result c.from_residual.ensures.1 in
+      let same : c.end_line.result ≡ c.from_residual.result = cc (p.1, p.2, c.in_err-end_line.was) in
+      fault_on (has_failed c.args.writer.now) (has_failed c.end_line.new.writer) c.end_line.result c.from_residual.result same
+      (fault_after (has_failed c.args.writer.now) (has_failed c.loop-at.writer) (has_failed c.end_line.new.writer) c.end_line.result c.loop-at.invariant.4 c.end_line.ensures.faults);
+  limit = λ is.
+      let p = err_from_is_err_and c.from_residual.result c.from_residual.ensures.1 in
+      let was : c.end_line.result ≡ Err SlotLimit = cc (p.1, p.2, c.in_err-end_line.was, is) in c.end_line.ensures.limit was;
+  blocks_taken = let p = err_from_is_err_and c.from_residual.result c.from_residual.ensures.1 in
+      no_success _ c.from_residual.result p.0 p.1;
+  blocks_left = let before = c.loop-at.invariant in
+      let rest = c.loop-at.rest.now in
+      let at = c.in-Some.at in
+      on_err c.from_residual.result
+      (stopped_line before.0 (take at rest) (take (length rest - (at + 1)) (drop (at + 1) rest)) c.args.line.now.items c.loop-at.line.items c.args.bytes.now c.args.trie.now c.loop-at.trie c.end_line.new.trie before.6 c.end_line.ensures.blocks
+      (gone_further c.args.bytes.now before.0 rest at before.1 (sym c.in-Some.ensures.first)));
+  max_trial = c.end_line.ensures.max_trial ∙ c.loop-at.invariant.5;
+  told = let p = err_from_is_err_and c.from_residual.result c.from_residual.ensures.1 in
+      no_success _ c.from_residual.result p.0 p.1;
+}
 
-pub returns-in-Ok-clause-still_open : goal.returns-in-Ok-clause-still_open
-returns-in-Ok-clause-still_open g c =
-    let before = c.loop-at.invariant in
-    let rest = c.loop-at.rest.now in
-    rw c.in-Ok.ensures.items (open_append c.loop-at.line.items rest before.2 (open_none rest (sym c.in_default.ensures.first)))
-
-pub returns-in-Err-clause-err : goal.returns-in-Err-clause-err
-returns-in-Err-clause-err g c =
-    let before = c.loop-at.invariant in
-    let line = c.loop-at.line.items in
-    let rest = c.loop-at.rest.now in
-    let room = before.7.0 in
-    let full = c.in-Err.ensures.full in
-    let long : 8192 < length (line ++ rest) = omega (arith, room, full, c.loop-at.line.ok.0, length-append line rest) in
-    rest_left g.row.SLOTS c.loop-at.trie (view_of g.L.Layout.kind c.args.trie.now) (view_of g.L.Layout.kind c.loop-at.trie) (g.W.Write.contents (device_of c.args.writer.now)) (g.W.Write.contents (device_of c.loop-at.writer))
-    c.args.line.now.items before.0 line rest c.args.bytes.now before.3 before.1
-    (open_append line rest before.2 (open_none rest (sym c.in_default.ensures.first))) long
-
-pub returns-in_err-end_line-clause-blocks_left : goal.returns-in_err-end_line-clause-blocks_left
-returns-in_err-end_line-clause-blocks_left g c =
-    let before = c.loop-at.invariant in
-    let rest = c.loop-at.rest.now in
-    let at = c.in-Some.at in
-    on_err c.from_residual.result
-    (stopped_line before.0 (take at rest) (take (length rest - (at + 1)) (drop (at + 1) rest)) c.args.line.now.items c.loop-at.line.items c.args.bytes.now c.args.trie.now c.loop-at.trie c.end_line.new.trie before.6 c.end_line.ensures.blocks
-    (gone_further c.args.bytes.now before.0 rest at before.1 (sym c.in-Some.ensures.first)))
-
-pub returns-in-Ok-clause-told : goal.returns-in-Ok-clause-told
-returns-in-Ok-clause-told g c =
-    let before = c.loop-at.invariant in
-    rw c.in-Ok.ensures.items
-    (rest_told (g.B.LineReports.told c.args.reports.now) (g.B.LineReports.told c.loop-at.reports) c.args.line.now.items before.0 c.loop-at.line.items c.loop-at.rest.now c.args.bytes.now before.8 before.1)
-
-pub returns-in-Ok-clause-blocks_taken : goal.returns-in-Ok-clause-blocks_taken
-returns-in-Ok-clause-blocks_taken g c =
-    let before = c.loop-at.invariant in
-    rest_begun before.0 c.loop-at.rest.now c.args.line.now.items c.loop-at.line.items _ c.args.bytes.now c.args.trie.now c.loop-at.trie before.6 before.1 c.in-Ok.ensures.items
-
-pub returns-in-Err-clause-blocks_left : goal.returns-in-Err-clause-blocks_left
-returns-in-Err-clause-blocks_left g c =
-    let before = c.loop-at.invariant in
-    rest_lost before.0 c.loop-at.rest.now c.args.line.now.items c.loop-at.line.items c.args.bytes.now c.args.trie.now c.loop-at.trie before.6 before.1
-
-pub returns-in_err-end_line-clause-still_open : goal.returns-in_err-end_line-clause-still_open
-returns-in_err-end_line-clause-still_open g c =
-    let p = err_from_is_err_and c.from_residual.result c.from_residual.ensures.1 in
-    no_success _ c.from_residual.result p.0 p.1
-
-pub returns-in_err-end_line-clause-ok : goal.returns-in_err-end_line-clause-ok
-returns-in_err-end_line-clause-ok g c =
-    let p = err_from_is_err_and c.from_residual.result c.from_residual.ensures.1 in
-    no_success _ c.from_residual.result p.0 p.1
-
-pub returns-in_err-end_line-clause-told : goal.returns-in_err-end_line-clause-told
-returns-in_err-end_line-clause-told g c =
-    let p = err_from_is_err_and c.from_residual.result c.from_residual.ensures.1 in
-    no_success _ c.from_residual.result p.0 p.1
-
-pub returns-in_err-end_line-clause-blocks_taken : goal.returns-in_err-end_line-clause-blocks_taken
-returns-in_err-end_line-clause-blocks_taken g c =
-    let p = err_from_is_err_and c.from_residual.result c.from_residual.ensures.1 in
-    no_success _ c.from_residual.result p.0 p.1
-
-pub returns-in_err-end_line-clause-limit : goal.returns-in_err-end_line-clause-limit
-returns-in_err-end_line-clause-limit g c = λ is.
-    let p = err_from_is_err_and c.from_residual.result c.from_residual.ensures.1 in
-    let was : c.end_line.result ≡ Err SlotLimit = cc (p.1, p.2, c.in_err-end_line.was, is) in c.end_line.ensures.limit was
-
-pub returns-in-Err-clause-limit : goal.returns-in-Err-clause-limit
-returns-in-Err-clause-limit g c = λ same. memory_no_limit same
-
-pub returns-in-Err-clause-max_trial : goal.returns-in-Err-clause-max_trial
-returns-in-Err-clause-max_trial g c = c.loop-at.invariant.5
-
-pub returns-in-Ok-clause-max_trial : goal.returns-in-Ok-clause-max_trial
-returns-in-Ok-clause-max_trial g c = c.loop-at.invariant.5
-
-pub returns-in_err-end_line-clause-max_trial : goal.returns-in_err-end_line-clause-max_trial
-returns-in_err-end_line-clause-max_trial g c = c.end_line.ensures.max_trial ∙ c.loop-at.invariant.5
-
-pub returns-in_err-end_line-clause-kept : goal.returns-in_err-end_line-clause-kept
-returns-in_err-end_line-clause-kept g c = c.end_line.ensures.kept
-
-pub returns-in_err-end_line-clause-faults : goal.returns-in_err-end_line-clause-faults
-returns-in_err-end_line-clause-faults g c =
-    let p = err_from_is_err_and c.from_residual.result c.from_residual.ensures.1 in
-    let same : c.end_line.result ≡ c.from_residual.result = cc (p.1, p.2, c.in_err-end_line.was) in
-    fault_on (has_failed c.args.writer.now) (has_failed c.end_line.new.writer) c.end_line.result c.from_residual.result same
-    (fault_after (has_failed c.args.writer.now) (has_failed c.loop-at.writer) (has_failed c.end_line.new.writer) c.end_line.result c.loop-at.invariant.4 c.end_line.ensures.faults)
-
-pub returns-in-Ok-clause-kept : goal.returns-in-Ok-clause-kept
-returns-in-Ok-clause-kept g c =
-    let room = c.loop-at.invariant.7 in
-    let grown = c.extend_from_slice.ensures.capacity in
-    ((let enough = room.0 in omega (arith, enough, grown)), room.1)
-
-pub returns-in-Err-clause-kept : goal.returns-in-Err-clause-kept
-returns-in-Err-clause-kept g c =
-    let room = c.loop-at.invariant.7 in
-    let grown = c.extend_from_slice.ensures.capacity in
-    ((let enough = room.0 in omega (arith, enough, grown)), room.1)
-
-pub returns-in-Err-clause-faults : goal.returns-in-Err-clause-faults
-returns-in-Err-clause-faults g c =
-    fault_after (has_failed c.args.writer.now) (has_failed c.loop-at.writer) (has_failed c.loop-at.writer) (Err Memory) c.loop-at.invariant.4 (memory_fault (has_failed c.loop-at.writer))
+pub returns-in-Err : goal.returns-in-Err
+returns-in-Err g c = record {
+  still_open = tt;
+  kept = let room = c.loop-at.invariant.7 in
+      let grown = c.extend_from_slice.ensures.capacity in
+      ((let enough = room.0 in omega (arith, enough, grown)), room.1);
+  ok = tt;
+  err = let before = c.loop-at.invariant in
+      let line = c.loop-at.line.items in
+      let rest = c.loop-at.rest.now in
+      let room = before.7.0 in
+      let full = c.in-Err.ensures.full in
+      let long : 8192 < length (line ++ rest) = omega (arith, room, full, c.loop-at.line.ok.0, length-append line rest) in
+      rest_left g.row.SLOTS c.loop-at.trie (view_of g.L.Layout.kind c.args.trie.now) (view_of g.L.Layout.kind c.loop-at.trie) (g.W.Write.contents (device_of c.args.writer.now)) (g.W.Write.contents (device_of c.loop-at.writer))
+      c.args.line.now.items before.0 line rest c.args.bytes.now before.3 before.1
+      (open_append line rest before.2 (open_none rest (sym c.in_default.ensures.first))) long;
+  faults = fault_after (has_failed c.args.writer.now) (has_failed c.loop-at.writer) (has_failed c.loop-at.writer) (Err Memory) c.loop-at.invariant.4 (memory_fault (has_failed c.loop-at.writer));
+  limit = λ same. memory_no_limit same;
+  blocks_taken = tt;
+  blocks_left = let before = c.loop-at.invariant in
+      rest_lost before.0 c.loop-at.rest.now c.args.line.now.items c.loop-at.line.items c.args.bytes.now c.args.trie.now c.loop-at.trie before.6 before.1;
+  max_trial = c.loop-at.invariant.5;
+  told = tt;
+}

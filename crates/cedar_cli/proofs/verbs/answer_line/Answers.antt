@@ -10,51 +10,40 @@ use Rattle.cedar_cli.proofs.Orders.{never_memory, told, write_alone}
 use Rattle.cedar_cli.proofs.Faults.{writers_fault}
 use Rattle.cedar_cli.proofs.verbs.answer_line.Goals as goal
 
-pub returns-in-Err-clause-answer : goal.returns-in-Err-clause-answer
-returns-in-Err-clause-answer g c =
-    let e : ◌≡◌ {A = Option Order} None (order_of c.args.line.now) = rw c.in-Err.is at c.parse_line.ensures.order in
-    let d = c.args.trie.now in
-    rw (← e) (told g.L.Layout.kind None d d (g.W.Write.contents (device_of c.args.writer.now)) (g.W.Write.contents (device_of c.write_whole.new.writer)) (codes "bad line\n")
-    c.write_whole.result refl refl refl c.write_whole.ensures.ok c.write_whole.ensures.err)
+pub returns-in-Err : goal.returns-in-Err
+returns-in-Err g c = record {
+  answer = let e : ◌≡◌ {A = Option Order} None (order_of c.args.line.now) = rw c.in-Err.is at c.parse_line.ensures.order in
+      let d = c.args.trie.now in
+      rw (← e) (told g.L.Layout.kind None d d (g.W.Write.contents (device_of c.args.writer.now)) (g.W.Write.contents (device_of c.write_whole.new.writer)) (codes "bad line\n")
+      c.write_whole.result refl refl refl c.write_whole.ensures.ok c.write_whole.ensures.err);
+  faults = writers_fault (has_failed c.args.writer.now) (has_failed c.write_whole.new.writer) c.write_whole.result c.write_whole.ensures.faults;
+  memory = λ starved. absurd (never_memory _ c.write_whole.result c.write_whole.ensures.faults.cause starved);
+  limit = λ full. let alone = write_alone _ c.write_whole.result c.write_whole.ensures.faults.cause in absurd (alone.1 full);
+  blocks = no_blocks (length c.args.line.now) c.args.trie.now;
+  max_trial = refl;
+  len = c.parse_line.ensures.len;
+  told = let is : ◌≡◌ {A = Option BadLine} (Some c.in-Err.bad) (bad_line_of c.args.line.now) = rw c.in-Err.is at c.parse_line.ensures.bad in
+      subst (λ (why : Option BadLine). Continues (g.B.LineReports.told c.args.reports.now) (g.B.LineReports.told c.tell.new.self) (why ∷ [])) is c.tell.ensures;
+}
 
-pub returns-in-Err-clause-faults : goal.returns-in-Err-clause-faults
-returns-in-Err-clause-faults g c = writers_fault (has_failed c.args.writer.now) (has_failed c.write_whole.new.writer) c.write_whole.result c.write_whole.ensures.faults
-
-pub returns-in-Err-clause-memory : goal.returns-in-Err-clause-memory
-returns-in-Err-clause-memory g c = λ starved. absurd (never_memory _ c.write_whole.result c.write_whole.ensures.faults.cause starved)
-
-pub returns-in-Err-clause-limit : goal.returns-in-Err-clause-limit
-returns-in-Err-clause-limit g c = λ full. let alone = write_alone _ c.write_whole.result c.write_whole.ensures.faults.cause in absurd (alone.1 full)
-
-pub returns-in-Err-clause-blocks : goal.returns-in-Err-clause-blocks
-returns-in-Err-clause-blocks g c = no_blocks (length c.args.line.now) c.args.trie.now
-
-pub returns-in-Ok-clause-answer : goal.returns-in-Ok-clause-answer
-returns-in-Ok-clause-answer g c =
-    let key = take c.in-Ok.command.key_len c.parse_line.new.room in
-    let e : ◌≡◌ {A = Option Order} (Some (c.in-Ok.command.verb, key)) (order_of c.args.line.now) = rw c.in-Ok.is at c.parse_line.ensures.order in
-    let held = g.W.Write.contents (device_of c.args.writer.now) in
-    let holds = g.W.Write.contents (device_of c.answer_command.new.writer) in
-    subst (λ (o : Option Order). Answers g.L.Layout.kind o c.args.trie.now c.answer_command.new.trie held holds c.answer_command.result) e c.answer_command.ensures.answer
-
-pub returns-in-Ok-clause-memory : goal.returns-in-Ok-clause-memory
-returns-in-Ok-clause-memory g c = λ starved.
-    let key = take c.in-Ok.command.key_len c.parse_line.new.room in
-    let e : ◌≡◌ {A = Option Order} (Some (c.in-Ok.command.verb, key)) (order_of c.args.line.now) = rw c.in-Ok.is at c.parse_line.ensures.order in
-    subst (λ (o : Option Order). MayLackMemory g.row.SLOTS o c.answer_command.new.trie) e (c.answer_command.ensures.memory starved)
-
-pub returns-in-Ok-clause-blocks : goal.returns-in-Ok-clause-blocks
-returns-in-Ok-clause-blocks g c =
-    let key = take c.in-Ok.command.key_len c.parse_line.new.room in
-    let e : ◌≡◌ {A = Option Order} (Some (c.in-Ok.command.verb, key)) (order_of c.args.line.now) = rw c.in-Ok.is at c.parse_line.ensures.order in
-    key_blocks c.args.line.now key c.in-Ok.command.verb c.args.trie.now c.answer_command.new.trie e c.answer_command.ensures.blocks
-
-pub returns-in-Err-clause-told : goal.returns-in-Err-clause-told
-returns-in-Err-clause-told g c =
-    let is : ◌≡◌ {A = Option BadLine} (Some c.in-Err.bad) (bad_line_of c.args.line.now) = rw c.in-Err.is at c.parse_line.ensures.bad in
-    subst (λ (why : Option BadLine). Continues (g.B.LineReports.told c.args.reports.now) (g.B.LineReports.told c.tell.new.self) (why ∷ [])) is c.tell.ensures
-
-pub returns-in-Ok-clause-told : goal.returns-in-Ok-clause-told
-returns-in-Ok-clause-told g c =
-    let is : ◌≡◌ {A = Option BadLine} None (bad_line_of c.args.line.now) = rw c.in-Ok.is at c.parse_line.ensures.bad in
-    subst (λ (why : Option BadLine). Continues (g.B.LineReports.told c.args.reports.now) (g.B.LineReports.told c.tell-in-Ok.new.self) (why ∷ [])) is c.tell-in-Ok.ensures
+pub returns-in-Ok : goal.returns-in-Ok
+returns-in-Ok g c = record {
+  answer = let key = take c.in-Ok.command.key_len c.parse_line.new.room in
+      let e : ◌≡◌ {A = Option Order} (Some (c.in-Ok.command.verb, key)) (order_of c.args.line.now) = rw c.in-Ok.is at c.parse_line.ensures.order in
+      let held = g.W.Write.contents (device_of c.args.writer.now) in
+      let holds = g.W.Write.contents (device_of c.answer_command.new.writer) in
+      subst (λ (o : Option Order). Answers g.L.Layout.kind o c.args.trie.now c.answer_command.new.trie held holds c.answer_command.result) e c.answer_command.ensures.answer;
+  faults = c.answer_command.ensures.faults;
+  memory = λ starved.
+      let key = take c.in-Ok.command.key_len c.parse_line.new.room in
+      let e : ◌≡◌ {A = Option Order} (Some (c.in-Ok.command.verb, key)) (order_of c.args.line.now) = rw c.in-Ok.is at c.parse_line.ensures.order in
+      subst (λ (o : Option Order). MayLackMemory g.row.SLOTS o c.answer_command.new.trie) e (c.answer_command.ensures.memory starved);
+  limit = c.answer_command.ensures.limit;
+  blocks = let key = take c.in-Ok.command.key_len c.parse_line.new.room in
+      let e : ◌≡◌ {A = Option Order} (Some (c.in-Ok.command.verb, key)) (order_of c.args.line.now) = rw c.in-Ok.is at c.parse_line.ensures.order in
+      key_blocks c.args.line.now key c.in-Ok.command.verb c.args.trie.now c.answer_command.new.trie e c.answer_command.ensures.blocks;
+  max_trial = c.answer_command.ensures.max_trial;
+  len = c.parse_line.ensures.len;
+  told = let is : ◌≡◌ {A = Option BadLine} None (bad_line_of c.args.line.now) = rw c.in-Ok.is at c.parse_line.ensures.bad in
+      subst (λ (why : Option BadLine). Continues (g.B.LineReports.told c.args.reports.now) (g.B.LineReports.told c.tell-in-Ok.new.self) (why ∷ [])) is c.tell-in-Ok.ensures;
+}

@@ -5,9 +5,11 @@ use Rattle.cedar_cli.specs.declared.command.Verb.TheVariants.{Prefixes}
 use Rattle.cedar_cli.proofs.Orders.{told}
 use Rattle.cedar_cli.proofs.verbs.answer_prefixes.Goals as goal
 
-pub returns-clause-answer : goal.returns-clause-answer
-returns-clause-answer g c =
-    let d = c.args.trie.now in
-    told g.L.Layout.kind (Some (Prefixes, c.args.key.now)) d d (g.W.Write.contents (device_of c.args.writer.now)) (g.W.Write.contents (device_of c.write_pairs.new.writer))
-    (pairs_text c.common_prefix_iter_bytes.result.rest ++ 10 ∷ []) c.write_pairs.result refl refl
-    (ap (λ pairs. pairs_text pairs ++ 10 ∷ []) c.common_prefix_iter_bytes.ensures.rest) c.write_pairs.ensures.ok c.write_pairs.ensures.err
+pub returns : goal.returns
+returns g c = record {
+  answer = let d = c.args.trie.now in
+      told g.L.Layout.kind (Some (Prefixes, c.args.key.now)) d d (g.W.Write.contents (device_of c.args.writer.now)) (g.W.Write.contents (device_of c.write_pairs.new.writer))
+      (pairs_text c.common_prefix_iter_bytes.result.rest ++ 10 ∷ []) c.write_pairs.result refl refl
+      (ap (λ pairs. pairs_text pairs ++ 10 ∷ []) c.common_prefix_iter_bytes.ensures.rest) c.write_pairs.ensures.ok c.write_pairs.ensures.err;
+  faults = c.write_pairs.ensures.faults;
+}
