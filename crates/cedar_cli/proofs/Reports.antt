@@ -1,5 +1,5 @@
 -- What a reported fault says of a run of the program.
-use Rattle.std.proofs.Common.{◌≡◌, ◌⊎◌, ◌++◌, ℕ, Bool, true, List, Option, Ok, Err, OnErr, arith, inl, inr}
+use Rattle.std.proofs.Common.{◌≡◌, ◌++◌, ℕ, Bool, true, List, Option, Ok, Err, OnErr, arith, inl, inr}
 use Rattle.std.specs.Prelude.{OnOk, Result}
 use Rattle.cedar_cli.specs.Options.{Request}
 use Rattle.cedar_cli.specs.Statuses.{AsksForFile, EndsBy, IsReported, TellsCause, WritesOrFailed}
