@@ -117,7 +117,7 @@ void disk_close(disk_file *file) {
 }
 
 bool disk_is_inherited(const disk_file *file) {
-    return file->process != getpid();
+    return !forks_is_this(&file->process);
 }
 
 /* Opens a path as it is: the file that is there, in whatever folder. */
@@ -335,14 +335,16 @@ static bool is_empty(const disk_file *file) {
 uint32_t disk_open(disk_file *file, const char *path, uint32_t how) {
     *file = (disk_file)DISK_CLOSED;
     if (how & CEDAR_OPEN_TO_READ) return open_number(file, path, O_RDONLY);
+    forks_process process;
     bool is_it = false;
+    if (!forks_this(&process)) return CEDAR_MEMORY;
     for (int tried = 0; !is_it; tried++) {
         disk_close(file);
         if (tried == TRIED_OPENINGS) return CEDAR_STORE_LOCKED;
         uint32_t status = open_locked(file, path, flags_of(how), &is_it);
         if (status != CEDAR_OK) return status;
     }
-    file->process = getpid();
+    file->process = process;
     remove_leftover(file);
     if ((how & CEDAR_OPEN_NEW) && !is_empty(file)) return CEDAR_STORE_DEVICE;
     return sync_all(file->number) && sync_all(file->folder) ? CEDAR_OK : CEDAR_STORE_DEVICE;

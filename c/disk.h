@@ -2,21 +2,22 @@
 #ifndef ROSKVIDH_DISK_H
 #define ROSKVIDH_DISK_H
 
+#include "forks.h"
+
 #include <stdbool.h>
 #include <stddef.h>
 #include <stdint.h>
-#include <sys/types.h>
 
 /* A file that is open. It is locked for this process, unless it was opened to read. */
 typedef struct disk_file {
-    int number;       /* -1: none */
-    int folder;       /* the folder that it is in, behind all links, or -1 */
-    char *path;       /* where it is, behind all links, or NULL */
-    const char *name; /* its name in the folder: the path's end */
-    pid_t process;    /* which has opened it: a forked child writes nothing */
+    int number;            /* -1: none */
+    int folder;            /* the folder that it is in, behind all links, or -1 */
+    char *path;            /* where it is, behind all links, or NULL */
+    const char *name;      /* its name in the folder: the path's end */
+    forks_process process; /* which has opened it: a forked child writes nothing */
 } disk_file;
 
-#define DISK_CLOSED { -1, -1, NULL, NULL, 0 }
+#define DISK_CLOSED { -1, -1, NULL, NULL, FORKS_NOBODY }
 
 /* Opens the file at a path, and locks it before anything is written, by the bits of cedar_store_open_with. It and its name are on the disk
  * then. Returns a status of cedar.h. After an error the caller closes it too. */

@@ -675,8 +675,11 @@ uint32_t cedar_replace_file(const char *path, const uint8_t *bytes, size_t lengt
  * After a fork the child writes nothing to the file, and doesn't compact it. What would write returns CEDAR_STORE_LOCKED: a change that
  * doesn't wait, cedar_store_apply, cedar_store_compact, and any call but cedar_store_close that would put changes that wait on the disk.
  * Those wait on, and so does the call's own change, if it makes one: the dictionary has it. A change that only waits returns CEDAR_OK, and
- * never comes to the disk. The lock ends once the parent has closed the store, or has ended, and each such child has closed it, started
- * another program, or ended. */
+ * never comes to the disk. So it is in each child of the child, and whatever numbers these processes have: the system wipes a mark of the
+ * opener in each child (MADV_WIPEONFORK), by which they are told. Before Linux 4.14 a handler of pthread_atfork does so, which the bare
+ * call of the system passes by. The lock ends once the parent has closed the store, or has ended, and each such child has closed it,
+ * started another program, or ended. The mark is a page of memory, which all stores of a process share; the first opening takes it, but
+ * for one to read, and the process keeps it to its end. */
 
 /* A store. It is initialised with CEDAR_STORE_CLOSED, and only these calls change it. It may be moved. */
 typedef struct cedar_store {
@@ -693,7 +696,8 @@ typedef struct cedar_store {
  *
  * - CEDAR_OK.
  * - CEDAR_STORE_LOCKED if the store is open already, in another program or by another variable. Nothing was written.
- * - CEDAR_STORE_FOREIGN, CEDAR_STORE_CORRUPT, CEDAR_MEMORY or CEDAR_SLOT_LIMIT: nothing was written.
+ * - CEDAR_STORE_FOREIGN, CEDAR_STORE_CORRUPT, CEDAR_MEMORY or CEDAR_SLOT_LIMIT: nothing was written. CEDAR_MEMORY is also returned if
+ *   there is none for the mark of this process.
  * - CEDAR_STORE_DAMAGED if a record isn't whole, or has another sum, which no crash leaves. Nothing was written. cedar_store_damaged_at
  *   says where in the file it begins. Records of a file of version 1 have no sums (docs/STORE.md).
  * - CEDAR_STORE_DEVICE if a call on the file failed, or if the path has something other than a file (EINVAL): errno has the reason, and the

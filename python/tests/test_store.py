@@ -69,6 +69,39 @@ print(number)
 """
 
 
+# Opens a store as process 1 of a namespace of process numbers, and changes it in a child that is process 1 of another. Without the right to
+# make a namespace it does nothing.
+ONE_NUMBER = """
+import ctypes, os, sys
+from roskvidh import CedarError, Store
+NEW_USERS, NEW_NUMBERS = 0x10000000, 0x20000000
+unshare = ctypes.CDLL(None).unshare
+
+def ended(child):
+    return os.WEXITSTATUS(os.waitpid(child, 0)[1])
+
+if unshare(NEW_NUMBERS) != 0 and unshare(NEW_USERS | NEW_NUMBERS) != 0:
+    sys.exit(99)
+first = os.fork()
+if first != 0:
+    sys.exit(ended(first))
+store = Store(sys.argv[1])
+store[b"net"] = 7
+if unshare(NEW_NUMBERS) != 0:
+    os._exit(99)
+child = os.fork()
+if child == 0:
+    try:
+        store[b"child"] = 1
+    except CedarError as refused:
+        os._exit(refused.status + os.getpid() - 1)
+    os._exit(0)
+status = ended(child)
+store[b"nets"] = 8
+store.close()
+os._exit(status)
+"""
+
 # Changes more in a block than the file may have.
 BLOCK_LACKS_ROOM = """
 import resource, signal, sys
@@ -616,6 +649,15 @@ class Stores(unittest.TestCase):
             self.assertEqual(os.WEXITSTATUS(os.waitpid(child, 0)[1]), 47)
             self.refused(47, lambda: Store(self.path))
             s[b"nets"] = 8
+        with Store(self.path) as s:
+            self.assertEqual(dict(s), {b"net": 7, b"nets": 8})
+
+    def test_forked_with_the_same_number(self):
+        """A child isn't taken for the process that opened the store, though it has that one's number."""
+        status = subprocess.run([sys.executable, "-c", ONE_NUMBER, str(self.path)]).returncode
+        if status == 99:
+            self.skipTest("no namespace of process numbers is allowed here")
+        self.assertEqual(status, 47)
         with Store(self.path) as s:
             self.assertEqual(dict(s), {b"net": 7, b"nets": 8})
 
