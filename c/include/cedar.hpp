@@ -1,11 +1,16 @@
 // The dictionary of cedar.h as a C++17 class.
 //
 //     roskvidh::dictionary d;
-//     d.update("net", 7);
-//     d.insert("network", 8);                                   // returns nothing, as "network" held no value
-//     d.get("net");                                             // 7
+//     d.update("net", 7);                                       // replaces what is held, as insert_or_assign does
+//     d.insert({"network", 8});                                 // keeps what is held, as in a std::map
+//     d.get("net");                                             // 7, a std::optional; at("net") throws where nothing is held
 //     for (const auto &[key, value] : d.entries_with_prefix("net")) std::cout << key << ' ' << value << '\n';
 //     d.save_to_path("words.cedar");
+//
+// A key that a loop or an iterator shows is a std::string_view whose bytes are gone after the next step, and not an element that stays, as
+// in a std::map. To keep keys, put them into std::strings (or roskvidh::owned_entry), or hold the range that shows them as long:
+//
+//     const auto all = d.entries();                             // the keys' bytes stay as long as `all`
 //
 // A key is a nonempty byte string without byte 0, a value a whole number from 0 to 2147483645: it may be handed over in any type of
 // integers, and one that is out of this range is refused and not cut. All lengths and positions are bytes, counted from 0. Keys,
@@ -18,11 +23,14 @@
 // Members that aren't listed throw nothing.
 //
 //     member of a dictionary                        throws
-//     dictionary                                    CEDAR_INVALID_MAX_TRIAL, memory
+//     dictionary                                    CEDAR_INVALID_MAX_TRIAL, memory; of pairs also what from_pairs throws
 //     from_pairs                                    fault, CEDAR_INVALID_MAX_TRIAL, CEDAR_SLOT_LIMIT, memory
 //     from_sorted                                   the same, CEDAR_DUPLICATE_KEY, CEDAR_KEYS_NOT_SORTED
-//     update, insert                                fault, closed; for a key that isn't held CEDAR_SLOT_LIMIT, memory
-//     update_all                                    fault, closed, CEDAR_SLOT_LIMIT, memory
+//     update, exchange                              fault, closed; for a key that isn't held CEDAR_SLOT_LIMIT, memory
+//     insert, emplace, try_emplace,                 fault, closed, CEDAR_SLOT_LIMIT, memory
+//       insert_or_assign, update_all
+//     at                                            std::out_of_range if the key isn't held
+//     erase                                         of an iterator what a step of it throws; of a key nothing
 //     reserve, shrink_to_fit                        closed, CEDAR_SLOT_LIMIT, memory
 //     clone, save, cheapest, cheapest_by            closed, memory
 //     erase_all, prefixes, predictions, entries,    memory
@@ -49,7 +57,7 @@
 //     member of a store                             throws
 //     store                                         CEDAR_STORE_LOCKED, CEDAR_STORE_FOREIGN, CEDAR_STORE_CORRUPT, CEDAR_STORE_DAMAGED,
 //                                                   CEDAR_SLOT_LIMIT, memory, system
-//     update, insert, apply                         fault, CEDAR_SLOT_LIMIT, and what erase throws
+//     update, exchange, apply                       fault, CEDAR_SLOT_LIMIT, and what erase throws
 //     erase                                         closed, CEDAR_STORE_READ_ONLY, CEDAR_STORE_LOCKED in a forked child,
 //                                                   CEDAR_STORE_FAILED, CEDAR_STORE_TOO_LONG, CEDAR_STORE_FULL, memory, system
 //     sync, sync_every                              closed, CEDAR_STORE_LOCKED, CEDAR_STORE_FAILED, system
@@ -64,12 +72,16 @@
 #ifndef ROSKVIDH_CEDAR_HPP
 #define ROSKVIDH_CEDAR_HPP
 
+#if __cplusplus < 201703L
+#error "cedar.hpp is for C++17 or later: compile with -std=c++17"
+#else
+
 #include "cedar_basics.hpp"
 #include "cedar_completions.hpp"
 #include "cedar_entries.hpp"
+#include "cedar_lists.hpp"
 
 #include <algorithm>
-#include <array>
 #include <cerrno>
 #include <cstddef>
 #include <cstdint>
@@ -78,6 +90,7 @@
 #include <limits>
 #include <memory>
 #include <optional>
+#include <stdexcept>
 #include <string>
 #include <string_view>
 #include <system_error>
@@ -87,27 +100,9 @@
 
 namespace roskvidh {
 
-namespace detail {
-
-// The pairs of a range as C takes them: they name the bytes of its keys.
-template <class Pairs>
-std::vector<cedar_pair> pairs_of(const Pairs &pairs) {
-    static_assert(std::is_lvalue_reference_v<decltype(*std::begin(pairs))> || std::is_same_v<Pairs, roskvidh::entries>,
-                  "the pairs stand in the range, which lends them");
-    std::vector<cedar_pair> listed;
-    listed.reserve(1); // so that data() isn't null
-    for (const auto &[key, value] : pairs) {
-        static_assert(std::is_constructible_v<any_integer, decltype(value)>, "a value is an integer");
-        const std::string_view view(key);
-        listed.push_back({bytes(view), view.size(), any_integer(value).get()});
-    }
-    return listed;
-}
-
-} // namespace detail
-
-/// A mutable dictionary from byte strings to whole numbers. It is moved and not copied; clone() makes a copy. A dictionary that was moved
-/// from is closed: it holds nothing and may be assigned to; calls that store or save throw the error CEDAR_IS_CLOSED.
+/// A mutable dictionary from byte strings to whole numbers. A key that a loop over it shows is gone after the next step: the head of this
+/// file says how to keep it. It is moved and not copied; clone() makes a copy. A dictionary that was moved from is closed: it holds nothing
+/// and may be assigned to; calls that store or save throw the error CEDAR_IS_CLOSED.
 class dictionary {
 public:
     using key_type = std::string;
@@ -129,6 +124,16 @@ public:
     explicit dictionary(layout kind = layout::standard, bool ordered = true, std::int32_t max_trial = 1) {
         detail::check((kind == layout::reduced ? cedar_new_reduced : cedar_new_with)(&inside_, ordered, max_trial));
     }
+
+    /// Makes a dictionary of pairs in any order, those of a braced list or those between two iterators, as a std::map does: the first value
+    /// of a key counts. Otherwise as from_pairs, of which the last one counts.
+    dictionary(std::initializer_list<std::pair<std::string_view, any_integer>> pairs, layout kind = layout::standard, bool ordered = true,
+               std::int32_t max_trial = 1)
+        : dictionary(built_of_first(detail::pairs_of(pairs), kind, ordered, max_trial)) {}
+    template <class Iterator, std::enable_if_t<detail::shows_pairs<Iterator>, int> = 0>
+    dictionary(Iterator first, Iterator last, layout kind = layout::standard, bool ordered = true, std::int32_t max_trial = 1)
+        : dictionary(detail::with_pairs_between(
+              first, last, [&](auto pairs) { return built_of_first(std::move(pairs), kind, ordered, max_trial); })) {}
     dictionary(const dictionary &) = delete;
     dictionary &operator=(const dictionary &) = delete;
 
@@ -154,7 +159,7 @@ public:
     /// the error is that of the first one that has a fault.
     template <class Pairs = std::initializer_list<std::pair<std::string_view, any_integer>>>
     static dictionary from_sorted(const Pairs &pairs, layout kind = layout::standard, bool ordered = true, std::int32_t max_trial = 1) {
-        return built(kind == layout::reduced ? cedar_build_reduced : cedar_build, pairs, ordered, max_trial);
+        return built(kind == layout::reduced ? cedar_build_reduced : cedar_build, detail::pairs_of(pairs), ordered, max_trial);
     }
 
     /// The dictionary of pairs in any order: the last value of a key counts. The pairs are sorted, and it is built at once, faster than by
@@ -162,7 +167,7 @@ public:
     /// tested first; index() of the error is that of the first one that has a fault.
     template <class Pairs = std::initializer_list<std::pair<std::string_view, any_integer>>>
     static dictionary from_pairs(const Pairs &pairs, layout kind = layout::standard, bool ordered = true, std::int32_t max_trial = 1) {
-        return built(kind == layout::reduced ? cedar_build_unsorted_reduced : cedar_build_unsorted, pairs, ordered, max_trial);
+        return built_of_last(detail::pairs_of(pairs), kind, ordered, max_trial);
     }
 
     /// Returns an equal dictionary, with the same order, settings and layout.
@@ -180,8 +185,21 @@ public:
         detail::check(status, position);
     }
 
+    /// Stores a value at a key that holds none; what is held stays, as in a std::map. Returns an iterator at the key, and whether the value
+    /// was stored. A fault of the pair is thrown in any case. insert_or_assign replaces what is held; update does so and makes no iterator.
+    std::pair<const_iterator, bool> insert(std::string_view key, any_integer value) { return put(key, value, false); }
+    std::pair<const_iterator, bool> insert(const std::pair<std::string_view, any_integer> &one) { return put(one.first, one.second, false); }
+    template <class Pair, std::enable_if_t<detail::is_pair<Pair>, int> = 0>
+    std::pair<const_iterator, bool> insert(const Pair &one) {
+        const auto &[key, value] = one;
+        return put(std::string_view(key), any_integer(value), false);
+    }
+    std::pair<const_iterator, bool> emplace(std::string_view key, any_integer value) { return put(key, value, false); }
+    std::pair<const_iterator, bool> try_emplace(std::string_view key, any_integer value) { return put(key, value, false); }
+    std::pair<const_iterator, bool> insert_or_assign(std::string_view key, any_integer value) { return put(key, value, true); }
+
     /// As update, and returns the value that the key held before, if it held one.
-    std::optional<std::int32_t> insert(std::string_view key, any_integer value) {
+    std::optional<std::int32_t> exchange(std::string_view key, any_integer value) {
         std::size_t position = 0;
         std::int32_t before = 0;
         bool held = false;
@@ -203,6 +221,14 @@ public:
 
     /// Removes a key, and returns whether it was held. Its slots become free. It allocates nothing.
     bool erase(std::string_view key) noexcept { return cedar_erase(&inside_, detail::bytes(key), key.size()); }
+
+    /// Removes the key that an iterator is at, and returns an iterator at the next one. What else is at the key goes on from there.
+    const_iterator erase(const_iterator at) {
+        const_iterator next = at;
+        ++next;
+        erase(at->key);
+        return next;
+    }
 
     /// Removes the keys of a range, as of std::string_view, one after another, and returns how many of them were held. It is faster than as
     /// many calls of erase if the dictionary is large and the keys come in no order. It allocates a list of the keys.
@@ -237,11 +263,29 @@ public:
         return value;
     }
 
+    /// Returns the value at a key, and throws std::out_of_range if it isn't held. It costs what get does.
+    std::int32_t at(std::string_view key) const {
+        const std::optional<std::int32_t> held = get(key);
+        if (!held) throw std::out_of_range("the dictionary doesn't hold the key");
+        return *held;
+    }
+
+    /// Returns 1 if a key is held, and 0 otherwise. It costs what get does.
+    std::size_t count(std::string_view key) const noexcept { return contains(key) ? 1 : 0; }
+
     /// Returns whether a key is held. It costs what get does.
     bool contains(std::string_view key) const noexcept {
         const cedar_dictionary mine = inside_;
         return cedar_contains(&mine, detail::bytes(key), key.size());
     }
+
+    /// Whether two dictionaries hold the same keys with the same values, in whatever order, layout and settings: one is gone through, and
+    /// its keys are looked up in the other. Throws std::bad_alloc.
+    friend bool operator==(const dictionary &one, const dictionary &other) {
+        if (one.size() != other.size()) return false;
+        return std::all_of(one.begin(), one.end(), [&](const entry &each) { return other.get(each.key) == each.value; });
+    }
+    friend bool operator!=(const dictionary &one, const dictionary &other) { return !(one == other); }
 
     /// Returns how many keys are held. The number is kept, so this costs the same for all dictionaries.
     std::size_t size() const noexcept {
@@ -288,7 +332,7 @@ public:
     /// Returns the keys that are prefixes of a text, shortest first: for each its value, and its length in bytes. It goes along the text
     /// once, or if there are 64 or more about twice.
     std::vector<match> prefixes(std::string_view text) const {
-        return walked(cedar_prefixes_from, text, unlimited);
+        return detail::walked(inside_, cedar_prefixes_from, text, unlimited);
     }
 
     /// Returns the longest key that is a prefix of a text: its value, and its length in bytes. It allocates nothing.
@@ -302,7 +346,7 @@ public:
     /// Returns the keys that begin with a text, in iteration order, at most `most` of them: for each its value, and how many bytes the
     /// whole key has. It goes over these once, or if they are 64 or more about twice, and over no others.
     std::vector<match> predictions(std::string_view text, std::size_t most = unlimited) const {
-        return walked(cedar_predictions_from, text, most);
+        return detail::walked(inside_, cedar_predictions_from, text, most);
     }
 
     /// Returns how many keys begin with a text. It visits each node below the text's, and allocates nothing.
@@ -429,14 +473,14 @@ public:
     /// only if more than 256 keys begin at one position.
     template <class Callable>
     void scan(std::string_view text, Callable &&callable) const {
-        told(cedar_scan, text, [&callable](const cedar_found &one) { return detail::tell(callable, one); });
+        detail::told(inside_, cedar_scan, text, [&callable](const cedar_found &one) { return detail::tell(callable, one); });
     }
 
     /// Calls `callable(token)` for the tokens that a text is cut into: at each position the longest key that begins there, or otherwise one
     /// byte, which has no value. If `callable` returns a bool, false ends it. Otherwise as scan, except that it allocates nothing.
     template <class Callable>
     void segment(std::string_view text, Callable &&callable) const {
-        told(cedar_segment, text, [&callable](const cedar_found &one) { return detail::tell(callable, detail::token_of(one)); });
+        detail::told(inside_, cedar_segment, text, [&callable](const cedar_found &one) { return detail::tell(callable, detail::token_of(one)); });
     }
 
     /// Calls `callable(occurrence)` for the keywords of a text, leftmost longest: of the keys that begin first the longest, then the same
@@ -444,7 +488,7 @@ public:
     /// nothing.
     template <class Callable>
     void keywords(std::string_view text, Callable &&callable) const {
-        told(cedar_keywords, text, [&callable](const cedar_found &one) { return detail::tell(callable, one); });
+        detail::told(inside_, cedar_keywords, text, [&callable](const cedar_found &one) { return detail::tell(callable, one); });
     }
 
     /// Cuts a text into the tokens whose costs have the least sum: a key costs its value, and a byte without a key `unknown`. If
@@ -522,8 +566,6 @@ public:
     }
 
 private:
-    template <class Found>
-    using walk = std::size_t (*)(const cedar_dictionary *, const std::uint8_t *, std::size_t, std::size_t *, Found *, std::size_t);
     using build = std::uint32_t (*)(cedar_dictionary *, bool, std::int32_t, const cedar_pair *, std::size_t, std::size_t *);
 
     struct closed {};
@@ -546,10 +588,18 @@ private:
         return detail::page::since({&inside_, {}, std::move(end)}, key, is_within);
     }
 
-    // What a build makes of the pairs of a range.
-    template <class Pairs>
-    static dictionary built(build call, const Pairs &pairs, bool ordered, std::int32_t max_trial) {
-        const std::vector<cedar_pair> listed = detail::pairs_of(pairs);
+    // Stores a value at a key that holds none, or at any. The iterator is made first: without memory for it nothing is stored.
+    std::pair<const_iterator, bool> put(std::string_view key, any_integer value, bool replaces) {
+        const std::optional<std::int32_t> held = get(key);
+        const bool is_stored = !held || replaces;
+        if (!is_stored && value.get() < 0) detail::check(CEDAR_INVALID_VALUE);
+        const_iterator at(detail::page::one({&inside_, {}, std::nullopt}, key, is_stored ? value.get() : *held));
+        if (is_stored) update(key, value);
+        return {std::move(at), !held};
+    }
+
+    // What a build makes of pairs.
+    static dictionary built(build call, const std::vector<cedar_pair> &listed, bool ordered, std::int32_t max_trial) {
         dictionary made{closed()};
         std::size_t position = 0;
         const std::uint32_t status = call(&made.inside_, ordered, max_trial, listed.data(), listed.size(), &position);
@@ -557,39 +607,14 @@ private:
         return made;
     }
 
-    // The first results of a walk, as far as they are wanted, in pieces that double: each goes past those before it again.
-    std::vector<match> walked(walk<match> call, std::string_view text, std::size_t most) const {
-        const cedar_dictionary mine = inside_;
-        std::vector<match> found;
-        std::size_t next = 0;
-        for (std::size_t room = std::min<std::size_t>(most, 64);; room = std::min(most, 2 * room)) {
-            found.resize(room + 1); // so that data() isn't null
-            call(&mine, detail::bytes(text), text.size(), &next, found.data() + next, room - next);
-            if (next < room || room == most) break;
-        }
-        found.resize(next);
-        return found;
+    // The dictionary of pairs in any order, of which the last one of a key counts, or the first one: then they are turned round, unless one
+    // has a fault, which is that of the first that has one.
+    static dictionary built_of_last(const std::vector<cedar_pair> &listed, layout kind, bool ordered, std::int32_t max_trial) {
+        return built(kind == layout::reduced ? cedar_build_unsorted_reduced : cedar_build_unsorted, listed, ordered, max_trial);
     }
-
-    // Tells a text in pieces. Where none fits, one position has more keys than there is room.
-    template <class Tell>
-    void told(walk<occurrence> call, std::string_view text, Tell tell) const {
-        std::array<cedar_found, 256> first{};
-        std::vector<cedar_found> more;
-        cedar_found *found = first.data();
-        std::size_t room = first.size();
-        for (std::size_t next = 0; next < text.size();) {
-            const cedar_dictionary mine = inside_; // `tell` may have changed it
-            const std::size_t count = call(&mine, detail::bytes(text), text.size(), &next, found, room);
-            for (std::size_t i = 0; i < count; ++i) {
-                if (!tell(found[i])) return;
-            }
-            if (count == 0 && next < text.size()) {
-                room *= 2;
-                more.resize(room);
-                found = more.data();
-            }
-        }
+    static dictionary built_of_first(std::vector<cedar_pair> listed, layout kind, bool ordered, std::int32_t max_trial) {
+        if (cedar_faulty_pair(listed.data(), listed.size()) == listed.size()) std::reverse(listed.begin(), listed.end());
+        return built_of_last(listed, kind, ordered, max_trial);
     }
 
     // A const member reads by a copy of its own, since C gives the variable to one call at a time.
@@ -658,10 +683,10 @@ public:
     /// Stores a value at a key, and replaces the value that the key holds, if any. After a std::system_error, if failed() is true then, the
     /// dictionary has the change, and the file has it or not: from then on changes throw CEDAR_STORE_FAILED, until compact() has written
     /// all to a new file. If it isn't, there was no room, and nothing has changed (cedar.h). Nor has it after any other error.
-    void update(std::string_view key, any_integer value) { insert(key, value); }
+    void update(std::string_view key, any_integer value) { exchange(key, value); }
 
     /// As update, and returns the value that the key held before, if it held one.
-    std::optional<std::int32_t> insert(std::string_view key, any_integer value) {
+    std::optional<std::int32_t> exchange(std::string_view key, any_integer value) {
         std::size_t position = 0;
         std::int32_t before = 0;
         bool held = false;
@@ -760,5 +785,7 @@ private:
 } // namespace roskvidh
 
 #include "cedar_scanner.hpp"
+
+#endif // C++17
 
 #endif

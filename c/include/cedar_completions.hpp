@@ -107,8 +107,10 @@ public:
     /// The end of every range.
     reversed_iterator() = default;
 
-    entry operator*() const noexcept { return *shown_; }
-    pointer operator->() const noexcept { return pointer(**this); }
+    entry operator*() const & noexcept { return *shown_; }
+    passing_entry operator*() const && { return {passing_key(shown_->key), shown_->value}; }
+    pointer operator->() const & noexcept { return pointer(**this); }
+    passing_value operator->() const && noexcept { return passing_value(shown_->value); }
 
     /// Goes on to the entry before this one. Throws std::bad_alloc; CEDAR_IS_CLOSED; and CEDAR_NOT_ASCENDING if the dictionary was assigned
     /// to or swapped meanwhile, and its labels don't ascend. Then it stays where it was.

@@ -29,8 +29,8 @@ inline constexpr bool holds_value =
 } // namespace detail
 
 /// A key and its value, as a range shows them: structured bindings give both. The key's bytes are those of the range: entry_iterator says
-/// how long they stay. It converts to a std::pair whose first part can be made of a std::string_view, as that of a
-/// std::map<std::string, int> can.
+/// how long they stay, and an owned_entry keeps its own. It converts to a std::pair whose first part can be made of a std::string_view, as
+/// that of a std::map<std::string, int> can.
 struct entry {
     std::string_view key;
     std::int32_t value;
@@ -50,7 +50,57 @@ struct owned_entry {
     owned_entry() = default;
     owned_entry(std::string kept_key, std::int32_t kept_value) : key(std::move(kept_key)), value(kept_value) {}
     explicit owned_entry(const entry &shown) : key(shown.key), value(shown.value) {}
-    operator entry() const noexcept { return {key, value}; }
+    operator entry() const & noexcept { return {key, value}; }
+    operator entry() const && = delete; // the entry would show a key that is gone
+};
+
+/// A key that keeps its bytes, of an iterator that ends where it is looked at. It is compared and printed as they are, and converts to a
+/// std::string. It converts to no std::string_view, which might be looked at once the key is gone.
+class passing_key {
+public:
+    explicit passing_key(std::string_view shown) : kept_(shown) {}
+    operator std::string() const { return kept_; }
+    operator std::string_view() const = delete; // keep the key in a std::string, or the iterator in a variable
+
+    friend bool operator==(const passing_key &one, std::string_view other) noexcept { return one.kept_ == other; }
+    friend bool operator==(std::string_view one, const passing_key &other) noexcept { return other == one; }
+    friend bool operator==(const passing_key &one, const passing_key &other) noexcept { return one.kept_ == other.kept_; }
+    friend bool operator!=(const passing_key &one, std::string_view other) noexcept { return !(one == other); }
+    friend bool operator!=(std::string_view one, const passing_key &other) noexcept { return !(other == one); }
+    friend bool operator!=(const passing_key &one, const passing_key &other) noexcept { return !(one == other); }
+
+    template <class Stream, class = decltype(std::declval<Stream &>() << std::declval<const std::string &>())>
+    friend Stream &operator<<(Stream &to, const passing_key &key) {
+        to << key.kept_;
+        return to;
+    }
+
+private:
+    std::string kept_;
+};
+
+/// What the arrow of an iterator leads to that isn't in a variable, as `d.find("net")->value`: it has no key, which would be gone behind
+/// the statement. Put the iterator into a variable to look at its key, or take (*at).key, which keeps its bytes.
+class passing_value {
+public:
+    explicit passing_value(std::int32_t shown) noexcept : value(shown) {}
+    const passing_value *operator->() const noexcept { return this; }
+
+    std::int32_t value : 32; ///< a field of bits, so that a reference to it has a copy
+};
+
+/// What a star shows of an iterator that isn't in a variable, as `*d.find("net")` or `*at++`.
+struct passing_entry {
+    passing_key key;
+    std::int32_t value;
+
+    operator owned_entry() const { return {key, value}; }
+    template <class First, class Second,
+              std::enable_if_t<std::is_constructible_v<First, std::string> && !std::is_same_v<First, std::string_view> &&
+                                   detail::holds_value<Second>, int> = 0>
+    operator std::pair<First, Second>() const {
+        return {First(std::string(key)), static_cast<Second>(value)};
+    }
 };
 
 namespace detail {
@@ -103,7 +153,11 @@ public:
     static std::shared_ptr<page> only(bounds of, std::string_view key) {
         const cedar_dictionary mine = *of.dictionary;
         std::int32_t value = 0;
-        if (!cedar_get(&mine, bytes(key), key.size(), &value)) return nullptr;
+        return cedar_get(&mine, bytes(key), key.size(), &value) ? one(std::move(of), key, value) : nullptr;
+    }
+
+    // A page of this entry alone.
+    static std::shared_ptr<page> one(bounds of, std::string_view key, std::int32_t value) {
         std::shared_ptr<page> taken = std::make_shared<page>(std::move(of), page_room{1, key.size()});
         taken->found_[0] = {0, key.size(), value};
         taken->count_ = 1;
@@ -219,8 +273,9 @@ private:
 /// moved away, the next page throws CEDAR_IS_CLOSED; if it is assigned to or swapped, the next page has what it holds then.
 ///
 /// A key's bytes stay as long as an iterator is at the key or before it on its way, or as the range that the iterator comes from
-/// (`entries`) lives. Two iterators are equal if both are at the end, or if they are at equal keys. An iterator, its copies and its range
-/// are used by one thread at a time.
+/// (`entries`) lives. So an iterator that isn't in a variable, as what find returns, shows its entry by a passing_entry, which keeps the
+/// key, and its arrow leads to the value alone. Two iterators are equal if both are at the end, or if they are at equal keys. An iterator,
+/// its copies and its range are used by one thread at a time.
 class entry_iterator {
 public:
     using iterator_concept = std::forward_iterator_tag;
@@ -242,8 +297,13 @@ public:
     /// The end of every range.
     entry_iterator() = default;
 
-    entry operator*() const noexcept { return page_->at(index_); }
-    pointer operator->() const noexcept { return pointer(**this); }
+    entry operator*() const & noexcept { return page_->at(index_); }
+    passing_entry operator*() const && {
+        const entry shown = page_->at(index_);
+        return {passing_key(shown.key), shown.value};
+    }
+    pointer operator->() const & noexcept { return pointer(**this); }
+    passing_value operator->() const && noexcept { return passing_value(page_->at(index_).value); }
 
     /// Goes on to the next entry. Throws std::bad_alloc; CEDAR_IS_CLOSED; and CEDAR_NOT_ASCENDING if labels don't ascend and it comes from
     /// find, or the dictionary was assigned to or swapped meanwhile. Then it stays where it was.

@@ -15,7 +15,10 @@ std::uint64_t shown(const roskvidh::dictionary &d) {
     for (const auto &one : d) add(one);
     for (const auto &one : d.entries_with_prefix("1")) add(one);
     for (const auto &one : d.range("2", "77")) add(one);
-    for (int i = 0; i < KEYS; i += 100) add(*d.find(std::to_string(i)));
+    for (int i = 0; i < KEYS; i += 100) {
+        const auto at = d.find(std::to_string(i));
+        add(*at);
+    }
     return sum;
 }
 

@@ -167,7 +167,7 @@ void each_member(layout kind) {
     dictionary d(kind);
     CHECK(d.kind() == kind && d.is_open() && d.empty() && d.size() == 0 && listed(d.entries()).empty());
     d.update("net", 7);
-    CHECK(d.insert("network", 8) == std::nullopt && d.insert("network", 9) == 8 && d.insert("no", CEDAR_MAX_VALUE) == std::nullopt);
+    CHECK(d.exchange("network", 8) == std::nullopt && d.exchange("network", 9) == 8 && d.exchange("no", CEDAR_MAX_VALUE) == std::nullopt);
     d.update_all({{"new", 1}, {"network", 8}, {"new", 2}});
     d.update_all(Plain{{"a", 5}});
     CHECK(d.size() == 5 && !d.empty() && d.get("net") == 7 && d.get("new") == 2 && d.get("ne") == std::nullopt);
@@ -199,7 +199,7 @@ void each_member(layout kind) {
     CHECK(keys_of(d.within_text("n\xc3\xa4t", edits::one)) == Pairs({{"net", 7}}) && d.within("n\xc3\xa4t", edits::one).empty());
     CHECK(keys_of(d.completions_within_text("n\xc3\xa4t", edits::one)) == Pairs({{"net", 7}, {"network", 8}}));
     refused(CEDAR_QUERY_NOT_UTF8, {}, "the query is not UTF-8", [&] { (void)d.within_text("n\xc3", edits::one); });
-    CHECK(listed(d.reversed()) == Pairs(all.rbegin(), all.rend()) && d.rbegin()->key == "no" && std::next(d.rbegin(), 4) == d.rend());
+    CHECK(listed(d.reversed()) == Pairs(all.rbegin(), all.rend()) && (*d.rbegin()).key == "no" && std::next(d.rbegin(), 4) == d.rend());
     CHECK(listed(d.reversed_range("net", "new")) == Pairs({{"network", 8}, {"net", 7}}) && d.reversed_range("a", "b").empty());
     CHECK(listed(d.reversed_with_prefix("ne")) == Pairs({{"new", 2}, {"network", 8}, {"net", 7}}) && d.reversed_range("a", "").empty());
     const auto longest = d.longest_match("networks");
@@ -304,7 +304,7 @@ void refusals(layout kind) {
     // Each with where the pair stands among the many that it is given.
     const std::pair<std::function<void(std::string_view, std::int32_t)>, std::string> stores[] = {
         {[&](auto key, auto value) { d.update(key, value); }, ""},
-        {[&](auto key, auto value) { d.insert(key, value); }, ""},
+        {[&](auto key, auto value) { d.exchange(key, value); }, ""},
         {[&](auto key, auto value) { d.update_all({{"a", 1}, {key, value}}); }, "pair 1"},
         {[&](auto key, auto value) { dictionary::from_sorted({{key, value}}, kind); }, "pair 0"},
         {[&](auto key, auto value) { dictionary::from_pairs({{"b", 2}, {"a", 1}, {key, value}, {"", 1}}, kind); }, "pair 2"},
@@ -353,7 +353,7 @@ void moves(layout kind) {
     CHECK(keywords_in(first, "a").empty());
     const char *const text = "the dictionary is closed";
     refused(CEDAR_IS_CLOSED, {}, text, [&] { first.update("a", 1); });
-    refused(CEDAR_IS_CLOSED, {}, text, [&] { first.insert("a", 1); });
+    refused(CEDAR_IS_CLOSED, {}, text, [&] { first.exchange("a", 1); });
     refused(CEDAR_IS_CLOSED, {}, text, [&] { first.update_all({{"a", 1}}); });
     refused(CEDAR_IS_CLOSED, {}, text, [&] { first.reserve(1); });
     refused(CEDAR_IS_CLOSED, {}, text, [&] { (void)first.save(); });
@@ -589,7 +589,7 @@ void stores(layout kind, const std::string &folder) {
         roskvidh::store s(path, kind);
         CHECK(s.words().empty() && s.words().kind() == kind && !s.failed());
         s.update("net", 7);
-        CHECK(s.insert("net", 8) == 7 && !s.insert("network", 9) && s.erase("net") && !s.erase("net"));
+        CHECK(s.exchange("net", 8) == 7 && !s.exchange("network", 9) && s.erase("net") && !s.erase("net"));
         refused(CEDAR_NUL_BYTE, 2, "cedar keys must not contain the terminal byte 0x00 (at byte 2)", [&] { s.update(std::string_view("ne\0t", 4), 1); });
         refused(CEDAR_INVALID_VALUE, std::nullopt, "cedar value is outside the supported range 0..=2147483645", [&] { s.update("net", -1); });
         roskvidh::store moved(std::move(s));
@@ -750,7 +750,7 @@ void random_calls(layout kind, long count) {
             plain[key] = value;
             break;
         case 1:
-            CHECK(d.insert(key, value) == before);
+            CHECK(d.exchange(key, value) == before);
             plain[key] = value;
             break;
         case 2:
