@@ -11,6 +11,8 @@ from .words import Stats, Words
 
 K = TypeVar("K", bytes, str)
 Self = TypeVar("Self", bound="Cedar[Any]")
+OfBytes = TypeVar("OfBytes", bound="Cedar[bytes]")
+OfTexts = TypeVar("OfTexts", bound="Cedar[str]")
 Pairs = Union[Mapping[K, int], Iterable[Tuple[K, int]]]
 
 class Cedar(Words[K]):
@@ -73,6 +75,25 @@ class Cedar(Words[K]):
             self._open(text, ordered, reduced, max_trial)
             self._update(_pairs_of(pairs))
 
+    # What is made is of the class that makes it: the first two say so of a class with keys of one type, the others of Cedar itself.
+    @overload
+    @classmethod
+    def from_sorted(
+        cls: Type[OfBytes],
+        pairs: Pairs[bytes],
+        *,
+        text: Literal[False] = ...,
+        ordered: bool = ...,
+        reduced: bool = ...,
+        max_trial: int = ...,
+    ) -> OfBytes: ...
+
+    @overload
+    @classmethod
+    def from_sorted(
+        cls: Type[OfTexts], pairs: Pairs[str], *, text: Literal[True], ordered: bool = ..., reduced: bool = ..., max_trial: int = ...
+    ) -> OfTexts: ...
+
     @overload
     @classmethod
     def from_sorted(
@@ -103,6 +124,14 @@ class Cedar(Words[K]):
         made = cls.__new__(cls)
         made._build(text, ordered, reduced, max_trial, _pairs_of(pairs))
         return made
+
+    @overload
+    @classmethod
+    def load(cls: Type[OfBytes], source: Source, *, text: Literal[False] = ..., memory_limit: int = ...) -> OfBytes: ...
+
+    @overload
+    @classmethod
+    def load(cls: Type[OfTexts], source: Source, *, text: Literal[True], memory_limit: int = ...) -> OfTexts: ...
 
     @overload
     @classmethod

@@ -12,6 +12,7 @@ from .cedar import Cedar, _each_pair, _pairs_of, _store_each
 
 K = TypeVar("K", bytes, str)
 V = TypeVar("V")
+D = TypeVar("D")
 Self = TypeVar("Self", bound="CedarMap[Any, Any]")
 Given = Union[Mapping[K, V], Iterable[Tuple[K, V]]]
 
@@ -84,6 +85,12 @@ class CedarMap(MutableMapping[K, V]):
             if value is not _ABSENT:
                 return value
 
+    @overload
+    def get(self, key: K) -> Optional[V]: ...
+
+    @overload
+    def get(self, key: K, default: Union[V, D]) -> Union[V, D]: ...
+
     def get(self, key: K, default: Any = None) -> Any:
         """Returns the value of a key, or the default if the key isn't held.
 
@@ -135,6 +142,12 @@ class CedarMap(MutableMapping[K, V]):
             number = ids.pop(key)
             del values[number]
 
+    @overload
+    def pop(self, key: K) -> V: ...
+
+    @overload
+    def pop(self, key: K, default: Union[V, D]) -> Union[V, D]: ...
+
     def pop(self, key: K, default: Any = _ABSENT) -> Any:
         """Removes a key and returns its value. If it isn't held, returns the default, or raises KeyError without one.
 
@@ -157,6 +170,12 @@ class CedarMap(MutableMapping[K, V]):
             ids, values = self._held
             key, number = ids.popitem()
             return key, values.pop(number)
+
+    @overload
+    def setdefault(self: "CedarMap[K, Optional[V]]", key: K, default: None = None) -> Optional[V]: ...
+
+    @overload
+    def setdefault(self, key: K, default: V) -> V: ...
 
     def setdefault(self, key: K, default: Any = None) -> Any:
         """Returns the value of a key. If it isn't held, stores the default first."""
@@ -348,14 +367,12 @@ class _View(Generic[K, V]):
     def _ids(self) -> KeysView[K]:
         return self._mapping._held[0].keys(self._prefix)
 
-    def __iter__(self) -> Iterator[Any]:
-        return self._mapping._pairs(self._prefix)
-
     def __len__(self) -> int:
         return len(self._ids())
 
     def __repr__(self) -> str:
-        return f"{type(self).__name__}({list(self)})"
+        shown: Iterable[Any] = self  # type: ignore[assignment]  # the three are iterables
+        return f"{type(self).__name__}({list(shown)})"
 
 
 class Keys(_View[K, Any], KeysView[K]):
@@ -386,6 +403,9 @@ class Items(_View[K, V], ItemsView[K, V]):
     """The keys with their values."""
 
     __slots__ = ("_prefix",)
+
+    def __iter__(self) -> Iterator[Tuple[K, V]]:
+        return self._mapping._pairs(self._prefix)
 
     def __contains__(self, item: object) -> bool:
         if not (isinstance(item, tuple) and len(item) == 2 and item[0] in self._ids()):

@@ -1,6 +1,6 @@
 """What keys(), values() and items() return: views of a dictionary, or of its keys that begin with a prefix."""
 
-from typing import TYPE_CHECKING, Any, Generic, ItemsView, Iterator, KeysView, Optional, Tuple, TypeVar, ValuesView
+from typing import TYPE_CHECKING, Any, Generic, ItemsView, Iterable, Iterator, KeysView, Optional, Tuple, TypeVar, ValuesView
 
 if TYPE_CHECKING:
     from .words import Words
@@ -16,7 +16,6 @@ class _View(Generic[K]):
     __slots__ = ()
     _mapping: "Words[K]"
     _prefix: Optional[K]
-    _kind: int
 
     def __init__(self, cedar: "Words[K]", prefix: Optional[K] = None) -> None:
         self._mapping = cedar  # type: ignore[misc]  # the three have both slots
@@ -25,11 +24,9 @@ class _View(Generic[K]):
     def __len__(self) -> int:
         return len(self._mapping) if self._prefix is None else self._mapping._count(self._prefix)
 
-    def __iter__(self) -> Iterator[Any]:
-        return self._mapping._walk(self._prefix, self._kind)
-
     def __repr__(self) -> str:
-        return f"{type(self).__name__}({list(self)})"
+        shown: Iterable[Any] = self  # type: ignore[assignment]  # the three are iterables
+        return f"{type(self).__name__}({list(shown)})"
 
     def _has_prefix(self, key: Any) -> bool:
         return self._prefix is None or key[: len(self._prefix)] == self._prefix
@@ -39,7 +36,9 @@ class Keys(_View[K], KeysView[K]):
     """The keys."""
 
     __slots__ = ("_prefix",)
-    _kind = KEYS
+
+    def __iter__(self) -> Iterator[K]:
+        return self._mapping._walk(self._prefix, KEYS)
 
     def __contains__(self, key: object) -> bool:
         return key in self._mapping and self._has_prefix(key)
@@ -49,7 +48,9 @@ class Values(_View[K], ValuesView[int]):
     """The values, in the order of the keys."""
 
     __slots__ = ("_prefix",)
-    _kind = _VALUES
+
+    def __iter__(self) -> Iterator[int]:
+        return self._mapping._walk(self._prefix, _VALUES)
 
     def __contains__(self, value: object) -> bool:
         return any(held == value for held in self)
@@ -59,7 +60,9 @@ class Items(_View[K], ItemsView[K, int]):
     """The keys with their values."""
 
     __slots__ = ("_prefix",)
-    _kind = _ITEMS
+
+    def __iter__(self) -> Iterator[Tuple[K, int]]:
+        return self._mapping._walk(self._prefix, _ITEMS)
 
     def __contains__(self, item: object) -> bool:
         if not (isinstance(item, tuple) and len(item) == 2):

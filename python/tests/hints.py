@@ -1,4 +1,5 @@
-"""What mypy has to accept: the hints of a program's own variables. Nothing here is run."""
+"""What mypy has to accept: the hints of a program's own variables. What it has to refuse is marked with the kind of its error, and mypy says
+of a mark that it isn't needed, if it accepts the line. Nothing here is run."""
 
 from typing import Any, Dict, Iterator, List, Mapping, MutableMapping, Optional, Tuple
 
@@ -58,6 +59,51 @@ def stores(path: str) -> None:
     reader: Store[bytes] = Store(path, mode="r")
     found: int = reader[b"net"]
     print(found)
+
+
+class Words(Cedar[str]):
+    def longest(self) -> int:
+        return max(map(len, self))
+
+
+class Codes(Cedar[bytes]):
+    def lowest(self) -> int:
+        return min(self.values())
+
+
+def subclasses(path: str) -> None:
+    words = Words.load(path, text=True)
+    codes = Codes.load(path)
+    print(words.longest(), codes.lowest(), Words.from_sorted({"net": 7}, text=True).longest(), Codes.from_sorted({b"net": 7}).lowest())
+    print(words.copy().longest(), (words | {"ten": 9}).longest())
+    plain = Cedar.load(path)
+    texts = Cedar.load(path, text=True)
+    plain["net"] = 7  # type: ignore[index]
+    texts[b"net"] = 7  # type: ignore[index]
+    plain.lowest()  # type: ignore[attr-defined]
+
+
+def views_have_types(d: Cedar[str], routes: CedarMap[str, List[str]], store: Store[bytes]) -> None:
+    for key, value in d.items("n"):
+        value.upper()  # type: ignore[attr-defined]
+        key + 1  # type: ignore[operator]
+    for key in d.keys("n"):
+        key.decode()  # type: ignore[attr-defined]
+    for value in d.values("n"):
+        value.upper()  # type: ignore[attr-defined]
+    for code, number in store.items():
+        code.encode()  # type: ignore[attr-defined]
+        number.upper()  # type: ignore[attr-defined]
+    for route, names in routes.items("/"):
+        route.decode()  # type: ignore[attr-defined]
+        names.upper()  # type: ignore[attr-defined]
+    for names in routes.values("/"):
+        names.upper()  # type: ignore[attr-defined]
+    routes.get("/").sort()  # type: ignore[union-attr]
+    routes.pop("/").upper()  # type: ignore[attr-defined]
+    routes.setdefault("/", []).upper()  # type: ignore[attr-defined]
+    held: Optional[List[str]] = routes.get("/")
+    print(held, routes.get("/", 5), routes.pop("/", None), routes.setdefault("/", ["home"])[0].upper())
 
 
 def matches_are_tuples(d: Cedar[str]) -> None:
