@@ -1,24 +1,10 @@
 /* Completes the beginnings of words: complete WORDS BEGINNING.. prints the first ten words of a file that begin with each, with their
  * numbers, and a line `..` if there are more. If none does, it prints those that begin with something one edit away, behind a `~`. Each
- * line of the file is a word of at most 99 bytes, a tab, and a number. */
-#include "cedar.h"
+ * line of the file is a word of at most 99 bytes, a tab, and a number: if one isn't, it says which, and ends with status 1. */
+#include "word_list.h"
 #include <inttypes.h>
-#include <stdio.h>
-#include <string.h>
 
-enum { MOST_SHOWN = 10, WORD_ROOM = 100 };
-
-static const uint8_t *bytes_of(const char *text) { return (const uint8_t *)text; }
-
-static uint32_t read_words(cedar *d, FILE *file) {
-    char word[WORD_ROOM];
-    int32_t number;
-    uint32_t status = cedar_new(d);
-    while (status == CEDAR_OK && fscanf(file, " %99[^\t\n] %" SCNd32, word, &number) == 2) {
-        status = cedar_update(d, bytes_of(word), strlen(word), number, NULL);
-    }
-    return status;
-}
+enum { MOST_SHOWN = 10 };
 
 /* The words that begin with something one edit away from what was typed: each call goes on behind the word before. */
 static void suggest(const cedar *d, const char *typed) {
@@ -52,11 +38,12 @@ static void complete(const cedar *d, const char *beginning) {
 
 int main(int count, char **arguments) {
     cedar d = CEDAR_CLOSED;
-    FILE *file = count < 2 ? NULL : fopen(arguments[1], "r");
-    bool is_read = file != NULL && read_words(&d, file) == CEDAR_OK;
-    if (file != NULL) fclose(file);
-    if (!is_read) fprintf(stderr, "usage: complete WORDS BEGINNING..\n");
+    if (count < 2) {
+        fprintf(stderr, "usage: complete WORDS BEGINNING..\n");
+        return 2;
+    }
+    bool is_read = read_words(&d, arguments[1]);
     for (int i = 2; is_read && i < count; i++) complete(&d, arguments[i]);
     cedar_free(&d);
-    return is_read ? 0 : 2;
+    return is_read ? 0 : 1;
 }

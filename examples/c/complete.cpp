@@ -1,21 +1,10 @@
 // Completes the beginnings of words: complete WORDS BEGINNING.. prints the first ten words of a file that begin with each, with their
 // numbers, and a line `..` if there are more. If none does, it prints those that begin with something one edit away, behind a `~`. Each
-// line of the file is a word, a tab, and a number.
-#include "cedar.hpp"
+// line of the file is a word, a tab, and a number: if one isn't, it says which, and ends with status 1.
+#include "word_list.hpp"
 #include <exception>
-#include <fstream>
 #include <iostream>
 #include <string>
-
-static roskvidh::dictionary words_of(const std::string &path) {
-    roskvidh::dictionary words;
-    std::ifstream lines(path);
-    lines.exceptions(std::ios::badbit);
-    for (std::string word, number; std::getline(lines, word, '\t') && std::getline(lines, number);) {
-        words.update(word, std::stoi(number));
-    }
-    return words;
-}
 
 // A range costs what is gone through, however many words there are.
 static void complete(const roskvidh::dictionary &words, const std::string &beginning) {

@@ -1,23 +1,10 @@
 // Marks the words of a file in a text: highlight WORDS < TEXT prints the text with brackets around each, the longest at its place.
-// Each line of the file is a word, a tab, and a number.
-#include "cedar.hpp"
+// Each line of the file is a word, a tab, and a number: if one isn't, it says which, and ends with status 1.
+#include "word_list.hpp"
 #include <exception>
-#include <fstream>
 #include <iostream>
 #include <string>
 #include <string_view>
-
-static roskvidh::dictionary words_of(const std::string &path) {
-    roskvidh::dictionary words;
-    std::ifstream lines;
-    lines.exceptions(std::ios::badbit | std::ios::failbit);
-    lines.open(path);
-    lines.exceptions(std::ios::badbit);
-    for (std::string word, number; std::getline(lines, word, '\t') && std::getline(lines, number);) {
-        words.update(word, std::stoi(number));
-    }
-    return words;
-}
 
 static void highlight(const roskvidh::dictionary &words, std::string_view line) {
     words.segment(line, [line](const roskvidh::token &token) {
