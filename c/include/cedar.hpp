@@ -35,7 +35,7 @@
 //     clone, save, cheapest, cheapest_by            closed, memory
 //     erase_all, prefixes, predictions, entries,    memory
 //       entries_with_prefix, begin, cbegin, find,
-//       best
+//       best, ==
 //     entries_from, range, lower_bound,             CEDAR_NOT_ASCENDING if the dictionary isn't ordered; memory
 //       upper_bound, floor, ceiling, before, last,
 //       within, completions_within, reversed,
